@@ -12,12 +12,12 @@ use Rattle.line_lock.specs.Passes.{LockSeen}
 use Rattle.line_lock.specs.declared.view.Placed.{Placed}
 use Rattle.workers.specs.Fit.{IsPost, ArePosted}
 use Rattle.workers.specs.Grown.{made_by}
-use Rattle.workers.specs.Room.{room_of, room_of_posts, room_of_jobs, RoomAfter, RoomLeft}
+use Rattle.workers.specs.Room.{room_of, room_of_posts, room_of_jobs, RoomAfter, RoomAfterPart}
 use Rattle.workers.specs.Seen.{PostSeen, JobSeen}
 use Rattle.workers.specs.Tries.{Tries}
 use Rattle.workers.specs.Attempts.{attempt_of, StepsPost}
-use Rattle.workers.specs.declared.job.Left.{Left}
-use Rattle.workers.specs.declared.job.Left.TheVariants as lefts
+use Rattle.workers.specs.declared.job.PartEnd.{PartEnd}
+use Rattle.workers.specs.declared.job.PartEnd.TheVariants as part_ends
 use Rattle.workers.specs.declared.attempts.Attempt.{Attempt}
 use Rattle.workers.specs.declared.attempts.Attempt.TheVariants as attempts
 
@@ -147,47 +147,47 @@ room_as attempt old mid new same r = by_attempt attempt r
 
 -- ---- a worker's part of a shift
 
-pub room_left : (left : Left) (old now new : JobSeen) → new.posts ≡ now.posts → RoomLeft left old now → RoomLeft left old new
-room_left lefts.Idle old now new same r = let e = ap room_of_posts same in let a = r.0 in (omega (arith, e, a), ap made_by same ∙ r.1)
-room_left lefts.Busy old now new same r = let e = ap room_of_posts same in let m = ap made_by same in
+pub room_after_part : (end : PartEnd) (old now new : JobSeen) → new.posts ≡ now.posts → RoomAfterPart end old now → RoomAfterPart end old new
+room_after_part part_ends.Idle old now new same r = let e = ap room_of_posts same in let a = r.0 in (omega (arith, e, a), ap made_by same ∙ r.1)
+room_after_part part_ends.Busy old now new same r = let e = ap room_of_posts same in let m = ap made_by same in
     let a = r.0 in let b = r.1 in (omega (arith, e, a), omega (arith, m, b))
-room_left (lefts.Full line len) old now new same r = let e = ap room_of_posts same in let m = ap made_by same in
+room_after_part (part_ends.Full line len) old now new same r = let e = ap room_of_posts same in let m = ap made_by same in
     let a = r.0 in let b = r.1 in (omega (arith, e, a), omega (arith, m, b))
-room_left lefts.NoMemory old now new same r = let e = ap room_of_posts same in let m = ap made_by same in
+room_after_part part_ends.NoMemory old now new same r = let e = ap room_of_posts same in let m = ap made_by same in
     let a = r.0 in let b = r.1 in (omega (arith, e, a), omega (arith, m, b))
 
-pub no_more_left : (left : Left) (old new : JobSeen) → RoomLeft left old new → room_of_posts new.posts ≤ room_of_posts old.posts
-no_more_left lefts.Idle old new r = r.0
-no_more_left lefts.Busy old new r = let s = r.0 in omega (arith, s)
-no_more_left (lefts.Full line len) old new r = r.0
-no_more_left lefts.NoMemory old new r = r.0
+pub no_more_after_part : (end : PartEnd) (old new : JobSeen) → RoomAfterPart end old new → room_of_posts new.posts ≤ room_of_posts old.posts
+no_more_after_part part_ends.Idle old new r = r.0
+no_more_after_part part_ends.Busy old new r = let s = r.0 in omega (arith, s)
+no_more_after_part (part_ends.Full line len) old new r = r.0
+no_more_after_part part_ends.NoMemory old new r = r.0
 
 -- ---- a shift
 
 abbrev EachLeaves : List JobSeen → List JobSeen → Type 0
-EachLeaves old new = (k : ℕ) (d : JobSeen) → k < length old → RoomLeft (get_or new k d).left (get_or old k d) (get_or new k d)
+EachLeaves old new = (k : ℕ) (d : JobSeen) → k < length old → RoomAfterPart (get_or new k d).end (get_or old k d) (get_or new k d)
 
 pub all_no_more : (old new : List JobSeen) → length new ≡ length old → EachLeaves old new → room_of_jobs new ≤ room_of_jobs old
 all_no_more [] [] long each = omega arith
 all_no_more [] (y ∷ ys) long each = absurd (omega (arith, long))
 all_no_more (x ∷ xs) [] long each = absurd (omega (arith, long))
 all_no_more (x ∷ xs) (y ∷ ys) long each =
-    let first = no_more_left y.left x y (each 0 x (omega arith)) in
+    let first = no_more_after_part y.end x y (each 0 x (omega arith)) in
     let rest = all_no_more xs ys (omega (arith, long)) (λ k d less. each (suc k) d (omega (arith, less))) in
     omega (arith, first, rest)
 
 pub some_less : (old new : List JobSeen) (i : ℕ) (j : JobSeen) → length new ≡ length old → EachLeaves old new
-    → slice_get new i ≡ Some j → j.left ≡ lefts.Busy → room_of_jobs new < room_of_jobs old
+    → slice_get new i ≡ Some j → j.end ≡ part_ends.Busy → room_of_jobs new < room_of_jobs old
 some_less [] [] i j long each at is = cc
 some_less [] (y ∷ ys) i j long each at is = absurd (omega (arith, long))
 some_less (x ∷ xs) [] i j long each at is = cc
 some_less (x ∷ xs) (y ∷ ys) zero j long each at is =
     let first : room_of_posts y.posts < room_of_posts x.posts
-    = (subst (λ (l : Left). RoomLeft l x y) (ap (λ (k : JobSeen). k.left) (the_same y j at) ∙ is)
+    = (subst (λ (l : PartEnd). RoomAfterPart l x y) (ap (λ (k : JobSeen). k.end) (the_same y j at) ∙ is)
     (each 0 x (omega arith))).0 in
     let rest = all_no_more xs ys (omega (arith, long)) (λ k d less. each (suc k) d (omega (arith, less))) in
     omega (arith, first, rest)
 some_less (x ∷ xs) (y ∷ ys) (suc i) j long each at is =
-    let first = no_more_left y.left x y (each 0 x (omega arith)) in
+    let first = no_more_after_part y.end x y (each 0 x (omega arith)) in
     let rest = some_less xs ys i j (omega (arith, long)) (λ k d less. each (suc k) d (omega (arith, less))) at is in
     omega (arith, first, rest)

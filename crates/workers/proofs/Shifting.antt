@@ -15,23 +15,23 @@ use Rattle.irq_laws.proofs.Chosen.{the_same}
 use Rattle.board_play.specs.Lines.{defs_of}
 use Rattle.line_lock.specs.Passes.{LockSeen, PassSeen}
 use Rattle.workers.specs.Fit.{IsPost, ArePosted, IsPlaceOf, IsManned, IsJob, works_on, actors_on, workers_of, IsFirst, AreFirsts, Fit}
-use Rattle.workers.specs.Room.{RoomLeft, room_of_jobs}
+use Rattle.workers.specs.Room.{RoomAfterPart, room_of_jobs}
 use Rattle.workers.specs.Grown.{JobsGrow}
-use Rattle.workers.specs.Shifts.{IsAtRest, WorksOn, is_refused, ComesTo, AttemptsJob, LeftIsSo, WorksJob, KeepsJobs}
-use Rattle.workers.specs.Shifts.{IsSomeLeft, NoneFull, NoneRefused, MadeNone}
-use Rattle.workers.specs.Shifts.{EachLeftSo, worse, IsLowestFull, SumsUp, Ends}
+use Rattle.workers.specs.Shifts.{IsAtRest, WorksOn, is_refused, ComesTo, AttemptsJob, EndIsSo, WorksJob, KeepsJobs}
+use Rattle.workers.specs.Shifts.{IsSomeEnd, NoneFull, NoneRefused, MadeNone}
+use Rattle.workers.specs.Shifts.{EachEndedSo, worse, IsLowestFull, SumsUp, Ends}
 use Rattle.workers.specs.Seen.{PostSeen, JobSeen, JobsSeen}
 use Rattle.workers.specs.Tries.{IsIdle, rests_after}
 use Rattle.workers.specs.Attempts.{StepsPost, KeepsPosts, RefusedIsSo, AttemptsCpu, IsDriven, AttemptsDriver}
-use Rattle.workers.specs.declared.job.Left.{Left}
-use Rattle.workers.specs.declared.job.Left.TheVariants as lefts
+use Rattle.workers.specs.declared.job.PartEnd.{PartEnd}
+use Rattle.workers.specs.declared.job.PartEnd.TheVariants as part_ends
 use Rattle.workers.specs.declared.shifts.ShiftsEnd.TheVariants as ends
 use Rattle.workers.specs.declared.attempts.Attempt.{Attempt}
 use Rattle.workers.specs.declared.attempts.Attempt.TheVariants as attempts
 use Rattle.workers.proofs.Flowing.{keeps_posts, post_now, refused_is_so, not_yet_is}
 use Rattle.workers.proofs.Growing.{posts_self, posts_more, jobs_grew}
 use Rattle.workers.proofs.Lists.{within, there_or, two}
-use Rattle.workers.proofs.Rooms.{room_after, room_left, all_no_more, some_less}
+use Rattle.workers.proofs.Rooms.{room_after, room_after_part, all_no_more, some_less}
 
 comes : (wanted : LineDef → List Entry → Actor → Type 0) (board : BoardSeen) (j : JobSeen) (attempt : Attempt)
     → (attempt ≡ attempts.NotYet → IsAtRest board j j.actor) → RefusedIsSo wanted j attempt → ComesTo wanted board j attempt
@@ -148,16 +148,16 @@ works_more board lines a b c v w =
       grew = posts_more a.posts b.posts c.posts v.grew w.grew;
     }
 
-module _ (board : BoardSeen) (lines : List LockSeen) (now : JobSeen) (left : Left) where
-  manned_left : (a : Actor) → IsManned board lines now a → IsManned board lines (record now { left = left }) a
-  manned_left (actors.Thread line dev) m = m
-  manned_left (actors.Cpu c) m = m
-  manned_left (actors.Driver r) m = m
+module _ (board : BoardSeen) (lines : List LockSeen) (now : JobSeen) (end : PartEnd) where
+  manned_ended : (a : Actor) → IsManned board lines now a → IsManned board lines (record now { end = end }) a
+  manned_ended (actors.Thread line dev) m = m
+  manned_ended (actors.Cpu c) m = m
+  manned_ended (actors.Driver r) m = m
 
-  rest_left : (a : Actor) → IsAtRest board now a → IsAtRest board (record now { left = left }) a
-  rest_left (actors.Thread line dev) r = r
-  rest_left (actors.Cpu c) r = r
-  rest_left (actors.Driver r) rest = elim rest [
+  rest_ended : (a : Actor) → IsAtRest board now a → IsAtRest board (record now { end = end }) a
+  rest_ended (actors.Thread line dev) r = r
+  rest_ended (actors.Cpu c) r = r
+  rest_ended (actors.Driver r) rest = elim rest [
     | inl past ↦ inl past
     | inr w ↦ inr (record {
       call = w.call;
@@ -172,32 +172,32 @@ module _ (board : BoardSeen) (lines : List LockSeen) (now : JobSeen) (left : Lef
     })
   ]
 
-  left_so : (wanted : LineDef → List Entry → Actor → Type 0) (l : Left) → LeftIsSo wanted board now l
-      → LeftIsSo wanted board (record now { left = left }) l
-  left_so wanted lefts.Idle is = rest_left now.actor is
-  left_so wanted lefts.Busy is = tt
-  left_so wanted (lefts.Full line len) is = record { place = is.place; post = is.post; at = is.at; number = is.number; is = is.is; log = is.log }
-  left_so wanted lefts.NoMemory is = record { place = is.place; post = is.post; at = is.at; is = is.is }
+  end_so : (wanted : LineDef → List Entry → Actor → Type 0) (l : PartEnd) → EndIsSo wanted board now l
+      → EndIsSo wanted board (record now { end = end }) l
+  end_so wanted part_ends.Idle is = rest_ended now.actor is
+  end_so wanted part_ends.Busy is = tt
+  end_so wanted (part_ends.Full line len) is = record { place = is.place; post = is.post; at = is.at; number = is.number; is = is.is; log = is.log }
+  end_so wanted part_ends.NoMemory is = record { place = is.place; post = is.post; at = is.at; is = is.is }
 
-  pub job_left : IsJob board lines now → IsJob board lines (record now { left = left })
-  job_left j = record { posted = j.posted; manned = manned_left now.actor j.manned }
+  pub job_ended : IsJob board lines now → IsJob board lines (record now { end = end })
+  job_ended j = record { posted = j.posted; manned = manned_ended now.actor j.manned }
 
-  pub left_at : (wanted : LineDef → List Entry → Actor → Type 0) (old new : JobSeen) → WorksOn board lines old now
-      → LeftIsSo wanted board now left → RoomLeft left old now → new ≡ record now { left = left }
+  pub ended_at : (wanted : LineDef → List Entry → Actor → Type 0) (old new : JobSeen) → WorksOn board lines old now
+      → EndIsSo wanted board now end → RoomAfterPart end old now → new ≡ record now { end = end }
       → WorksJob wanted board lines old new
-  left_at wanted old new w is room same =
+  ended_at wanted old new w is room same =
       subst (λ (j : JobSeen). WorksJob wanted board lines old j) (sym same)
       (record {
         works = record {
           actor = w.actor;
           first = w.first;
           as_many = w.as_many;
-          job = job_left w.job;
+          job = job_ended w.job;
           grew = w.grew;
         };
-        left
-            = left_so wanted left is;
-        room = room_left left old now (record now { left = left }) refl room;
+        end
+            = end_so wanted end is;
+        room = room_after_part end old now (record now { end = end }) refl room;
       })
 
 -- ---- all jobs
@@ -238,12 +238,12 @@ module _ (wanted : LineDef → List Entry → Actor → Type 0) (board : BoardSe
       by_test false deeper = deeper
 
   each_at : (old new : List JobSeen) → length new ≡ length old → EachWorks old new → (i : ℕ) (j : JobSeen)
-      → slice_get new i ≡ Some j → IsJob board lines j × LeftIsSo wanted board j j.left
+      → slice_get new i ≡ Some j → IsJob board lines j × EndIsSo wanted board j j.end
   each_at old new long each i j at =
       let less : i < length old = let w = within new i j at in omega (arith, w, long) in
       let e = each i j less in
       let is : get_or new i j ≡ j = the_same (get_or new i j) j (sym (there_or new i j (within new i j at)) ∙ at) in
-      (subst (λ (x : JobSeen). IsJob board lines x) is e.works.job, subst (λ (x : JobSeen). LeftIsSo wanted board x x.left) is e.left)
+      (subst (λ (x : JobSeen). IsJob board lines x) is e.works.job, subst (λ (x : JobSeen). EndIsSo wanted board x x.end) is e.end)
 
 -- the jobs fit after a shift, as they did
 pub still_fit : (wanted : LineDef → List Entry → Actor → Type 0) (lines : List LockSeen) (old new : JobsSeen) → Fit lines old → new.board ≡ old.board
@@ -265,9 +265,10 @@ still_fit wanted lines old new fit board firsts long each =
           });
     }
 
-pub left_after : (wanted : LineDef → List Entry → Actor → Type 0) (lines : List LockSeen) (board : BoardSeen) (old new : List JobSeen) → length new ≡ length old
-    → KeepsJobs wanted board lines old new → (i : ℕ) (j : JobSeen) → slice_get new i ≡ Some j → LeftIsSo wanted board j j.left
-left_after wanted lines board old new long each i j at = (each_at wanted board lines old new long each i j at).1
+pub ended_after : (wanted : LineDef → List Entry → Actor → Type 0) (lines : List LockSeen) (board : BoardSeen)
+    (old new : List JobSeen) → length new ≡ length old
+    → KeepsJobs wanted board lines old new → (i : ℕ) (j : JobSeen) → slice_get new i ≡ Some j → EndIsSo wanted board j j.end
+ended_after wanted lines board old new long each i j at = (each_at wanted board lines old new long each i j at).1
 
 -- all of them may be worked on
 pub all_jobs : (lines : List LockSeen) (s : JobsSeen) → Fit lines s → All (IsJob s.board lines) s.jobs
@@ -285,124 +286,128 @@ module _ (jobs : List JobSeen) (n : ℕ) (job : JobSeen) (at : slice_get jobs n 
   ]
 
   -- none found a full line, and this job neither
-  none_more : NoneFull jobs n → ((other : LineNo) (len : ℕ) → job.left ≡ lefts.Full other len → ⊥) → NoneFull jobs (n + 1)
-  none_more old here k j other len less at_j = more {P = λ x. (other : LineNo) (len : ℕ) → x.left ≡ lefts.Full other len
+  none_more : NoneFull jobs n → ((other : LineNo) (len : ℕ) → job.end ≡ part_ends.Full other len → ⊥) → NoneFull jobs (n + 1)
+  none_more old here k j other len less at_j = more {P = λ x. (other : LineNo) (len : ℕ) → x.end ≡ part_ends.Full other len
       → ⊥} (λ k j less at other len. old k j other len less at) here k j less at_j other len
 
-  idle_none : ((k : ℕ) (j : JobSeen) → k < n → slice_get jobs k ≡ Some j → j.left ≡ lefts.Idle) → NoneFull jobs n
-  idle_none old k j other len less at_j is = let h : lefts.Idle ≡ lefts.Full other len = sym (old k j less at_j) ∙ is in cc
+  idle_none : ((k : ℕ) (j : JobSeen) → k < n → slice_get jobs k ≡ Some j → j.end ≡ part_ends.Idle) → NoneFull jobs n
+  idle_none old k j other len less at_j is = let h : part_ends.Idle ≡ part_ends.Full other len = sym (old k j less at_j) ∙ is in cc
 
-  first_full : (b : LineNo) (m : ℕ) → job.left ≡ lefts.Full b m → NoneFull jobs n → IsLowestFull jobs (n + 1) b m
+  first_full : (b : LineNo) (m : ℕ) → job.end ≡ part_ends.Full b m → NoneFull jobs n → IsLowestFull jobs (n + 1) b m
   first_full b m is none =
       record {
         place = n;
         job = job;
         at = at;
-        left = is;
-        lowest = λ k j other len less at_j. more {P = λ x. (other : LineNo) (len : ℕ) → x.left ≡ lefts.Full other len
+        end = is;
+        lowest = λ k j other len less at_j. more {P = λ x. (other : LineNo) (len : ℕ) → x.end ≡ part_ends.Full other len
             → b.0 ≤ other.0} (λ k j less at other len h. absurd (none k j other len less at h))
-            (λ other len h. let same : lefts.Full b m ≡ lefts.Full other len = sym is ∙ h in le_same b other m len same) k j less at_j other len;
+            (λ other len h. let same : part_ends.Full b m ≡ part_ends.Full other len = sym is ∙ h in le_same b other m len same) k j less at_j other len;
       }
     where
-      le_same : (a b : LineNo) (m n : ℕ) → lefts.Full a m ≡ lefts.Full b n → a.0 ≤ b.0
+      le_same : (a b : LineNo) (m n : ℕ) → part_ends.Full a m ≡ part_ends.Full b n → a.0 ≤ b.0
       le_same a b m n h = let e : a ≡ b = cc in let f = ap (λ (l : LineNo). l.0) e in omega (arith, f)
 
   full_on : (a : LineNo) (m : ℕ) → IsLowestFull jobs n a m
-      → ((other : LineNo) (len : ℕ) → job.left ≡ lefts.Full other len → a.0 ≤ other.0) → IsLowestFull jobs (n + 1) a m
+      → ((other : LineNo) (len : ℕ) → job.end ≡ part_ends.Full other len → a.0 ≤ other.0) → IsLowestFull jobs (n + 1) a m
   full_on a m f here =
       record {
         place = f.place;
         job = f.job;
         at = f.at;
-        left = f.left;
-        lowest = λ k j other len less at_j. more {P = λ x. (other : LineNo) (len : ℕ) → x.left ≡ lefts.Full other len
+        end = f.end;
+        lowest = λ k j other len less at_j. more {P = λ x. (other : LineNo) (len : ℕ) → x.end ≡ part_ends.Full other len
             → a.0 ≤ other.0} (λ k j less at other len. f.lowest k j other len less at) here k j less at_j other len;
       }
 
-  lower_full : (a b : LineNo) (m l : ℕ) → b.0 < a.0 → job.left ≡ lefts.Full b l → IsLowestFull jobs n a m → IsLowestFull jobs (n + 1) b l
+  lower_full : (a b : LineNo) (m l : ℕ) → b.0 < a.0 → job.end ≡ part_ends.Full b l → IsLowestFull jobs n a m → IsLowestFull jobs (n + 1) b l
   lower_full a b m l less is f =
       record {
         place = n;
         job = job;
         at = at;
-        left = is;
-        lowest = λ k j other len before at_j. more {P = λ x. (other : LineNo) (len : ℕ) → x.left ≡ lefts.Full other len → b.0 ≤ other.0}
+        end = is;
+        lowest = λ k j other len before at_j. more {P = λ x. (other : LineNo) (len : ℕ) → x.end ≡ part_ends.Full other len → b.0 ≤ other.0}
             (λ k j before at other len h. let g = f.lowest k j other len before at h in omega (arith, g, less))
-            (λ other len h. let same : lefts.Full b l ≡ lefts.Full other len = sym is ∙ h in le_same b other l len same) k j before at_j other len;
+            (λ other len h. let same : part_ends.Full b l ≡ part_ends.Full other len = sym is ∙ h in le_same b other l len same) k j before at_j other len;
       }
     where
-      le_same : (a b : LineNo) (m n : ℕ) → lefts.Full a m ≡ lefts.Full b n → a.0 ≤ b.0
+      le_same : (a b : LineNo) (m n : ℕ) → part_ends.Full a m ≡ part_ends.Full b n → a.0 ≤ b.0
       le_same a b m n h = let e : a ≡ b = cc in let f = ap (λ (l : LineNo). l.0) e in omega (arith, f)
 
-  no_full : (l : Left) → job.left ≡ l → ((other : LineNo) (len : ℕ) → l ≡ lefts.Full other len → ⊥)
-      → (other : LineNo) (len : ℕ) → job.left ≡ lefts.Full other len → ⊥
+  no_full : (l : PartEnd) → job.end ≡ l → ((other : LineNo) (len : ℕ) → l ≡ part_ends.Full other len → ⊥)
+      → (other : LineNo) (len : ℕ) → job.end ≡ part_ends.Full other len → ⊥
   no_full l is none other len h = none other len (sym is ∙ h)
 
   -- nobody was refused
-  not_refused : NoneRefused jobs n → is_refused job.left ≡ false → NoneRefused jobs (n + 1)
-  not_refused old here = more {P = λ x. is_refused x.left ≡ false} old here
+  not_refused : NoneRefused jobs n → is_refused job.end ≡ false → NoneRefused jobs (n + 1)
+  not_refused old here = more {P = λ x. is_refused x.end ≡ false} old here
 
-  idle_not_refused : ((k : ℕ) (j : JobSeen) → k < n → slice_get jobs k ≡ Some j → j.left ≡ lefts.Idle) → NoneRefused jobs n
+  idle_not_refused : ((k : ℕ) (j : JobSeen) → k < n → slice_get jobs k ≡ Some j → j.end ≡ part_ends.Idle) → NoneRefused jobs n
   idle_not_refused old k j less at_j = ap is_refused (old k j less at_j)
 
   refused_not_full : NoneRefused jobs n → NoneFull jobs n
   refused_not_full old k j other len less at_j is = let h : true ≡ false = sym (ap is_refused is) ∙ old k j less at_j in cc
 
-  some_here : (l : Left) → job.left ≡ l → IsSomeLeft jobs (n + 1) l
+  some_here : (l : PartEnd) → job.end ≡ l → IsSomeEnd jobs (n + 1) l
   some_here l is = record { place = n; job = job; below = omega arith; at = at; is = is }
 
-  some_before : (l : Left) → IsSomeLeft jobs n l → IsSomeLeft jobs (n + 1) l
+  some_before : (l : PartEnd) → IsSomeEnd jobs n l → IsSomeEnd jobs (n + 1) l
   some_before l s = record { place = s.place; job = s.job; below = let b = s.below in omega (arith, b); at = s.at; is = s.is }
 
-  pub sums_more : (all l : Left) → job.left ≡ l → SumsUp jobs n all → SumsUp jobs (n + 1) (worse all l)
-  sums_more (lefts.Full a m) (lefts.Full b k) is f = by_test (nat_lt b.0 a.0) refl
+  pub sums_more : (all l : PartEnd) → job.end ≡ l → SumsUp jobs n all → SumsUp jobs (n + 1) (worse all l)
+  sums_more (part_ends.Full a m) (part_ends.Full b k) is f = by_test (nat_lt b.0 a.0) refl
     where
-      by_test : (t : Bool) → nat_lt b.0 a.0 ≡ t → SumsUp jobs (n + 1) (cond t (lefts.Full b k) (lefts.Full a m))
+      by_test : (t : Bool) → nat_lt b.0 a.0 ≡ t → SumsUp jobs (n + 1) (cond t (part_ends.Full b k) (part_ends.Full a m))
       by_test true less = lower_full a b m k (ltb-true b.0 a.0 less) is f
-      by_test false not = full_on a m f (λ other len h. let same : lefts.Full b k ≡ lefts.Full other len = sym is ∙ h in
+      by_test false not = full_on a m f (λ other len h. let same : part_ends.Full b k ≡ part_ends.Full other len = sym is ∙ h in
           le_line other len same (ltb-false b.0 a.0 not))
         where
-          le_line : (other : LineNo) (len : ℕ) → lefts.Full b k ≡ lefts.Full other len → a.0 ≤ b.0 → a.0 ≤ other.0
+          le_line : (other : LineNo) (len : ℕ) → part_ends.Full b k ≡ part_ends.Full other len → a.0 ≤ b.0 → a.0 ≤ other.0
           le_line other len h le = let e : b ≡ other = cc in let f = ap (λ (l : LineNo). l.0) e in omega (arith, f, le)
-  sums_more (lefts.Full a m) lefts.Idle is f = full_on a m f (λ other len h. absurd (no_full lefts.Idle is (λ o k g. cc) other len h))
-  sums_more (lefts.Full a m) lefts.Busy is f = full_on a m f (λ other len h. absurd (no_full lefts.Busy is (λ o k g. cc) other len h))
-  sums_more (lefts.Full a m) lefts.NoMemory is f = full_on a m f (λ other len h. absurd (no_full lefts.NoMemory is (λ o k g. cc) other len h))
-  sums_more lefts.Idle (lefts.Full b k) is f = first_full b k is (idle_none f)
-  sums_more lefts.Busy (lefts.Full b k) is f = first_full b k is (refused_not_full f.1)
-  sums_more lefts.NoMemory (lefts.Full b k) is f = first_full b k is f.1
-  sums_more lefts.Idle lefts.Idle is f = more {P = λ x. x.left ≡ lefts.Idle} f is
-  sums_more lefts.Idle lefts.Busy is f = (some_here lefts.Busy is, not_refused (idle_not_refused f) (ap is_refused is))
-  sums_more lefts.Idle lefts.NoMemory is f = (some_here lefts.NoMemory is, none_more (idle_none f) (no_full lefts.NoMemory is (λ o k g. cc)))
-  sums_more lefts.Busy lefts.Idle is f = (some_before lefts.Busy f.0, not_refused f.1 (ap is_refused is))
-  sums_more lefts.Busy lefts.Busy is f = (some_before lefts.Busy f.0, not_refused f.1 (ap is_refused is))
-  sums_more lefts.Busy lefts.NoMemory is f = (some_here lefts.NoMemory is, none_more (refused_not_full f.1) (no_full lefts.NoMemory is (λ o k g. cc)))
-  sums_more lefts.NoMemory lefts.Idle is f = (some_before lefts.NoMemory f.0, none_more f.1 (no_full lefts.Idle is (λ o k g. cc)))
-  sums_more lefts.NoMemory lefts.Busy is f = (some_before lefts.NoMemory f.0, none_more f.1 (no_full lefts.Busy is (λ o k g. cc)))
-  sums_more lefts.NoMemory lefts.NoMemory is f = (some_before lefts.NoMemory f.0, none_more f.1 (no_full lefts.NoMemory is (λ o k g. cc)))
+  sums_more (part_ends.Full a m) part_ends.Idle is f = full_on a m f (λ other len h. absurd (no_full part_ends.Idle is (λ o k g. cc) other len h))
+  sums_more (part_ends.Full a m) part_ends.Busy is f = full_on a m f (λ other len h. absurd (no_full part_ends.Busy is (λ o k g. cc) other len h))
+  sums_more (part_ends.Full a m) part_ends.NoMemory is f = full_on a m f (λ other len h. absurd (no_full part_ends.NoMemory is (λ o k g. cc) other len h))
+  sums_more part_ends.Idle (part_ends.Full b k) is f = first_full b k is (idle_none f)
+  sums_more part_ends.Busy (part_ends.Full b k) is f = first_full b k is (refused_not_full f.1)
+  sums_more part_ends.NoMemory (part_ends.Full b k) is f = first_full b k is f.1
+  sums_more part_ends.Idle part_ends.Idle is f = more {P = λ x. x.end ≡ part_ends.Idle} f is
+  sums_more part_ends.Idle part_ends.Busy is f = (some_here part_ends.Busy is, not_refused (idle_not_refused f) (ap is_refused is))
+  sums_more part_ends.Idle part_ends.NoMemory is f = (some_here part_ends.NoMemory is, none_more (idle_none f) (no_full part_ends.NoMemory is (λ o k g. cc)))
+  sums_more part_ends.Busy part_ends.Idle is f = (some_before part_ends.Busy f.0, not_refused f.1 (ap is_refused is))
+  sums_more part_ends.Busy part_ends.Busy is f = (some_before part_ends.Busy f.0, not_refused f.1 (ap is_refused is))
+  sums_more part_ends.Busy part_ends.NoMemory is f = (
+    some_here part_ends.NoMemory is,
+    none_more (refused_not_full f.1)
+        (no_full part_ends.NoMemory is (λ o k g. cc)),
+  )
+  sums_more part_ends.NoMemory part_ends.Idle is f = (some_before part_ends.NoMemory f.0, none_more f.1 (no_full part_ends.Idle is (λ o k g. cc)))
+  sums_more part_ends.NoMemory part_ends.Busy is f = (some_before part_ends.NoMemory f.0, none_more f.1 (no_full part_ends.Busy is (λ o k g. cc)))
+  sums_more part_ends.NoMemory part_ends.NoMemory is f = (some_before part_ends.NoMemory f.0, none_more f.1 (no_full part_ends.NoMemory is (λ o k g. cc)))
 
 -- ---- how shifts end
 
-module _ (wanted : LineDef → List Entry → Actor → Type 0) (s : JobsSeen) (left : EachLeftSo wanted s) where
-  pub quiet : SumsUp s.jobs (length s.jobs) lefts.Idle → Ends wanted s ends.Quiet
-  quiet all i j at = subst (λ (l : Left). LeftIsSo wanted s.board j l) (all i j (within s.jobs i j at) at) (left i j at)
+module _ (wanted : LineDef → List Entry → Actor → Type 0) (s : JobsSeen) (end : EachEndedSo wanted s) where
+  pub quiet : SumsUp s.jobs (length s.jobs) part_ends.Idle → Ends wanted s ends.Quiet
+  quiet all i j at = subst (λ (l : PartEnd). EndIsSo wanted s.board j l) (all i j (within s.jobs i j at) at) (end i j at)
 
-  pub full_for : (line : LineNo) (len : ℕ) → SumsUp s.jobs (length s.jobs) (lefts.Full line len) → Ends wanted s (ends.Full line len)
+  pub full_for : (line : LineNo) (len : ℕ) → SumsUp s.jobs (length s.jobs) (part_ends.Full line len) → Ends wanted s (ends.Full line len)
   full_for line len f =
       record {
         place = f.place;
         job = f.job;
         at = f.at;
-        is = subst (λ (l : Left). LeftIsSo wanted s.board f.job l) f.left (left f.place f.job f.at);
+        is = subst (λ (l : PartEnd). EndIsSo wanted s.board f.job l) f.end (end f.place f.job f.at);
         lowest = λ k j other m at is. f.lowest k j other m (within s.jobs k j at) at is;
       }
 
-  pub wanted_for : SumsUp s.jobs (length s.jobs) lefts.NoMemory → Ends wanted s ends.NoMemory
+  pub wanted_for : SumsUp s.jobs (length s.jobs) part_ends.NoMemory → Ends wanted s ends.NoMemory
   wanted_for f =
       record {
         place = f.0.place;
         job = f.0.job;
         at = f.0.at;
-        is = subst (λ (l : Left). LeftIsSo wanted s.board f.0.job l) f.0.is (left f.0.place f.0.job f.0.at);
+        is = subst (λ (l : PartEnd). EndIsSo wanted s.board f.0.job l) f.0.is (end f.0.place f.0.job f.0.at);
         none_full = f.1;
       }
 
@@ -432,24 +437,24 @@ module _ (wanted : LineDef → List Entry → Actor → Type 0) (lines : List Lo
     shift_fit = still_fit wanted lines s (record { board = board; jobs = after; firsts = firsts }) fit
         (ap (λ (x : JobsSeen). x.board) is) (ap (λ (x : JobsSeen). x.firsts) is) long_s keeps_s
 
-    pub shift_left : EachLeftSo wanted (record { board = board; jobs = after; firsts = firsts })
-    shift_left i j at = subst (λ (b : BoardSeen). LeftIsSo wanted b j j.left) (ap (λ (x : JobsSeen). x.board) (sym is))
-        (left_after wanted lines s.board s.jobs after long_s keeps_s i j at)
+    pub shift_ended : EachEndedSo wanted (record { board = board; jobs = after; firsts = firsts })
+    shift_ended i j at = subst (λ (b : BoardSeen). EndIsSo wanted b j j.end) (ap (λ (x : JobsSeen). x.board) (sym is))
+        (ended_after wanted lines s.board s.jobs after long_s keeps_s i j at)
 
     pub shift_room : room_of_jobs after ≤ room_of_jobs s.jobs
     shift_room = all_no_more s.jobs after long_s (λ k d less. (keeps_s k d less).room)
 
-    pub shift_busy : SumsUp after (length after) lefts.Busy → room_of_jobs after < room_of_jobs s.jobs
+    pub shift_busy : SumsUp after (length after) part_ends.Busy → room_of_jobs after < room_of_jobs s.jobs
     shift_busy f = some_less s.jobs after f.0.place f.0.job long_s (λ k d less. (keeps_s k d less).room) f.0.at f.0.is
 
     pub shift_grew : JobsGrow s.jobs after
     shift_grew = jobs_grew s.jobs after long_s (λ k d less. let v = (keeps_s k d less).works in
         record { actor = v.actor; first = v.first; as_many = v.as_many; posts = v.grew })
 
-    pub shift_idle : SumsUp after (length after) lefts.Idle → MadeNone s.jobs after
+    pub shift_idle : SumsUp after (length after) part_ends.Idle → MadeNone s.jobs after
     shift_idle all k d less =
         let here : k < length after = omega (arith, less, long_s) in
-        (subst (λ (l : Left). RoomLeft l (get_or s.jobs k d) (get_or after k d))
+        (subst (λ (l : PartEnd). RoomAfterPart l (get_or s.jobs k d) (get_or after k d))
         (all k (get_or after k d) here (there_or after k d here)) (keeps_s k d less).room).1
 
 pub whole_again : {A : Type 0} (n : ℕ) (xs ys : List A) → n ≡ length xs → take n (xs ++ drop (length xs) ys) ≡ xs

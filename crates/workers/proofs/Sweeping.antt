@@ -7,65 +7,65 @@ use Rattle.irq_base.specs.declared.lines.LineDef.{LineDef}
 use Rattle.board_def.specs.Seen.{BoardSeen}
 use Rattle.line_lock.specs.Passes.{LockSeen}
 use Rattle.workers.specs.Fit.{IsJob}
-use Rattle.workers.specs.Room.{RoomLeft, room_of_posts}
+use Rattle.workers.specs.Room.{RoomAfterPart, room_of_posts}
 use Rattle.workers.specs.Grown.{made_by}
-use Rattle.workers.specs.Shifts.{WorksOn, LeftIsSo, is_refused, with_earlier, GoesOn, GoOnJobs, KeepsJobs}
+use Rattle.workers.specs.Shifts.{WorksOn, EndIsSo, is_refused, with_earlier, GoesOn, GoOnJobs, KeepsJobs}
 use Rattle.workers.specs.Seen.{JobSeen}
-use Rattle.workers.specs.declared.job.Left.{Left}
-use Rattle.workers.specs.declared.job.Left.TheVariants as lefts
+use Rattle.workers.specs.declared.job.PartEnd.{PartEnd}
+use Rattle.workers.specs.declared.job.PartEnd.TheVariants as part_ends
 use Rattle.workers.proofs.Lists.{two}
-use Rattle.workers.proofs.Shifting.{works_first, works_more, job_left, left_at}
+use Rattle.workers.proofs.Shifting.{works_first, works_more, job_ended, ended_at}
 
 -- ---- one job
 
 -- what is left to do goes on from here
-further : (start old now : JobSeen) (left : Left) → room_of_posts old.posts ≤ room_of_posts start.posts
-    → made_by start.posts ≡ made_by old.posts → RoomLeft left old now → RoomLeft left start now
-further start old now lefts.Idle a m r = let s = r.0 in (omega (arith, a, s), r.1 ∙ sym m)
-further start old now lefts.Busy a m r = let s = r.0 in let t = r.1 in (omega (arith, a, s), omega (arith, m, t))
-further start old now (lefts.Full line len) a m r = let s = r.0 in let t = r.1 in (omega (arith, a, s), omega (arith, m, t))
-further start old now lefts.NoMemory a m r = let s = r.0 in let t = r.1 in (omega (arith, a, s), omega (arith, m, t))
+further : (start old now : JobSeen) (end : PartEnd) → room_of_posts old.posts ≤ room_of_posts start.posts
+    → made_by start.posts ≡ made_by old.posts → RoomAfterPart end old now → RoomAfterPart end start now
+further start old now part_ends.Idle a m r = let s = r.0 in (omega (arith, a, s), r.1 ∙ sym m)
+further start old now part_ends.Busy a m r = let s = r.0 in let t = r.1 in (omega (arith, a, s), omega (arith, m, t))
+further start old now (part_ends.Full line len) a m r = let s = r.0 in let t = r.1 in (omega (arith, a, s), omega (arith, m, t))
+further start old now part_ends.NoMemory a m r = let s = r.0 in let t = r.1 in (omega (arith, a, s), omega (arith, m, t))
 
 -- the room that is left since the shift's start
-since_start : (start old now : JobSeen) (before left : Left) → is_refused before ≡ false → RoomLeft before start old
-    → RoomLeft left old now → RoomLeft (with_earlier before left) start now
-since_start start old now lefts.Busy lefts.Idle not a b = let c = a.0 in let d = a.1 in let s = b.0 in let t = b.1 in
+since_start : (start old now : JobSeen) (before end : PartEnd) → is_refused before ≡ false → RoomAfterPart before start old
+    → RoomAfterPart end old now → RoomAfterPart (with_earlier before end) start now
+since_start start old now part_ends.Busy part_ends.Idle not a b = let c = a.0 in let d = a.1 in let s = b.0 in let t = b.1 in
     (omega (arith, c, s), omega (arith, d, t))
-since_start start old now lefts.Busy lefts.Busy not a b = let c = a.0 in let d = a.1 in let s = b.0 in let t = b.1 in
+since_start start old now part_ends.Busy part_ends.Busy not a b = let c = a.0 in let d = a.1 in let s = b.0 in let t = b.1 in
     (omega (arith, c, s), omega (arith, d, t))
-since_start start old now lefts.Busy (lefts.Full line len) not a b = let c = a.0 in let d = a.1 in let s = b.0 in let t = b.1 in
+since_start start old now part_ends.Busy (part_ends.Full line len) not a b = let c = a.0 in let d = a.1 in let s = b.0 in let t = b.1 in
     (omega (arith, c, s), omega (arith, d, t))
-since_start start old now lefts.Busy lefts.NoMemory not a b = let c = a.0 in let d = a.1 in let s = b.0 in let t = b.1 in
+since_start start old now part_ends.Busy part_ends.NoMemory not a b = let c = a.0 in let d = a.1 in let s = b.0 in let t = b.1 in
     (omega (arith, c, s), omega (arith, d, t))
-since_start start old now lefts.Idle left not a b = further start old now left a.0 (sym a.1) b
-since_start start old now (lefts.Full line len) left not a b = cc
-since_start start old now lefts.NoMemory left not a b = cc
+since_start start old now part_ends.Idle end not a b = further start old now end a.0 (sym a.1) b
+since_start start old now (part_ends.Full line len) end not a b = cc
+since_start start old now part_ends.NoMemory end not a b = cc
 
 module _ (wanted : LineDef → List Entry → Actor → Type 0) (board : BoardSeen) (lines : List LockSeen) where
-  so : (now : JobSeen) (before left : Left) → LeftIsSo wanted board now left → LeftIsSo wanted board now (with_earlier before left)
-  so now lefts.Busy lefts.Idle is = tt
-  so now lefts.Busy lefts.Busy is = is
-  so now lefts.Busy (lefts.Full line len) is = is
-  so now lefts.Busy lefts.NoMemory is = is
-  so now lefts.Idle left is = is
-  so now (lefts.Full line len) left is = is
-  so now lefts.NoMemory left is = is
+  so : (now : JobSeen) (before end : PartEnd) → EndIsSo wanted board now end → EndIsSo wanted board now (with_earlier before end)
+  so now part_ends.Busy part_ends.Idle is = tt
+  so now part_ends.Busy part_ends.Busy is = is
+  so now part_ends.Busy (part_ends.Full line len) is = is
+  so now part_ends.Busy part_ends.NoMemory is = is
+  so now part_ends.Idle end is = is
+  so now (part_ends.Full line len) end is = is
+  so now part_ends.NoMemory end is = is
 
-  pub goes_on : (old now new : JobSeen) (left : Left) → is_refused old.left ≡ false → WorksOn board lines old now → LeftIsSo wanted board now left
-      → RoomLeft left old now → new ≡ record now { left = with_earlier old.left left } → GoesOn wanted board lines old new
-  goes_on old now new left not w is room same =
+  pub goes_on : (old now new : JobSeen) (end : PartEnd) → is_refused old.end ≡ false → WorksOn board lines old now → EndIsSo wanted board now end
+      → RoomAfterPart end old now → new ≡ record now { end = with_earlier old.end end } → GoesOn wanted board lines old new
+  goes_on old now new end not w is room same =
       record {
         works = subst (WorksOn board lines old) (sym same)
             (record {
               actor = w.actor;
               first = w.first;
               as_many = w.as_many;
-              job = job_left board lines now (with_earlier old.left left) w.job;
+              job = job_ended board lines now (with_earlier old.end end) w.job;
               grew = w.grew;
             });
-        since = λ start before. left_at board lines now (with_earlier old.left left) wanted start new
-            (works_more board lines start old now before.works w) (so now old.left left is)
-            (since_start start old now old.left left not before.room room) same;
+        since = λ start before. ended_at board lines now (with_earlier old.end end) wanted start new
+            (works_more board lines start old now before.works w) (so now old.end end is)
+            (since_start start old now old.end end not before.room room) same;
       }
 
   pub goes_first : (j : JobSeen) → IsJob board lines j → GoesOn wanted board lines j j
@@ -112,4 +112,4 @@ swept R xs ys k x y less is before here = (
 -- what is required of the job at k
 pub job_at : (P : JobSeen → Type 0) (xs ys : List JobSeen) (k : ℕ) (x : JobSeen) → k < length ys → length ys ≡ length xs
     → x ≡ get_or ys k x → ((j : ℕ) (d : JobSeen) → k ≤ j → get_or ys j d ≡ get_or xs j d) → All P xs → P x
-job_at P xs ys k x less long is left all = subst P (sym (is ∙ left k x (omega arith))) (all k x (omega (arith, less, long)))
+job_at P xs ys k x less long is end all = subst P (sym (is ∙ end k x (omega arith))) (all k x (omega (arith, less, long)))

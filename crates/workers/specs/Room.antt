@@ -2,8 +2,8 @@
 use Rattle.std.specs.Prelude.{◌≡◌, ℕ, ◌+◌, ◌-◌, ◌<◌, ◌≤◌, List, [], ◌∷◌, length}
 use Rattle.workers.specs.Grown.{made_by}
 use Rattle.workers.specs.Seen.{PostSeen, JobSeen}
-use Rattle.workers.specs.declared.job.Left.{Left}
-use Rattle.workers.specs.declared.job.Left.TheVariants as lefts
+use Rattle.workers.specs.declared.job.PartEnd.{PartEnd}
+use Rattle.workers.specs.declared.job.PartEnd.TheVariants as part_ends
 use Rattle.workers.specs.declared.attempts.Attempt.{Attempt}
 use Rattle.workers.specs.declared.attempts.Attempt.TheVariants as attempts
 
@@ -29,11 +29,11 @@ RoomAfter _ old new = (room_of_posts new.posts ≤ room_of_posts old.posts)
     × (made_by new.posts ≡ made_by old.posts)
 
 -- a worker's part of a shift leaves no more room, and less if it made a step: some pass has seen
--- more then; it made none if it is left idle
-abbrev pub RoomLeft : Left → JobSeen → JobSeen → Type 0
-RoomLeft lefts.Busy old new = (room_of_posts new.posts < room_of_posts old.posts)
+-- more then; it made none if it ended idle
+abbrev pub RoomAfterPart : PartEnd → JobSeen → JobSeen → Type 0
+RoomAfterPart part_ends.Busy old new = (room_of_posts new.posts < room_of_posts old.posts)
     × (made_by old.posts < made_by new.posts)
-RoomLeft lefts.Idle old new = (room_of_posts new.posts ≤ room_of_posts old.posts)
+RoomAfterPart part_ends.Idle old new = (room_of_posts new.posts ≤ room_of_posts old.posts)
     × (made_by new.posts ≡ made_by old.posts)
-RoomLeft _ old new = (room_of_posts new.posts ≤ room_of_posts old.posts)
+RoomAfterPart _ old new = (room_of_posts new.posts ≤ room_of_posts old.posts)
     × (made_by old.posts ≤ made_by new.posts)

@@ -3,7 +3,7 @@ use Rattle.std.specs.Prelude.{ℕ, Bool, Option, List}
 use Rattle.irq_base.specs.declared.entries.Actor.{Actor}
 use Rattle.board_def.specs.Seen.{BoardSeen}
 use Rattle.line_lock.specs.Passes.{PassSeen}
-use Rattle.workers.specs.declared.job.Left.{Left}
+use Rattle.workers.specs.declared.job.PartEnd.{PartEnd}
 
 -- a pass, and whether its actor is known to have nothing due on what the pass has seen
 pub record PostSeen : Type 0 where
@@ -12,14 +12,14 @@ pub record PostSeen : Type 0 where
 
 -- The job of an actor: its passes, of the line at index `first` and of the lines after it; for a
 -- processor the pass with which it has a flow in progress; for a driver how many of the board's
--- calls it is past; and how the last shift left the job.
+-- calls it is past; and how its part of the last shift ended.
 pub record JobSeen : Type 0 where
   pub actor : Actor
   pub first : ℕ
   pub posts : List PostSeen
   pub flow : Option ℕ
   pub at : ℕ
-  pub left : Left
+  pub end : PartEnd
 
 -- the board that is run, the jobs, and the first pass of each line
 pub record JobsSeen : Type 0 where

@@ -11,12 +11,12 @@ use Rattle.board_def.specs.Seen.{BoardSeen}
 use Rattle.line_lock.specs.Passes.{LockSeen}
 use Rattle.workers.specs.Fit.{IsJob}
 use Rattle.workers.specs.Grown.{PostsGrow, made_by}
-use Rattle.workers.specs.Room.{RoomAfter, RoomLeft}
+use Rattle.workers.specs.Room.{RoomAfter, RoomAfterPart}
 use Rattle.workers.specs.Seen.{PostSeen, JobSeen, JobsSeen}
 use Rattle.workers.specs.Tries.{IsIdle}
 use Rattle.workers.specs.Attempts.{WaitsAt, IsFullOn, IsWantedOn}
-use Rattle.workers.specs.declared.job.Left.{Left}
-use Rattle.workers.specs.declared.job.Left.TheVariants as lefts
+use Rattle.workers.specs.declared.job.PartEnd.{PartEnd}
+use Rattle.workers.specs.declared.job.PartEnd.TheVariants as part_ends
 use Rattle.workers.specs.declared.shifts.ShiftsEnd.{ShiftsEnd}
 use Rattle.workers.specs.declared.shifts.ShiftsEnd.TheVariants as ends
 use Rattle.workers.specs.declared.attempts.Attempt.{Attempt}
@@ -39,15 +39,16 @@ pub record WorksOn (board : BoardSeen) (lines : List LockSeen) (old new : JobSee
   pub job : IsJob board lines new
   pub grew : PostsGrow old.posts new.posts
 
--- how a worker is left that was left so before in the shift and made this of its next attempts
-abbrev pub with_earlier : Left → Left → Left
-with_earlier lefts.Busy lefts.Idle = lefts.Busy
-with_earlier before left = left
+-- how a worker's part of a shift ended that had ended as `before`, and then as `end` of its next
+-- attempts
+abbrev pub with_earlier : PartEnd → PartEnd → PartEnd
+with_earlier part_ends.Busy part_ends.Idle = part_ends.Busy
+with_earlier before end = end
 
 -- a full line or want of memory ended the worker's part
-abbrev pub is_refused : Left → Bool
-is_refused (lefts.Full line len) = true
-is_refused lefts.NoMemory = true
+abbrev pub is_refused : PartEnd → Bool
+is_refused (part_ends.Full line len) = true
+is_refused part_ends.NoMemory = true
 is_refused _ = false
 
 -- `wanted` says on what history of a line an actor may be refused memory
@@ -64,17 +65,17 @@ module _ (wanted : LineDef → List Entry → Actor → Type 0) where
     pub came : ComesTo board new attempt
     pub room : RoomAfter attempt old new
 
-  -- how a worker left its job
-  abbrev pub LeftIsSo : BoardSeen → JobSeen → Left → Type 0
-  LeftIsSo board j lefts.Idle = IsAtRest board j j.actor
-  LeftIsSo board j lefts.Busy = Unit {0}
-  LeftIsSo board j (lefts.Full line len) = IsFullOn j line len
-  LeftIsSo board j lefts.NoMemory = IsWantedOn wanted j
+  -- what is true of a job once its part of a shift ended so
+  abbrev pub EndIsSo : BoardSeen → JobSeen → PartEnd → Type 0
+  EndIsSo board j part_ends.Idle = IsAtRest board j j.actor
+  EndIsSo board j part_ends.Busy = Unit {0}
+  EndIsSo board j (part_ends.Full line len) = IsFullOn j line len
+  EndIsSo board j part_ends.NoMemory = IsWantedOn wanted j
 
   pub record WorksJob (board : BoardSeen) (lines : List LockSeen) (old new : JobSeen) : Type 0 where
     pub works : WorksOn board lines old new
-    pub left : LeftIsSo board new new.left
-    pub room : RoomLeft new.left old new
+    pub end : EndIsSo board new new.end
+    pub room : RoomAfterPart new.end old new
 
   -- a worker's later part of a shift: what was true of its shift before is true of it still
   pub record GoesOn (board : BoardSeen) (lines : List LockSeen) (old new : JobSeen) : Type 0 where
@@ -91,57 +92,58 @@ module _ (wanted : LineDef → List Entry → Actor → Type 0) where
   KeepsJobs board lines old new = (k : ℕ) (d : JobSeen) → k < length old
       → WorksJob board lines (slice_index_or old k d) (slice_index_or new k d)
 
-  abbrev pub EachLeftSo : JobsSeen → Type 0
-  EachLeftSo s = (i : ℕ) (j : JobSeen) → slice_get s.jobs i ≡ Some j → LeftIsSo s.board j j.left
+  abbrev pub EachEndedSo : JobsSeen → Type 0
+  EachEndedSo s = (i : ℕ) (j : JobSeen) → slice_get s.jobs i ≡ Some j → EndIsSo s.board j j.end
 
 -- ---- how shifts end
 
 -- of two workers' answers the one that comes first: the lower full line, then that memory was
 -- refused, then that a step was made
-abbrev pub worse : Left → Left → Left
-worse (lefts.Full a m) (lefts.Full b n) = if nat_lt b.0 a.0 then lefts.Full b n else lefts.Full a m
-worse (lefts.Full a m) _ = lefts.Full a m
-worse _ (lefts.Full b n) = lefts.Full b n
-worse lefts.NoMemory _ = lefts.NoMemory
-worse _ lefts.NoMemory = lefts.NoMemory
-worse lefts.Busy _ = lefts.Busy
-worse _ lefts.Busy = lefts.Busy
-worse lefts.Idle lefts.Idle = lefts.Idle
+abbrev pub worse : PartEnd → PartEnd → PartEnd
+worse (part_ends.Full a m) (part_ends.Full b n) =
+    if nat_lt b.0 a.0 then part_ends.Full b n else part_ends.Full a m
+worse (part_ends.Full a m) _ = part_ends.Full a m
+worse _ (part_ends.Full b n) = part_ends.Full b n
+worse part_ends.NoMemory _ = part_ends.NoMemory
+worse _ part_ends.NoMemory = part_ends.NoMemory
+worse part_ends.Busy _ = part_ends.Busy
+worse _ part_ends.Busy = part_ends.Busy
+worse part_ends.Idle part_ends.Idle = part_ends.Idle
 
--- one of the first n jobs was left at this full line, and none of them at a lower one
+-- the part of one of the first n jobs ended at this full line, and of none of them at a lower one
 pub record IsLowestFull (jobs : List JobSeen) (n : ℕ) (line : LineNo) (len : ℕ) : Type 0 where
   pub place : ℕ
   pub job : JobSeen
   pub at : slice_get jobs place ≡ Some job
-  pub left : job.left ≡ lefts.Full line len
+  pub end : job.end ≡ part_ends.Full line len
   pub lowest : (k : ℕ) (j : JobSeen) (other : LineNo) (m : ℕ) → k < n → slice_get jobs k ≡ Some j
-      → j.left ≡ lefts.Full other m → line.0 ≤ other.0
+      → j.end ≡ part_ends.Full other m → line.0 ≤ other.0
 
--- one of the first n jobs was left so
-pub record IsSomeLeft (jobs : List JobSeen) (n : ℕ) (left : Left) : Type 0 where
+-- the part of one of the first n jobs ended so
+pub record IsSomeEnd (jobs : List JobSeen) (n : ℕ) (end : PartEnd) : Type 0 where
   pub place : ℕ
   pub job : JobSeen
   pub below : place < n
   pub at : slice_get jobs place ≡ Some job
-  pub is : job.left ≡ left
+  pub is : job.end ≡ end
 
--- none of the first n jobs was left at a full line; below, none was refused memory either
+-- the part of none of the first n jobs ended at a full line; below, none was refused memory either
 abbrev pub NoneFull : List JobSeen → ℕ → Type 0
 NoneFull jobs n = (k : ℕ) (j : JobSeen) (other : LineNo) (m : ℕ) → k < n → slice_get jobs k ≡ Some j
-    → j.left ≡ lefts.Full other m → ⊥
+    → j.end ≡ part_ends.Full other m → ⊥
 
 abbrev pub NoneRefused : List JobSeen → ℕ → Type 0
 NoneRefused jobs n =
-    (k : ℕ) (j : JobSeen) → k < n → slice_get jobs k ≡ Some j → is_refused j.left ≡ false
+    (k : ℕ) (j : JobSeen) → k < n → slice_get jobs k ≡ Some j → is_refused j.end ≡ false
 
 -- The answer for the first n jobs: all are idle; or this is the lowest full line; or there is no
 -- full line, and one was refused memory; or none was refused, and one made a step.
-abbrev pub SumsUp : List JobSeen → ℕ → Left → Type 0
-SumsUp jobs n lefts.Idle =
-    (k : ℕ) (j : JobSeen) → k < n → slice_get jobs k ≡ Some j → j.left ≡ lefts.Idle
-SumsUp jobs n (lefts.Full line len) = IsLowestFull jobs n line len
-SumsUp jobs n lefts.NoMemory = IsSomeLeft jobs n lefts.NoMemory × NoneFull jobs n
-SumsUp jobs n lefts.Busy = IsSomeLeft jobs n lefts.Busy × NoneRefused jobs n
+abbrev pub SumsUp : List JobSeen → ℕ → PartEnd → Type 0
+SumsUp jobs n part_ends.Idle =
+    (k : ℕ) (j : JobSeen) → k < n → slice_get jobs k ≡ Some j → j.end ≡ part_ends.Idle
+SumsUp jobs n (part_ends.Full line len) = IsLowestFull jobs n line len
+SumsUp jobs n part_ends.NoMemory = IsSomeEnd jobs n part_ends.NoMemory × NoneFull jobs n
+SumsUp jobs n part_ends.Busy = IsSomeEnd jobs n part_ends.Busy × NoneRefused jobs n
 
 -- no worker made a step
 abbrev pub MadeNone : List JobSeen → List JobSeen → Type 0
@@ -156,7 +158,7 @@ pub record IsFullFor (s : JobsSeen) (line : LineNo) (len : ℕ) : Type 0 where
   pub is : IsFullOn job line len
   -- no worker stopped at a full line with a lower number
   pub lowest : (k : ℕ) (j : JobSeen) (other : LineNo) (m : ℕ) → slice_get s.jobs k ≡ Some j
-      → j.left ≡ lefts.Full other m → line.0 ≤ other.0
+      → j.end ≡ part_ends.Full other m → line.0 ≤ other.0
 
 -- memory was refused to one of the workers, and none stopped at a full line
 pub record IsWantedFor (wanted : LineDef → List Entry → Actor → Type 0) (s : JobsSeen)

@@ -6,7 +6,7 @@ use std::marker::Model;
 
 /// How a worker's part of a shift of threads ended.
 #[derive(Clone, Copy, PartialEq, Eq)]
-pub(crate) enum Left {
+pub(crate) enum PartEnd {
     /// It made no step: its actor has nothing due on what it has seen.
     Idle,
     /// It made a step.
@@ -33,7 +33,8 @@ pub(crate) struct Job<L: IrqLine> {
     pub(crate) at: usize,
     /// How many attempts it has had in this run.
     pub(crate) attempts: u64,
-    pub(crate) left: Left,
+    /// How its part of the last shift ended.
+    pub(crate) end: PartEnd,
 }
 
 impl<L: IrqLine> Model for Job<L> {
@@ -47,6 +48,6 @@ impl<L: IrqLine> Model for Job<L> {
       posts = j.posts.items;
       flow = j.flow;
       at = j.at;
-      left = j.left;
+      end = j.end;
     } };
 }

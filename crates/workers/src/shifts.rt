@@ -4,13 +4,13 @@ ghost use Rattle.workers.specs.Fit.{Fit, IsJob};
 ghost use Rattle.workers.specs.Forks.{AreBoards};
 ghost use Rattle.workers.specs.Room.{room_of_jobs};
 ghost use Rattle.workers.specs.Grown.{JobsGrow};
-ghost use Rattle.workers.specs.Shifts.{EachLeftSo, Ends, KeepsJobs, MadeNone, SumsUp, worse};
+ghost use Rattle.workers.specs.Shifts.{EachEndedSo, Ends, KeepsJobs, MadeNone, SumsUp, worse};
 ghost use Rattle.workers.specs.Seen.{JobSeen};
-ghost use Rattle.workers.specs.declared.job.Left.TheVariants as lefts;
+ghost use Rattle.workers.specs.declared.job.PartEnd.TheVariants as part_ends;
 ghost use Rattle.workers.specs.Wanted.{Wanted};
 
 use crate::gate::Gate;
-use crate::job::{Job, Left};
+use crate::job::{Job, PartEnd};
 use crate::jobs::Jobs;
 use crate::lines::SharedLines;
 use crate::sweeps::work_on;
@@ -62,10 +62,10 @@ pub fn run_shifts<
     loop {
         let used_up = AtomicU64::new(0);
         match jobs.one_shift(rt, lines, size, &used_up, gate, handlers) {
-            Left::Idle => return ShiftsEnd::Quiet,
-            Left::Busy => {}
-            Left::Full { line, len } => return ShiftsEnd::Full { line, len },
-            Left::NoMemory => return ShiftsEnd::NoMemory,
+            PartEnd::Idle => return ShiftsEnd::Quiet,
+            PartEnd::Busy => {}
+            PartEnd::Full { line, len } => return ShiftsEnd::Full { line, len },
+            PartEnd::NoMemory => return ShiftsEnd::NoMemory,
         }
         let all = jobs.jobs.len();
         let paid = pays(used_up.load(Ordering::SeqCst), all.div_ceil(size.max(1)));
@@ -105,8 +105,8 @@ fn next_size(size: usize, least: usize, all: usize, paid: bool, pauses: bool) ->
     (size / 2).max(least)
 }
 
-/// After a shift that doesn't pay more threads are tried again only after a pause, and each pause is
-/// twice as long as the one before. So actors that wait for one another pay for few tries.
+/// After a shift that doesn't pay more threads are tried again only after a pause, and each pause
+/// is twice as long as the one before. So actors that wait for one another pay for few tries.
 fn next_pause(pause: Pause, paid: bool) -> Pause {
     if paid {
         return Pause {
@@ -144,7 +144,7 @@ fn shift<R: Threads + Wait + Sync, L: IrqLine + Send + Sync, G: Gate + Sync, H: 
 }
 
 impl<'b, L: IrqLine + Send + Sync> Jobs<'b, L> {
-    /// One shift of all jobs, and how they were left.
+    /// One shift of all jobs, and how their parts of it ended.
     fn one_shift<R: Threads + Wait + Sync, G: Gate + Sync, H: Handler + Sync>(
         &mut self,
         rt: &R,
@@ -153,48 +153,48 @@ impl<'b, L: IrqLine + Send + Sync> Jobs<'b, L> {
         used_up: &AtomicU64,
         gate: &G,
         handlers: &Callbacks<H>,
-    ) -> Left
+    ) -> PartEnd
         requires { Fit lines.now self.old }
         ensures board { self.new.board ≡ self.old.board }
         ensures fit { Fit lines.now self.new }
-        ensures left { EachLeftSo (Wanted L.seen L.may_want) self.new }
+        ensures ends { EachEndedSo (Wanted L.seen L.may_want) self.new }
         ensures all { SumsUp self.new.jobs (length self.new.jobs) result }
         ensures grew { JobsGrow self.old.jobs self.new.jobs }
         ensures firsts { self.new.firsts ≡ self.old.firsts }
-        ensures idle { result ≡ lefts.Idle → MadeNone self.old.jobs self.new.jobs }
+        ensures idle { result ≡ part_ends.Idle → MadeNone self.old.jobs self.new.jobs }
         ensures room { room_of_jobs self.new.jobs ≤ room_of_jobs self.old.jobs }
-        ensures busy { result ≡ lefts.Busy
+        ensures busy { result ≡ part_ends.Busy
             → room_of_jobs self.new.jobs < room_of_jobs self.old.jobs }
     {
         let jobs = self.jobs.as_mut_slice();
         shift(rt, self.board, lines, size, jobs, used_up, gate, handlers);
-        left_of_all(self.jobs.as_slice())
+        end_of_all(self.jobs.as_slice())
     }
 }
 
-/// How the workers left their jobs, as one answer: a full line comes first, the lowest of several;
-/// then that memory was refused; then that a step was made; then that none was.
-fn left_of_all<L: IrqLine>(jobs: &[Job<L>]) -> Left
+/// How the workers' parts of a shift ended, as one answer: a full line comes first, the lowest of
+/// several; then that memory was refused; then that a step was made; then that none was.
+fn end_of_all<L: IrqLine>(jobs: &[Job<L>]) -> PartEnd
     ensures { SumsUp jobs.now (length jobs.now) result }
 {
-    let mut all = Left::Idle;
+    let mut all = PartEnd::Idle;
     for i in 0..jobs.len() {
         let job = &jobs[i];
-        all = worse(all, job.left);
+        all = worse(all, job.end);
     }
     all
 }
 
 /// Of two answers the one that comes first in that order.
-pub(crate) fn worse(first: Left, second: Left) -> Left
+pub(crate) fn worse(first: PartEnd, second: PartEnd) -> PartEnd
     ensures { result ≡ worse first second }
 {
     match (first, second) {
-        (Left::Full { line: a, .. }, Left::Full { line: b, .. }) if b.0 < a.0 => second,
-        (Left::Full { .. }, _) => first,
-        (_, Left::Full { .. }) => second,
-        (Left::NoMemory, _) | (_, Left::NoMemory) => Left::NoMemory,
-        (Left::Busy, _) | (_, Left::Busy) => Left::Busy,
-        (Left::Idle, Left::Idle) => Left::Idle,
+        (PartEnd::Full { line: a, .. }, PartEnd::Full { line: b, .. }) if b.0 < a.0 => second,
+        (PartEnd::Full { .. }, _) => first,
+        (_, PartEnd::Full { .. }) => second,
+        (PartEnd::NoMemory, _) | (_, PartEnd::NoMemory) => PartEnd::NoMemory,
+        (PartEnd::Busy, _) | (_, PartEnd::Busy) => PartEnd::Busy,
+        (PartEnd::Idle, PartEnd::Idle) => PartEnd::Idle,
     }
 }

@@ -2,15 +2,15 @@
 ghost use Rattle.std.specs.Prelude.{◌≡◌, ◌<◌, All};
 ghost use Rattle.workers.specs.Fit.{IsJob};
 ghost use Rattle.workers.specs.Forks.{AreBoards};
-ghost use Rattle.workers.specs.Room.{RoomLeft};
-ghost use Rattle.workers.specs.Shifts.{GoesOn, GoOnJobs, KeepsJobs, LeftIsSo, AttemptsJob};
+ghost use Rattle.workers.specs.Room.{RoomAfterPart};
+ghost use Rattle.workers.specs.Shifts.{GoesOn, GoOnJobs, KeepsJobs, EndIsSo, AttemptsJob};
 ghost use Rattle.workers.specs.Shifts.{WorksJob};
 ghost use Rattle.workers.specs.Shifts.{WorksOn, is_refused, with_earlier};
 ghost use Rattle.workers.specs.Wanted.{Wanted};
 
 use crate::attempts::Attempt;
 use crate::gate::Gate;
-use crate::job::{Job, Left};
+use crate::job::{Job, PartEnd};
 use crate::lines::SharedLines;
 use crate::shifts::worse;
 use board_def::Board;
@@ -90,24 +90,24 @@ impl<L: IrqLine> Job<L> {
         most: u32,
         gate: &G,
         handlers: &Callbacks<H>,
-    ) -> Left
+    ) -> PartEnd
         requires boards { AreBoards board.now lines.now }
         requires job { IsJob board.now lines.now self.old }
         requires some { 0 < most }
         ensures works { WorksOn board.now lines.now self.old self.new }
-        ensures left { LeftIsSo (Wanted L.seen L.may_want) board.now self.new result }
-        ensures room { RoomLeft result self.old self.new }
+        ensures end { EndIsSo (Wanted L.seen L.may_want) board.now self.new result }
+        ensures room { RoomAfterPart result self.old self.new }
     {
         for steps in 0..most {
             match self.attempt_at_gate(rt, board, lines, gate, handlers) {
                 Attempt::Moved(_) => {}
-                Attempt::NotYet if steps > 0 => return Left::Busy,
-                Attempt::NotYet => return Left::Idle,
-                Attempt::Full { line, len } => return Left::Full { line, len },
-                Attempt::NoMemory => return Left::NoMemory,
+                Attempt::NotYet if steps > 0 => return PartEnd::Busy,
+                Attempt::NotYet => return PartEnd::Idle,
+                Attempt::Full { line, len } => return PartEnd::Full { line, len },
+                Attempt::NoMemory => return PartEnd::NoMemory,
             }
         }
-        Left::Busy
+        PartEnd::Busy
     }
 
     /// The first that a worker does in a shift.
@@ -125,11 +125,11 @@ impl<L: IrqLine> Job<L> {
         requires some { 0 < most }
         ensures { WorksJob (Wanted L.seen L.may_want) board.now lines.now self.old self.new }
     {
-        self.left = self.make_attempts(rt, board, lines, most, gate, handlers);
+        self.end = self.make_attempts(rt, board, lines, most, gate, handlers);
     }
 
-    /// What a worker does later in the shift, and how this went. If it made a step before, it is
-    /// left as one that made a step, also if there is nothing more to do. A worker whose part ended
+    /// What a worker does later in the shift, and how this went. If it made a step before, its
+    /// part ends as one with a step, also if there is nothing more to do. A worker whose part ended
     /// at a full line or for want of memory does nothing more.
     fn go_on<R: Wait, G: Gate, H: Handler>(
         &mut self,
@@ -139,39 +139,39 @@ impl<L: IrqLine> Job<L> {
         most: u32,
         gate: &G,
         handlers: &Callbacks<H>,
-    ) -> Left
+    ) -> PartEnd
         requires boards { AreBoards board.now lines.now }
         requires job { IsJob board.now lines.now self.old }
         requires some { 0 < most }
         ensures { GoesOn (Wanted L.seen L.may_want) board.now lines.now self.old self.new }
     {
-        let before = self.left;
+        let before = self.end;
         if is_refused(before) {
             return before;
         }
-        let left = self.make_attempts(rt, board, lines, most, gate, handlers);
-        self.left = with_earlier(before, left);
-        left
+        let end = self.make_attempts(rt, board, lines, most, gate, handlers);
+        self.end = with_earlier(before, end);
+        end
     }
 }
 
-/// How a worker is left that was left so before and made this of its next attempts.
-fn with_earlier(before: Left, left: Left) -> Left
-    ensures { result ≡ with_earlier before left }
+/// How a worker's part ended that had ended as `before`, and then as `end` of its next attempts.
+fn with_earlier(before: PartEnd, end: PartEnd) -> PartEnd
+    ensures { result ≡ with_earlier before end }
 {
-    match left {
-        Left::Idle if before == Left::Busy => before,
-        _ => left,
+    match end {
+        PartEnd::Idle if before == PartEnd::Busy => before,
+        _ => end,
     }
 }
 
 /// Whether a full line or want of memory ended the worker's part.
-fn is_refused(left: Left) -> bool
-    ensures { result ≡ is_refused left }
+fn is_refused(end: PartEnd) -> bool
+    ensures { result ≡ is_refused end }
 {
-    match left {
-        Left::Full { .. } | Left::NoMemory => true,
-        Left::Idle | Left::Busy => false,
+    match end {
+        PartEnd::Full { .. } | PartEnd::NoMemory => true,
+        PartEnd::Idle | PartEnd::Busy => false,
     }
 }
 
@@ -199,7 +199,7 @@ pub(crate) fn work_on<R: Wait, L: IrqLine, G: Gate, H: Handler>(
     };
     sweep_first(rt, board, lines, jobs, at_once, gate, handlers);
     for _ in 0..most / at_once {
-        if look(rt, board, lines, jobs, at_once, gate, handlers) != Left::Busy {
+        if look(rt, board, lines, jobs, at_once, gate, handlers) != PartEnd::Busy {
             return;
         }
     }
@@ -215,7 +215,7 @@ fn look<R: Wait, L: IrqLine, G: Gate, H: Handler>(
     at_once: u32,
     gate: &G,
     handlers: &Callbacks<H>,
-) -> Left
+) -> PartEnd
     requires boards { AreBoards board.now lines.now }
     requires jobs { All (IsJob board.now lines.now) jobs.old }
     requires some { 0 < at_once }
@@ -227,9 +227,9 @@ fn look<R: Wait, L: IrqLine, G: Gate, H: Handler>(
         LOOKS
     };
     for _ in 0..looks {
-        let left = sweep(rt, board, lines, jobs, at_once, gate, handlers);
-        if left != Left::Idle {
-            return left;
+        let end = sweep(rt, board, lines, jobs, at_once, gate, handlers);
+        if end != PartEnd::Idle {
+            return end;
         }
         spin_loop();
     }
@@ -265,16 +265,16 @@ fn sweep<R: Wait, L: IrqLine, G: Gate, H: Handler>(
     at_once: u32,
     gate: &G,
     handlers: &Callbacks<H>,
-) -> Left
+) -> PartEnd
     requires boards { AreBoards board.now lines.now }
     requires jobs { All (IsJob board.now lines.now) jobs.old }
     requires some { 0 < at_once }
     ensures { GoOnJobs (Wanted L.seen L.may_want) board.now lines.now jobs.old jobs.new }
 {
-    let mut all = Left::Idle;
+    let mut all = PartEnd::Idle;
     for i in 0..jobs.len() {
-        let left = jobs[i].go_on(rt, board, lines, at_once, gate, handlers);
-        all = worse(all, left);
+        let end = jobs[i].go_on(rt, board, lines, at_once, gate, handlers);
+        all = worse(all, end);
     }
     all
 }

@@ -5,15 +5,15 @@ use Rattle.workers.specs.Wanted.{Wanted}
 use Rattle.workers.proofs.shifts.run_shifts.Goals as goal
 
 pub returns-in-Idle-clause-end : goal.returns-in-Idle-clause-end
-returns-in-Idle-clause-end g c = quiet (Wanted g.L.IrqLine.seen g.L.IrqLine.may_want) c.one_shift.new.self c.one_shift.ensures.left c.in-Idle.ensures.all
+returns-in-Idle-clause-end g c = quiet (Wanted g.L.IrqLine.seen g.L.IrqLine.may_want) c.one_shift.new.self c.one_shift.ensures.ends c.in-Idle.ensures.all
 
 pub returns-in-Full-clause-end : goal.returns-in-Full-clause-end
 returns-in-Full-clause-end g c = full_for (Wanted g.L.IrqLine.seen g.L.IrqLine.may_want) c.one_shift.new.self
-    c.one_shift.ensures.left c.in-Full.line c.in-Full.len c.in-Full.ensures.all
+    c.one_shift.ensures.ends c.in-Full.line c.in-Full.len c.in-Full.ensures.all
 
 pub returns-in-NoMemory-clause-end : goal.returns-in-NoMemory-clause-end
 returns-in-NoMemory-clause-end g c = wanted_for (Wanted g.L.IrqLine.seen g.L.IrqLine.may_want) c.one_shift.new.self
-    c.one_shift.ensures.left c.in-NoMemory.ensures.all
+    c.one_shift.ensures.ends c.in-NoMemory.ensures.all
 
 pub returns-in-Idle-clause-grew : goal.returns-in-Idle-clause-grew
 returns-in-Idle-clause-grew g c =

@@ -25,7 +25,7 @@ returns-in_default g c =
       flow
           = c.self.inside.flow;
       at = c.next_call-self-inside.result;
-      left = c.self.inside.left;
+      end = c.self.inside.end;
     })
     (ap (λ (x : JobSeen). record x { at = c.next_call-self-inside.result }) c.self.view_is)
     (let a = ap (λ (x : JobSeen). x.at) c.self.view_is in let w = c.next_call-self-inside.ensures.within.0 in
@@ -42,7 +42,7 @@ returns-in_default g c =
       flow
           = c.self.inside.flow;
       at = c.next_call-self-inside.result;
-      left = c.self.inside.left;
+      end = c.self.inside.end;
     }) c.requires.driven
     c.next_call-self-inside.result (ap (λ (x : JobSeen). record x { at = c.next_call-self-inside.result })
     c.self.view_is) (Wanted g.L.IrqLine.seen g.L.IrqLine.may_want)
@@ -61,7 +61,7 @@ step_driver-requires-clause-driven g c =
       flow
           = c.self.inside.flow;
       at = c.next_call-self-inside.result;
-      left = c.self.inside.left;
+      end = c.self.inside.end;
     })
     (ap (λ (x : JobSeen). record x { at = c.next_call-self-inside.result }) c.self.view_is)
     (let a = ap (λ (x : JobSeen). x.at) c.self.view_is in let w = c.next_call-self-inside.ensures.within.0 in
@@ -78,7 +78,7 @@ step_driver-requires-clause-driven g c =
       flow
           = c.self.inside.flow;
       at = c.next_call-self-inside.result;
-      left = c.self.inside.left;
+      end = c.self.inside.end;
     })) (sym own.0) driven
 
 pub returns : goal.returns
@@ -94,7 +94,7 @@ returns g c =
       flow
           = c.self.inside.flow;
       at = c.next_call-self-inside.result;
-      left = c.self.inside.left;
+      end = c.self.inside.end;
     }) c.requires.driven
     c.next_call-self-inside.result (ap (λ (x : JobSeen). record x { at = c.next_call-self-inside.result })
     c.self.view_is) (Wanted g.L.IrqLine.seen g.L.IrqLine.may_want)

@@ -19,7 +19,7 @@ returns-in-Moved g c =
       flow
           = c.flow_after-self-inside.result;
       at = c.self.inside.at;
-      left = c.self.inside.left;
+      end = c.self.inside.end;
     })
     (c.flow_at-flow.ensures s.line (ap (λ (n : ℕ). slice_get c.args.lines.now (n + c.args.place)) from ∙ s.at_line))
     (ap (λ (f : Option ℕ). record {
@@ -29,7 +29,7 @@ returns-in-Moved g c =
           = c.self.inside.posts.items;
       flow = f;
       at = c.self.inside.at;
-      left = c.self.inside.left;
+      end = c.self.inside.end;
     })
     c.flow_after-self-inside.ensures
     ∙ ap (λ (j : JobSeen). record j { flow = flow_after c.flow_at-flow.result c.in-Moved.entry c.args.place j.flow }) c.self.view_is)

@@ -88,7 +88,7 @@ returns g c =
       flow = c.self.inside.flow;
       at
           = c.self.inside.at;
-      left = c.self.inside.left;
+      end = c.self.inside.end;
     })
     c.args.place a (get_or c.as_slice-numbers.result.now (c.self.inside.first + c.args.place) (record { 0 = 0 }))
     c.attempt_of.result c.step-tried.result c.step-tried.new.self c.attempt_of.ensures n

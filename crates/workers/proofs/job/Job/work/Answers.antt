@@ -1,12 +1,12 @@
 use Rattle.std.proofs.Common.{ap}
 use Rattle.workers.specs.Seen.{JobSeen}
 use Rattle.workers.specs.Wanted.{Wanted}
-use Rattle.workers.proofs.Shifting.{left_at}
+use Rattle.workers.proofs.Shifting.{ended_at}
 use Rattle.workers.proofs.job.Job.work.Goals as goal
 
 pub returns : goal.returns
 returns g c =
-    left_at c.args.board.now c.args.lines.now c.make_attempts-self-inside.new.self c.make_attempts-self-inside.result
+    ended_at c.args.board.now c.args.lines.now c.make_attempts-self-inside.new.self c.make_attempts-self-inside.result
     (Wanted g.L.IrqLine.seen g.L.IrqLine.may_want) c.args.self.now
     (record {
       actor = c.self.inside.actor;
@@ -15,7 +15,7 @@ returns g c =
       flow
           = c.self.inside.flow;
       at = c.self.inside.at;
-      left = c.make_attempts-self-inside.result;
+      end = c.make_attempts-self-inside.result;
     })
-    c.make_attempts-self-inside.ensures.works c.make_attempts-self-inside.ensures.left c.make_attempts-self-inside.ensures.room
-    (ap (λ (j : JobSeen). record j { left = c.make_attempts-self-inside.result }) c.self.view_is)
+    c.make_attempts-self-inside.ensures.works c.make_attempts-self-inside.ensures.end c.make_attempts-self-inside.ensures.room
+    (ap (λ (j : JobSeen). record j { end = c.make_attempts-self-inside.result }) c.self.view_is)

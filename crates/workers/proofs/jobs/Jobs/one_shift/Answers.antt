@@ -2,9 +2,9 @@ use Rattle.std.proofs.Common.{◌≡◌, List, ◌++◌, take, drop, length, sub
 use Rattle.workers.specs.Shifts.{SumsUp}
 use Rattle.workers.specs.Seen.{JobSeen}
 use Rattle.workers.specs.Wanted.{Wanted}
-use Rattle.workers.specs.declared.job.Left.{Left}
-use Rattle.workers.specs.declared.job.Left.TheVariants as lefts
-use Rattle.workers.proofs.Shifting.{shift_may, shift_fit, shift_left, shift_room, shift_busy, shift_grew, shift_idle, whole_again}
+use Rattle.workers.specs.declared.job.PartEnd.{PartEnd}
+use Rattle.workers.specs.declared.job.PartEnd.TheVariants as part_ends
+use Rattle.workers.proofs.Shifting.{shift_may, shift_fit, shift_ended, shift_room, shift_busy, shift_grew, shift_idle, whole_again}
 use Rattle.workers.proofs.jobs.Jobs.one_shift.Goals as goal
 
 pub shift-requires-clause-jobs : goal.shift-requires-clause-jobs
@@ -22,10 +22,10 @@ returns-clause-fit g c =
     c.self.inside.firsts.items c.self.view_is c.as_mut_slice-jobs.ensures.value long c.shift.ensures
     (whole_again c.self.inside.jobs.len c.shift.new.jobs c.self.inside.jobs.items (let e = c.as_mut_slice-jobs.ensures.len in omega (arith, long, e)))
 
-pub returns-clause-left : goal.returns-clause-left
-returns-clause-left g c =
+pub returns-clause-ends : goal.returns-clause-ends
+returns-clause-ends g c =
     let long : length c.shift.new.jobs ≡ length c.as_mut_slice-jobs.result.now = c.shift.auto.jobs in
-    shift_left (Wanted g.L.IrqLine.seen g.L.IrqLine.may_want) c.args.lines.now c.args.self.now c.requires c.self.inside.board.now c.self.inside.jobs.items
+    shift_ended (Wanted g.L.IrqLine.seen g.L.IrqLine.may_want) c.args.lines.now c.args.self.now c.requires c.self.inside.board.now c.self.inside.jobs.items
     c.as_mut_slice-jobs.result.now c.shift.new.jobs
     (take c.self.inside.jobs.len (c.shift.new.jobs ++ drop (length c.shift.new.jobs) c.self.inside.jobs.items))
     c.self.inside.firsts.items c.self.view_is c.as_mut_slice-jobs.ensures.value long c.shift.ensures
@@ -48,8 +48,8 @@ returns-clause-busy g c = λ is.
     (take c.self.inside.jobs.len (c.shift.new.jobs ++ drop (length c.shift.new.jobs) c.self.inside.jobs.items))
     c.self.inside.firsts.items c.self.view_is c.as_mut_slice-jobs.ensures.value long c.shift.ensures
     (whole_again c.self.inside.jobs.len c.shift.new.jobs c.self.inside.jobs.items (let e = c.as_mut_slice-jobs.ensures.len in omega (arith, long, e)))
-    (subst (λ (js : List JobSeen). SumsUp js (length js) lefts.Busy) c.as_slice.ensures.value
-    (subst (λ (l : Left). SumsUp c.as_slice.result.now (length c.as_slice.result.now) l) is c.left_of_all.ensures))
+    (subst (λ (js : List JobSeen). SumsUp js (length js) part_ends.Busy) c.as_slice.ensures.value
+    (subst (λ (l : PartEnd). SumsUp c.as_slice.result.now (length c.as_slice.result.now) l) is c.end_of_all.ensures))
 
 pub returns-clause-grew : goal.returns-clause-grew
 returns-clause-grew g c =
@@ -68,5 +68,5 @@ returns-clause-idle g c = λ is.
     (take c.self.inside.jobs.len (c.shift.new.jobs ++ drop (length c.shift.new.jobs) c.self.inside.jobs.items))
     c.self.inside.firsts.items c.self.view_is c.as_mut_slice-jobs.ensures.value long c.shift.ensures
     (whole_again c.self.inside.jobs.len c.shift.new.jobs c.self.inside.jobs.items (let e = c.as_mut_slice-jobs.ensures.len in omega (arith, long, e)))
-    (subst (λ (js : List JobSeen). SumsUp js (length js) lefts.Idle) c.as_slice.ensures.value
-    (subst (λ (l : Left). SumsUp c.as_slice.result.now (length c.as_slice.result.now) l) is c.left_of_all.ensures))
+    (subst (λ (js : List JobSeen). SumsUp js (length js) part_ends.Idle) c.as_slice.ensures.value
+    (subst (λ (l : PartEnd). SumsUp c.as_slice.result.now (length c.as_slice.result.now) l) is c.end_of_all.ensures))
