@@ -28,14 +28,14 @@ pub fn step_heard<L: IrqLine, H: Handler>(
     match line.step(actor, None)? {
         Stepped::Added(entry) => Ok(Some(entry)),
         Stepped::NotYet => Ok(None),
-        Stepped::Run(run) => step_answered(line, actor, run, handlers),
+        Stepped::Run(run) => hear_and_step(line, actor, run, handlers),
     }
 }
 
 /// Calls the handler of the run that is due of the actor, and makes the step with its answer. It
-/// stands apart, so that who calls `step_heard` has the line's step in it once and not twice.
+/// stands apart, so that who calls `step_heard` has one step of the line in it.
 #[inline(never)]
-fn step_answered<L: IrqLine, H: Handler>(
+fn hear_and_step<L: IrqLine, H: Handler>(
     line: &mut L,
     actor: Actor,
     run: Run,
@@ -46,11 +46,6 @@ fn step_answered<L: IrqLine, H: Handler>(
     ensures heard { Heard (L.seen line.old) actor result (L.seen line.new) }
     ensures memory { WantsMemory L.may_want (L.seen line.old) actor result }
 {
-    let said = handlers.call(run);
-    match line.step(actor, Some(said))? {
-        Stepped::Added(entry) => Ok(Some(entry)),
-        Stepped::NotYet => Ok(None),
-        // what was said is the answer of the run
-        Stepped::Run(_) => unreachable!(),
-    }
+    let entry = line.step_answered(actor, handlers.call(run))?;
+    Ok(Some(entry))
 }

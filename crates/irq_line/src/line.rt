@@ -1,14 +1,16 @@
 //! The trait.
-ghost use Rattle.std.specs.Prelude.{◌≡◌, ◌≤◌, ◌↔◌, IsTrue, Option, OnOk, OnErr};
+ghost use Rattle.std.specs.Prelude.{◌≡◌, ◌≤◌, ◌↔◌, IsTrue, Option, Some, OnOk, OnErr};
 ghost use Rattle.irq_base.specs.declared.entries.Entry.{Entry};
 ghost use Rattle.irq_line.specs.Answers.{Answers};
+ghost use Rattle.irq_line.specs.Heard.{EndsRun};
 ghost use Rattle.irq_line.specs.Memory.{WantsMemory};
 ghost use Rattle.irq_line.specs.Queries.{IsPresented, IsTaker, IsLowestThread, flow_of, blocks_of};
+ghost use Rattle.irq_line.specs.Runs.{run_of};
 ghost use Rattle.irq_line.specs.Seen.{LineSeen, IsSound};
 
 use crate::answers::{StepRefused, Stepped};
 use callbacks::Said;
-use irq_base::{Actor, Blocks, CpuNo, DevNo, History, LineDef, NoMemory};
+use irq_base::{Actor, Blocks, CpuNo, DevNo, Entry, History, LineDef, NoMemory};
 
 /// An interrupt line (`struct irq_desc`, `include/linux/irqdesc.h`). Contracts see what `seen`
 /// makes of it: its definition, its entries, the oldest first, and how many more fit without
@@ -32,6 +34,18 @@ pub trait IrqLine: Drop {
     fn step(&mut self, actor: Actor, said: Option<Said>) -> Result<Stepped, StepRefused>
         ensures def { (seen self.new).def ≡ (seen self.old).def }
         ensures answer { Answers (seen self.old) actor said result (seen self.new) }
+        ensures memory { WantsMemory may_want (seen self.old) actor result };
+
+    /// Adds the entry that ends this run, which is due of the actor and was answered: the step with
+    /// that answer, for who knows that nothing came between. So nothing is decided a second time.
+    ///
+    /// # Errors
+    ///
+    /// Those of `step`. Nothing has changed then.
+    fn step_answered(&mut self, actor: Actor, said: Said) -> Result<Entry, StepRefused>
+        requires due { run_of (seen self.old).def (seen self.old).entries actor ≡ Some said.run }
+        ensures def { (seen self.new).def ≡ (seen self.old).def }
+        ensures answer { EndsRun (seen self.old) actor result (seen self.new) }
         ensures memory { WantsMemory may_want (seen self.old) actor result };
 
     /// Makes room for one more entry. With room to spare it isn't refused; if it is refused, all is

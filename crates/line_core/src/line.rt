@@ -192,6 +192,14 @@ impl<C: Chip + Drop> IrqLine for Line<C> {
         Ok(Stepped::Added(entry))
     }
 
+    fn step_answered(&mut self, actor: Actor, said: Said) -> Result<Entry, StepRefused> {
+        match self.step(actor, Some(said))? {
+            Stepped::Added(entry) => Ok(entry),
+            // what was said is the answer of the run that is due
+            Stepped::NotYet | Stepped::Run(_) => unreachable!(),
+        }
+    }
+
     fn reserve(&mut self) -> Result<(), NoMemory>
         ensures room { OnOk result (1 ≤ self.new.line.spare) }
         ensures def { self.new.line.def ≡ self.old.line.def }

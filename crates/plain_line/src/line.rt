@@ -122,6 +122,14 @@ impl IrqLine for PlainLine {
         Ok(Stepped::Added(entry))
     }
 
+    fn step_answered(&mut self, actor: Actor, said: Said) -> Result<Entry, StepRefused> {
+        match self.step(actor, Some(said))? {
+            Stepped::Added(entry) => Ok(entry),
+            // what was said is the answer of the run that is due
+            Stepped::NotYet | Stepped::Run(_) => unreachable!(),
+        }
+    }
+
     fn reserve(&mut self) -> Result<(), NoMemory> {
         if self.history.spare() == 0 {
             self.history.reserve(1)?;
