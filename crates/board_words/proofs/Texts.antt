@@ -1,11 +1,13 @@
 -- How a text falls into text lines, and a text line into words.
 use Rattle.std.proofs.Common.{◌≡◌, ℕ, suc, ◌+◌, ◌<◌, ◌≤◌, Bool, true, false, not, cond, ◌||◌, List, [], ◌∷◌, length}
 use Rattle.std.proofs.Common.{take, drop, Some, None, refl, sym, ap, ◌∙◌, subst, arith}
-use Rattle.std.specs.List.{position, position_or_len}
+use Rattle.std.specs.List.{position, position_or_len, slice_get}
 use Rattle.std.proofs.lemmas.Bool.Decides.{nat_tests}
 use Rattle.std.proofs.lemmas.List.{take_all, drop_all}
+use Rattle.std.proofs.lemmas.Option.{same_Some}
 use Rattle.board_words.specs.TextLines.{text_lines, words_of, onto_first, is_line_feed, is_blank, is_hash, without_comment, split_at_blanks, is_within_word}
 use Rattle.board_words.specs.Ends.{starts_word, ends_word}
+use Rattle.board_words.specs.Seen.{are_none}
 
 take_front : (b : ℕ) (bs : List ℕ) (n : ℕ) → take (1 + n) (b ∷ bs) ≡ b ∷ take n bs
 take_front b bs n = let e : 1 + n ≡ suc n = omega arith in ap (λ m. take m (b ∷ bs)) e
@@ -160,3 +162,32 @@ first_word_of line begun start end word rest is_start is_begun is_end some is_wo
     let P : ℕ → Type 0 = λ n. 0 < n in
     skipped line ∙ ap words_of (sym cut) ∙ word_cut begun (subst P is_end some) ∙ ap (λ n. take n begun ∷ words_of (drop n begun)) (sym is_end)
     ∙ ap (λ (w : List ℕ). w ∷ words_of (drop end begun)) (sym is_word) ∙ ap (λ r. word ∷ words_of r) (sym is_rest)
+
+-- whether a text line has words, by the byte at which its first blanks end
+
+none_by : (hash : Bool) (b : ℕ) (bs : List ℕ) → is_blank b ≡ false → is_hash b ≡ hash → is_hash b ≡ are_none (words_of (b ∷ bs))
+none_by true b bs no_blank h = h ∙ sym (ap are_none (comment_ends b bs h))
+none_by false b bs no_blank h = h ∙ sym (ap are_none (word_begun b bs no_blank h))
+
+get_front : (b : ℕ) (bs : List ℕ) (n : ℕ) → slice_get (b ∷ bs) (1 + n) ≡ slice_get bs n
+get_front b bs n = let e : 1 + n ≡ suc n = omega arith in ap (slice_get (b ∷ bs)) e
+
+hash_if : (t : Bool) (c : ℕ) (cs : List ℕ) (b : ℕ) → is_blank c ≡ t
+    → (Some b ≡ slice_get cs (position_or_len starts_word cs) → is_hash b ≡ are_none (words_of cs))
+    → Some b ≡ slice_get (c ∷ cs) (cond (not (not t)) (1 + position_or_len starts_word cs) 0) → is_hash b ≡ are_none (words_of (c ∷ cs))
+hash_if true c cs b is rest at = rest (at ∙ get_front c cs (position_or_len starts_word cs)) ∙ sym (ap are_none (blank_skips c cs is))
+hash_if false c cs b is rest at = ap is_hash (same_Some b c at) ∙ none_by (is_hash c) c cs is refl
+
+pub hash_at : (line : List ℕ) (b : ℕ) → Some b ≡ slice_get line (position_or_len starts_word line) → is_hash b ≡ are_none (words_of line)
+hash_at [] b at = cc
+hash_at (c ∷ cs) b at = hash_if (is_blank c) c cs b refl (hash_at cs b) at
+
+blank_if : (t : Bool) (c : ℕ) (cs : List ℕ) → is_blank c ≡ t
+    → (None ≡ slice_get cs (position_or_len starts_word cs) → are_none (words_of cs) ≡ true)
+    → None ≡ slice_get (c ∷ cs) (cond (not (not t)) (1 + position_or_len starts_word cs) 0) → are_none (words_of (c ∷ cs)) ≡ true
+blank_if true c cs is rest at = ap are_none (blank_skips c cs is) ∙ rest (at ∙ get_front c cs (position_or_len starts_word cs))
+blank_if false c cs is rest at = cc
+
+pub all_blank : (line : List ℕ) → None ≡ slice_get line (position_or_len starts_word line) → are_none (words_of line) ≡ true
+all_blank [] at = refl
+all_blank (c ∷ cs) at = blank_if (is_blank c) c cs refl (all_blank cs) at

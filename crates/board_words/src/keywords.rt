@@ -70,14 +70,15 @@ pub(crate) fn call_word(word: &[u8]) -> Option<CallWord>
     ensures { MatchOption result (list_any (is word.now) call_texts ≡ false)
         (λ call. word.now ≡ call_text call) }
 {
+    // most calls of a board are asks
+    if is(word, b"ask") {
+        return Some(CallWord::Ask);
+    }
     if is(word, b"request") {
         return Some(CallWord::Request);
     }
     if is(word, b"free") {
         return Some(CallWord::Free);
-    }
-    if is(word, b"ask") {
-        return Some(CallWord::Ask);
     }
     if is(word, b"disable") {
         return Some(CallWord::Disable);

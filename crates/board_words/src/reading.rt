@@ -1,6 +1,8 @@
 //! From words to statements.
 ghost use Rattle.std.specs.Prelude.{◌≡◌, false, codes};
+ghost use Rattle.std.specs.List.{list_any};
 ghost use Rattle.board_words.specs.Forms as forms;
+ghost use Rattle.board_words.specs.Keywords.{call_text, call_texts};
 ghost use Rattle.board_words.specs.Places.{reads};
 ghost use Rattle.board_words.specs.Reads.{Reads, Tells, WantsForPicks};
 ghost use Rattle.board_words.specs.Seen.{words_left};
@@ -9,7 +11,7 @@ ghost use Rattle.board_words.specs.declared.statements.Statement.TheVariants as 
 
 use crate::calls::read_call;
 use crate::faults::FaultKind;
-use crate::keywords::{call_word, part_word};
+use crate::keywords::{CallWord, call_word, part_word};
 use crate::parts::read_part;
 use crate::spelling;
 use crate::statements::{PickList, Statement, StatementRefused};
@@ -30,39 +32,42 @@ pub fn read_statement(
     let Some(word) = rest.next() else {
         return Err(StatementRefused::Fault(FaultKind::UnknownWord));
     };
-    if is_unknown_moment(word, has_moments) {
-        return Err(StatementRefused::Fault(FaultKind::UnknownWord));
+    if let Some(call) = call_word(word) {
+        if is_unknown_moment(call, has_moments) {
+            return Err(StatementRefused::Fault(FaultKind::UnknownWord));
+        }
+        return match read_call(call, rest) {
+            Ok(call) => Ok(Statement::Call(call)),
+            Err(fault) => Err(StatementRefused::Fault(fault)),
+        };
     }
     if is(word, b"picks") {
         return read_picks(alloc, rest);
     }
-    match read_plain(word, rest) {
+    match read_named_part(word, rest) {
         Ok(statement) => Ok(statement),
         Err(kind) => Err(StatementRefused::Fault(kind)),
     }
 }
 
-/// Whether the word is `moment`, in a text whose version has no moments.
-fn is_unknown_moment(word: &[u8], has_moments: bool) -> bool
-    ensures { result ≡ forms.is_unknown_moment has_moments word.now }
+/// Whether the call is a moment, in a text whose version has no moments.
+fn is_unknown_moment(call: CallWord, has_moments: bool) -> bool
+    ensures { result ≡ forms.is_unknown_moment has_moments (call_text call) }
 {
-    !has_moments && is(word, b"moment")
+    !has_moments && matches!(call, CallWord::Moment)
 }
 
-/// What a statement other than picks says, by its first word and the words after it.
-fn read_plain(word: &[u8], words: Words<'_>) -> Result<Statement, FaultKind>
-    requires { forms.is word.now (codes "picks") ≡ false }
+/// What a statement on a part says, by its first word and the words after it.
+fn read_named_part(word: &[u8], words: Words<'_>) -> Result<Statement, FaultKind>
+    requires picks { forms.is word.now (codes "picks") ≡ false }
+    requires call { list_any (forms.is word.now) call_texts ≡ false }
     ensures { result
         ≡ reads (forms.form_after word.now) (said.statement_after word.now) words.entry }
 {
-    if let Some(part) = part_word(word) {
-        return read_part(part, words);
+    match part_word(word) {
+        Some(part) => read_part(part, words),
+        None => Err(FaultKind::UnknownWord),
     }
-    if let Some(call) = call_word(word) {
-        let call = read_call(call, words)?;
-        return Ok(Statement::Call(call));
-    }
-    Err(FaultKind::UnknownWord)
 }
 
 /// The picks that the words spell.

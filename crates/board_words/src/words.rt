@@ -35,7 +35,10 @@ impl<'a> Words<'a> {
     pub fn is_empty(self) -> bool
         ensures { result ≡ are_none (words_left self.entry) }
     {
-        split_word(self.rest).is_none()
+        match self.rest.get(word_start(self.rest)) {
+            Some(byte) => *byte == b'#',
+            None => true,
+        }
     }
 
     /// Whether the next word is `board`.
