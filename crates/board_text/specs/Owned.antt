@@ -1,5 +1,5 @@
 -- What the owners of the devices say of the calls so far.
-use Rattle.std.specs.Prelude.{◌≡◌, Bool, false, Option, Some, None, List, reverse}
+use Rattle.std.specs.Prelude.{◌≡◌, Bool, true, false, Option, Some, None, List, reverse}
 use Rattle.std.specs.Option.{option_map}
 use Rattle.std.specs.Map.{lookup}
 use Rattle.irq_base.specs.declared.numbers.DevNo.{DevNo}
@@ -7,6 +7,8 @@ use Rattle.irq_base.specs.declared.numbers.DriverNo.{DriverNo}
 use Rattle.irq_model.specs.Kinds.{same_dev}
 use Rattle.board_def.specs.Rules.{first_owning, is_a_request}
 use Rattle.board_def.specs.declared.rows.ScriptCall.{ScriptCall}
+use Rattle.board_words.specs.declared.statements.CallWords.{CallWords}
+use Rattle.board_words.specs.declared.statements.CallWords.TheVariants as words
 use Rattle.board_text.specs.declared.owners.Owner.{Owner}
 
 -- the owner of the device
@@ -30,3 +32,9 @@ Owns owners calls =
 abbrev pub owner_noted : Option Owner → DriverNo → Bool → Owner
 owner_noted (Some owner) driver requested = record { driver = owner.driver; requested = requested }
 owner_noted None driver requested = record { driver = driver; requested = requested }
+
+-- the call is a request or a free, which says who owns its device
+abbrev pub tells_owner : CallWords → Bool
+tells_owner (words.Request dev flags twice) = true
+tells_owner (words.Free dev) = true
+tells_owner _ = false

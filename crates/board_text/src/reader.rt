@@ -8,7 +8,7 @@ ghost use Rattle.board_stated.specs.TextOf.{begins_with_board};
 ghost use Rattle.board_words.specs.Seen.{words_left};
 ghost use Rattle.board_text.specs.Kept.{Agrees, Keeps, IsKept, IsNext, log_after};
 ghost use Rattle.board_text.specs.Given.{Ends, ReadsLine};
-ghost use Rattle.board_text.specs.Owned.{Owns};
+ghost use Rattle.board_text.specs.Owned.{Owns, tells_owner};
 ghost use Rattle.board_words.specs.declared.statements.Statement.{Statement};
 
 use crate::adding::{add_statement, call_of_words, script_call};
@@ -158,8 +158,10 @@ impl Reader {
     {
         match statement {
             Statement::Call(call) => {
-                self.owners
-                    .forbid(driver_writing(&self.board), call_of_words(*call))
+                tells_owner(*call)
+                    && self
+                        .owners
+                        .forbid(driver_writing(&self.board), call_of_words(*call))
             }
             _ => false,
         }
@@ -210,9 +212,22 @@ fn note_owner(owners: &mut Owners, board: &Board, statement: &Statement) -> Resu
         → OnOk result (Owns owners.new (with_statement statement.now board.now).calls) }
 {
     match statement {
-        Statement::Call(call) => owners.note(&script_call(board, *call)),
+        Statement::Call(call) => {
+            if tells_owner(*call) {
+                owners.note(&script_call(board, *call))
+            } else {
+                Ok(())
+            }
+        }
         _ => Ok(()),
     }
+}
+
+/// Whether the call is a request or a free.
+fn tells_owner(call: CallWords) -> bool
+    ensures { result ≡ tells_owner call }
+{
+    matches!(call, CallWords::Request { .. } | CallWords::Free { .. })
 }
 
 /// The log limit after the statement.
