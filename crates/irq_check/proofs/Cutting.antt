@@ -13,11 +13,11 @@ use Rattle.irq_check.specs.Parts.{is_dashes, onto_board, parts_of, split_at_dash
 
 -- a row more before the parts
 
-onto_twice : (p q : List ℕ) (parts : Option (List ℕ × List ℕ)) → onto_board p (onto_board q parts) ≡ onto_board (p ++ q) parts
+pub onto_twice : (p q : List ℕ) (parts : Option (List ℕ × List ℕ)) → onto_board p (onto_board q parts) ≡ onto_board (p ++ q) parts
 onto_twice p q None = refl
 onto_twice p q (Some (board, log)) = ap (λ (x : List ℕ). Some (x, log)) (sym (append_assoc p q board))
 
-onto_nothing : (parts : Option (List ℕ × List ℕ)) → parts ≡ onto_board [] parts
+pub onto_nothing : (parts : Option (List ℕ × List ℕ)) → parts ≡ onto_board [] parts
 onto_nothing None = refl
 onto_nothing (Some (board, log)) = refl
 
@@ -34,14 +34,6 @@ pub begins : (input : List ℕ) → IsCutTo input input 0
 begins input = record { left = refl; within = omega arith; parts = onto_nothing (parts_of input) }
 
 module _ (input rest : List ℕ) (before : ℕ) (cut : IsCutTo input rest before) where
-  -- no row is left
-  pub all_cut : length rest ≡ 0 → parts_of input ≡ None
-  all_cut none = of_none rest none cut.parts
-    where
-      of_none : (text : List ℕ) → length text ≡ 0 → parts_of input ≡ onto_board (take before input) (split_at_dashes (rows_of text)) → parts_of input ≡ None
-      of_none [] none is = is
-      of_none (b ∷ bs) none is = absurd (omega (arith, none))
-
   -- the last row has no line feed
   pub last_is_dashes : rows_of rest ≡ rest ∷ [] → is_dashes rest ≡ true → parts_of input ≡ Some (take before input, [])
   last_is_dashes alone holds =

@@ -1,5 +1,6 @@
 mod Limits
 mod Cutting
+mod Skipping
 mod WholeInput
 mod OneLog
 mod OneVerdict
