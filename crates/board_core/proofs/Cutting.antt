@@ -22,7 +22,8 @@ use Rattle.board_core.specs.Numbers.{IsPlaceOfNumber, numbers_of_defs, numbers_o
 use Rattle.board_core.specs.Scripts.{ScriptSeen, takes_part, cut, calls_of}
 use Rattle.board_core.specs.declared.scripts.PlacedCall.{PlacedCall}
 use Rattle.board_core.proofs.MadeOf.{taken, all_taken, map_more}
-use Rattle.board_core.proofs.TurnLaws.{set_cases, set_same, map_there, one_place}
+use Rattle.board_core.proofs.InLists.{set_cases, set_same, map_there}
+use Rattle.board_core.proofs.InLists.{one_place}
 
 cut_more : (ds : List LineDef) (r : DriverNo) (cs : List ScriptCall) (c : ScriptCall)
     → cut ds r (cs ++ c ∷ []) ≡ cut ds r cs ++ cond (same_driver r c.driver && takes_part ds c.line) (c ∷ []) []
@@ -192,21 +193,21 @@ module _ (board : BoardSeen) (isb : IsBoard board) (i : ℕ) (c : ScriptCall) (a
                 (the_same t.driver c.driver (sym (driver_at q t there) ∙ mine)) ∙ same_self_driver c.driver
 
 -- as the code has it
-pub next_cut : (board : BoardSeen) → IsBoard board → (i : ℕ) (calls : List ScriptCall) (d : ScriptCall)
-    (scripts now : List ScriptSeen) (lines drivers : List ℕ) (q o : Option ℕ) → calls ≡ board.calls → i < length calls
+pub next_cut : {board : BoardSeen} → IsBoard board → {i : ℕ} {calls : List ScriptCall} (d : ScriptCall)
+    {scripts now : List ScriptSeen} {lines drivers : List ℕ} (q o : Option ℕ) → calls ≡ board.calls → i < length calls
     → AreCut board i scripts
     → lines ≡ numbers_of_defs (defs_of board) → drivers ≡ numbers_of_drivers board.drivers
     → IsPlaceOfNumber drivers (get_or calls i d).driver.0 q → IsPlaceOfNumber lines (get_or calls i d).line.0 o
     → now ≡ with_call q o (get_or calls i d) scripts → AreCut board (i + 1) now
-next_cut board isb i calls d scripts now lines drivers q o same within are of_lines of_drivers its place is =
+next_cut {board} isb {i} {calls} d {scripts} q o same within are of_lines of_drivers its place is =
     let c : ScriptCall = get_or calls i d in
     subst (λ (ss : List ScriptSeen). AreCut board (i + 1) ss) (sym is)
     (one_more board isb i c (subst (λ (cs : List ScriptCall). slice_get cs i ≡ Some c) same (slice_get-get_or calls i d within)) scripts are q o
     (subst (λ (ns : List ℕ). IsPlaceOfNumber ns c.driver.0 q) of_drivers its) (subst (λ (ns : List ℕ). IsPlaceOfNumber ns c.line.0 o) of_lines place))
 
-pub all_cut : (board : BoardSeen) (i : ℕ) (calls : List ScriptCall) (scripts : List ScriptSeen) → calls ≡ board.calls
+pub all_cut : {board : BoardSeen} {i : ℕ} {calls : List ScriptCall} {scripts : List ScriptSeen} → calls ≡ board.calls
     → length calls ≤ i → i ≤ length calls → AreCut board i scripts → AreCut board (length board.calls) scripts
-all_cut board i calls scripts same end within are =
+all_cut {board} {i} {calls} {scripts} same end within are =
     let e : i ≡ length board.calls = (let l = ap (λ (cs : List ScriptCall). length cs) same in omega (arith, end, within, l)) in
     subst (λ (n : ℕ). AreCut board n scripts) e are
 

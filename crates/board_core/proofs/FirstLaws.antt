@@ -6,10 +6,6 @@ use Rattle.irq_base.specs.declared.entries.Actor.TheVariants as actors
 use Rattle.irq_base.specs.declared.numbers.CpuNo.{CpuNo}
 use Rattle.irq_base.specs.declared.numbers.DriverNo.{DriverNo}
 use Rattle.irq_base.specs.declared.numbers.LineNo.{LineNo}
-use Rattle.irq_line.specs.Seen.{LineSeen}
-use Rattle.board_def.specs.Rules.{IsBoard}
-use Rattle.board_def.specs.Seen.{BoardSeen}
-use Rattle.domain_rules.specs.declared.layouts.Placement.{Placement}
 use Rattle.board_play.specs.Lines.{BoardLine, Move}
 use Rattle.board_play.specs.Order.{threads_of, cpus_of, drivers_of}
 use Rattle.board_ready.specs.Ready.{lowest_thread, lowest_cpu, lowest_driver, lowest_thread_or_cpu, thread_or, cpu_actor}
@@ -18,7 +14,7 @@ use Rattle.board_ready.specs.declared.parts.ReadyActor.{ReadyActor}
 use Rattle.board_ready.specs.declared.parts.ReadyActor.TheVariants as readies
 use Rattle.board_ready.specs.declared.parts.ReadyThread.{ReadyThread}
 use Rattle.board_core.specs.Firsts.{IsFirstOf, with_line, call_on}
-use Rattle.board_core.specs.Inside.{Parts, seen_of, IsKept}
+use Rattle.board_core.specs.Inside.{seen_of}
 use Rattle.board_core.specs.Scripts.{ScriptSeen, IsScript, due_at}
 use Rattle.board_core.specs.Seen.{SystemSeen, board_lines}
 use Rattle.board_core.specs.declared.scripts.PlacedCall.{PlacedCall}
@@ -30,7 +26,9 @@ use Rattle.board_play.proofs.Members.{AreApart}
 use Rattle.board_core.proofs.LowestMover.{at_first, at_second, either_at, thread_first, cpu_first, driver_first, no_thread, no_cpu, no_driver, script_of}
 use Rattle.board_core.proofs.Movers.{some_with}
 use Rattle.board_core.proofs.ScriptLaws.{script_line}
-use Rattle.board_core.proofs.Standing.{line_at, driver_at, no_call, line_number_within, driver_number_within}
+use Rattle.board_core.proofs.Standing.{line_at, driver_at, no_call}
+use Rattle.board_core.proofs.LowestStanding.{line_number_within, driver_number_within}
+use Rattle.board_core.proofs.Kept.{KeptSystem}
 
 module _ (lines : List LineReadiness) where
   abbrev Says : Option ReadyActor → Option ReadyThread → Option ℕ → Type 0
@@ -47,9 +45,9 @@ module _ (lines : List LineReadiness) where
   says : (o : Option ReadyActor) → o ≡ lowest_thread_or_cpu lines → Says o (lowest_thread lines) (lowest_cpu lines)
   says o is = subst (λ (x : Option ReadyActor). Says x (lowest_thread lines) (lowest_cpu lines)) (sym is) (said (lowest_thread lines) (lowest_cpu lines))
 
-module _ (board : BoardSeen) (isb : IsBoard board) (layout : List Placement) (lines : List LineSeen)
-    (scripts : List ScriptSeen) (order : List ℕ) (parts : Parts) (is : IsKept board lines scripts order parts)
-    (view : SystemSeen) (v : seen_of board layout lines order ≡ view) where
+module _ {view : SystemSeen} (system : KeptSystem view) where
+  open system use {board, layout, lines, scripts, order, parts, is_board, kept, view_is}
+
   abbrev seen : SystemSeen
   seen = seen_of board layout lines order
 
@@ -58,8 +56,8 @@ module _ (board : BoardSeen) (isb : IsBoard board) (layout : List Placement) (li
       → slice_get parts.line_numbers t.line ≡ Some line.0
       → IsFirstOf view (threads_of view.board ++ cpus_of view.board) (Some (actors.Thread line t.dev))
   first_thread t line found at =
-      let x = line_at board isb layout lines scripts order parts is view v t.line line at in
-      let h = thread_first board isb lines scripts is.system parts.ready is.ready t x.0 (says parts.ready.lines (Some (readies.Thread t)) found) x.1 in
+      let x = line_at system t.line line at in
+      let h = thread_first system t x.0 (says parts.ready.lines (Some (readies.Thread t)) found) x.1 in
       let its : IsFirstOf seen (threads_of board ++ cpus_of board) (Some (actors.Thread x.0.def.line t.dev)) =
       record {
         place = h.place;
@@ -72,15 +70,15 @@ module _ (board : BoardSeen) (isb : IsBoard board) (layout : List Placement) (li
         ];
       } in
       subst (λ (s : SystemSeen). IsFirstOf s (threads_of s.board ++ cpus_of s.board) (Some (actors.Thread line t.dev)))
-      v (subst (λ (l : LineNo). IsFirstOf seen (threads_of board ++ cpus_of board) (Some (actors.Thread l t.dev)))
+      view_is (subst (λ (l : LineNo). IsFirstOf seen (threads_of board ++ cpus_of board) (Some (actors.Thread l t.dev)))
       x.2 its)
 
   pub first_cpu : (c : CpuNo) → Some (readies.Cpu c) ≡ lowest_thread_or_cpu parts.ready.lines
       → IsFirstOf view (threads_of view.board ++ cpus_of view.board) (Some (actors.Cpu c))
   first_cpu c found =
       let low = says parts.ready.lines (Some (readies.Cpu c)) found in
-      let h = (cpu_first board isb lines scripts is.system parts.ready is.ready c low.1).0 in
-      let none = no_thread board isb lines scripts is.system parts.ready is.ready low.0 in
+      let h = (cpu_first system c low.1).0 in
+      let none = no_thread system low.0 in
       let its : IsFirstOf seen (threads_of board ++ cpus_of board) (Some (actors.Cpu c)) =
       record {
         place = length (threads_of board) + h.place;
@@ -91,17 +89,17 @@ module _ (board : BoardSeen) (isb : IsBoard board) (layout : List Placement) (li
           | inr cpu ↦ h.before cpu.0 b (let e = cpu.1 in omega (arith, e, less)) cpu.2
         ];
       } in
-      subst (λ (s : SystemSeen). IsFirstOf s (threads_of s.board ++ cpus_of s.board) (Some (actors.Cpu c))) v its
+      subst (λ (s : SystemSeen). IsFirstOf s (threads_of s.board ++ cpus_of s.board) (Some (actors.Cpu c))) view_is its
 
   nobody_first : lowest_thread parts.ready.lines ≡ None → lowest_cpu parts.ready.lines ≡ None
       → IsFirstOf view (threads_of view.board ++ cpus_of view.board) None
   nobody_first no_threads no_cpus =
       let its : IsFirstOf seen (threads_of board ++ cpus_of board) None =
       λ j b at_b. elim (either_at (threads_of board) (cpus_of board) j b at_b) [
-        | inl thread ↦ no_thread board isb lines scripts is.system parts.ready is.ready no_threads j b thread
-        | inr cpu ↦ no_cpu board isb lines scripts is.system parts.ready is.ready no_cpus cpu.0 b cpu.2
+        | inl thread ↦ no_thread system no_threads j b thread
+        | inr cpu ↦ no_cpu system no_cpus cpu.0 b cpu.2
       ] in
-      subst (λ (s : SystemSeen). IsFirstOf s (threads_of s.board ++ cpus_of s.board) None) v its
+      subst (λ (s : SystemSeen). IsFirstOf s (threads_of s.board ++ cpus_of s.board) None) view_is its
 
   pub none_first : None ≡ lowest_thread_or_cpu parts.ready.lines → IsFirstOf view (threads_of view.board ++ cpus_of view.board) None
   none_first found = let low = says parts.ready.lines None found in nobody_first low.0 low.1
@@ -111,8 +109,8 @@ module _ (board : BoardSeen) (isb : IsBoard board) (layout : List Placement) (li
   pub first_driver : (j : ℕ) (d : DriverNo) → Some j ≡ lowest_driver parts.ready
       → slice_get parts.driver_numbers j ≡ Some d.0 → IsFirstOf view (drivers_of view.board) (Some (actors.Driver d))
   first_driver j d found at =
-      let h = driver_first board isb lines scripts is.system parts.ready is.ready j d (sym found)
-      (driver_at board isb layout lines scripts order parts is view v j d at) in
+      let h = driver_first system j d (sym found)
+      (driver_at system j d at) in
       let its : IsFirstOf seen (drivers_of board) (Some (actors.Driver d))
       = record {
         place = h.place;
@@ -121,18 +119,18 @@ module _ (board : BoardSeen) (isb : IsBoard board) (layout : List Placement) (li
         before
             = h.before;
       } in
-      subst (λ (s : SystemSeen). IsFirstOf s (drivers_of s.board) (Some (actors.Driver d))) v its
+      subst (λ (s : SystemSeen). IsFirstOf s (drivers_of s.board) (Some (actors.Driver d))) view_is its
 
   pub no_first_driver : None ≡ lowest_driver parts.ready → IsFirstOf view (drivers_of view.board) None
-  no_first_driver found = subst (λ (s : SystemSeen). IsFirstOf s (drivers_of s.board) None) v
-      (no_driver board isb lines scripts is.system parts.ready is.ready (sym found))
+  no_first_driver found = subst (λ (s : SystemSeen). IsFirstOf s (drivers_of s.board) None) view_is
+      (no_driver system (sym found))
 
   -- ---- the due call
 
   -- the script at the driver's place
   pub script_at : (j : ℕ) (d : DriverNo) → slice_get parts.driver_numbers j ≡ Some d.0 → (s : ScriptSeen) × (slice_get scripts j ≡ Some s) × (s.driver ≡ d)
-  script_at j d at = script_of board isb lines scripts is.system parts.ready is.ready j d
-      (driver_at board isb layout lines scripts order parts is view v j d at)
+  script_at j d at = script_of system j d
+      (driver_at system j d at)
 
   pub due_is : (j : ℕ) (d : DriverNo) (s : ScriptSeen) (o : Option DueCall)
       → slice_get parts.driver_numbers j ≡ Some d.0 → slice_get scripts j ≡ Some s
@@ -141,14 +139,14 @@ module _ (board : BoardSeen) (isb : IsBoard board) (layout : List Placement) (li
   due_is j d s o at at_s is_o =
       let t = script_at j d at in
       let mine : s.driver ≡ d = ap (λ (x : ScriptSeen). x.driver) (the_same s t.0 (sym at_s ∙ t.1)) ∙ t.2 in
-      subst (λ (w : SystemSeen). o ≡ call_on (current_line w.board.calls (board_lines w.lines) d) d) v
+      subst (λ (w : SystemSeen). o ≡ call_on (current_line w.board.calls (board_lines w.lines) d) d) view_is
       (subst (λ (x : DriverNo). o ≡ call_on (current_line board.calls (board_lines lines) x) x) mine (is_o ∙ by_step (slice_get s.calls s.at) refl))
     where
       its : IsScript board.calls (board_lines lines) s
-      its = is.system.each j s at_s
+      its = kept.system.each j s at_s
 
       apart : AreApart (map (λ (x : BoardLine). x.def) (board_lines lines))
-      apart = apart_kept board isb (board_lines lines) is.system.kept
+      apart = apart_kept board is_board (board_lines lines) kept.system.kept
 
       by_step : (x : Option PlacedCall) → slice_get s.calls s.at ≡ x
           → due_at x s.made ≡ call_on (current_line board.calls (board_lines lines) s.driver) s.driver
@@ -164,9 +162,9 @@ module _ (board : BoardSeen) (isb : IsBoard board) (layout : List Placement) (li
 
   pub no_due : (d : DriverNo) → ((j : ℕ) → slice_get parts.driver_numbers j ≡ Some d.0 → ⊥)
       → None ≡ call_on (current_line view.board.calls (board_lines view.lines) d) d
-  no_due d none = subst (λ (w : SystemSeen). None ≡ call_on (current_line w.board.calls (board_lines w.lines) d) d) v
+  no_due d none = subst (λ (w : SystemSeen). None ≡ call_on (current_line w.board.calls (board_lines w.lines) d) d) view_is
       (sym (ap (λ (l : Option BoardLine). call_on l d)
-      (no_call board isb layout lines scripts order parts is view v d none)))
+      (no_call system d none)))
 
   pub script_within : (j : ℕ) (d : DriverNo) → slice_get parts.driver_numbers j ≡ Some d.0 → j < length scripts
   script_within j d at = let t = script_at j d at in slice_get_within scripts j t.0 t.1
@@ -174,7 +172,7 @@ module _ (board : BoardSeen) (isb : IsBoard board) (layout : List Placement) (li
   -- ---- the bounds of places
 
   pub number_within : (t : ReadyThread) → Some (readies.Thread t) ≡ lowest_thread_or_cpu parts.ready.lines → t.line < length parts.line_numbers
-  number_within t found = line_number_within board isb layout lines scripts order parts is view v t (says parts.ready.lines (Some (readies.Thread t)) found)
+  number_within t found = line_number_within system t (says parts.ready.lines (Some (readies.Thread t)) found)
 
   pub driver_within : (j : ℕ) → Some j ≡ lowest_driver parts.ready → j < length parts.driver_numbers
-  driver_within j found = driver_number_within board isb layout lines scripts order parts is view v j (sym found)
+  driver_within j found = driver_number_within system j (sym found)

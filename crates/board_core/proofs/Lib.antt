@@ -3,6 +3,9 @@ pub mod ScriptLaws
 pub mod Pieces
 pub mod AtPlaces
 pub mod Searches
+pub mod InLists
+pub mod LinesAfter
+pub mod Kept
 pub mod TurnLaws
 pub mod Few
 pub mod MadeOf
@@ -13,12 +16,17 @@ pub mod Readiness
 pub mod Walking
 pub mod InSystem
 pub mod Movers
+pub mod CpuMovers
 pub mod LowestMover
 pub mod Standing
+pub mod LowestStanding
 pub mod OfProcessors
 pub mod FirstLaws
 pub mod Underway
+pub mod Room
+pub mod LowestTurns
 pub mod Wanting
 pub mod OwnScripts
 pub mod CutCounts
 pub mod Placed
+pub mod PlacedSystem

@@ -18,8 +18,6 @@ use Rattle.irq_steps.proofs.Same.{line_from_same, dev_from_same}
 use Rattle.irq_laws.proofs.Chosen.{the_same}
 use Rattle.irq_line.specs.Seen.{LineSeen}
 use Rattle.play_laws.specs.Actors.{count_up}
-use Rattle.board_def.specs.Rules.{IsBoard}
-use Rattle.board_def.specs.Seen.{BoardSeen}
 use Rattle.board_def.proofs.Rising.{Rises, rises_on, head_of}
 use Rattle.board_play.specs.Lines.{Move}
 use Rattle.board_play.specs.Order.{due_move, threads_of, cpus_of, drivers_of, actors_of}
@@ -34,13 +32,15 @@ use Rattle.board_ready.specs.declared.parts.ReadyActor.{ReadyActor}
 use Rattle.board_ready.specs.declared.parts.ReadyActor.TheVariants as readies
 use Rattle.board_ready.specs.declared.parts.ReadyThread.{ReadyThread}
 use Rattle.board_ready.proofs.Lowest.{first_some, first_none, thread_some, thread_least, thread_none}
-use Rattle.board_core.specs.Inside.{IsSystem}
-use Rattle.board_core.specs.ReadyFor.{IsReadyFor, call_of}
+use Rattle.board_core.specs.ReadyFor.{call_of}
 use Rattle.board_core.specs.Scripts.{ScriptSeen}
 use Rattle.board_core.specs.Seen.{board_lines}
 use Rattle.board_core.proofs.Movers.{some_of, none_of, not_both, first_append, first_there, none_there, thread_ready}
-use Rattle.board_core.proofs.Movers.{thread_device_of, few_cpus, cpu_stands, driver_can}
-use Rattle.board_core.proofs.TurnLaws.{map_there, map_back}
+use Rattle.board_core.proofs.Movers.{thread_device_of, driver_can}
+use Rattle.board_core.proofs.CpuMovers.{few_cpus, cpu_stands}
+use Rattle.board_core.proofs.InLists.{map_there, map_back}
+use Rattle.board_core.specs.Seen.{SystemSeen}
+use Rattle.board_core.proofs.Kept.{KeptSystem}
 
 -- ---- places in two lists
 
@@ -146,8 +146,9 @@ count_back k (suc n) (suc i) a at =
     let less = b.0 in
     (omega (arith, less), ap (λ (m : ℕ). actors.Cpu (record { 0 = m })) (let e : k + suc i ≡ k + 1 + i = omega arith in e) ∙ b.1)
 
-module _ (board : BoardSeen) (isb : IsBoard board) (lines : List LineSeen) (scripts : List ScriptSeen)
-    (is : IsSystem board lines scripts) (ready : ReadySeen) (r : IsReadyFor lines scripts ready) where
+module _ {view : SystemSeen} (system : KeptSystem view) where
+  open system use {board, lines, scripts, parts.{ready}, is_board, kept}
+
   abbrev due : Actor → Option Move
   due a = due_move board (board_lines lines) a
 
@@ -187,14 +188,14 @@ module _ (board : BoardSeen) (isb : IsBoard board) (lines : List LineSeen) (scri
     where
       of_device : ((x : DeviceDef) × (slice_get board.devices j ≡ Some x) × (actors.Thread x.line x.dev ≡ a)) → due a ≡ None
       of_device h = subst (λ (b : Actor). due b ≡ None) h.2 (rests (actors.Thread h.0.line h.0.dev) (λ m is_due.
-          (let t = thread_ready board isb lines scripts is ready r h.0.line h.0.dev m is_due in
+          (let t = thread_ready system h.0.line h.0.dev m is_due in
           not_both (thread_of (slice_get ready.lines t.0)) t.3 (thread_none ready.lines t.0 none) (ap (λ (o : Option LineReadiness). thread_of o) t.6 ∙ t.7))))
 
   pub thread_first : (t : ReadyThread) (x : LineSeen) → lowest_thread ready.lines ≡ Some t
       → slice_get lines t.line ≡ Some x → At (threads_of board) (actors.Thread x.def.line t.dev)
   thread_first t x low at =
       let its = thread_some ready.lines t low in
-      let v = thread_device_of board isb lines scripts is ready r t.line x t.dev at its in
+      let v = thread_device_of system t.line x t.dev at its in
       let p = device_place board.devices x.def.line t.dev v.1 in
       let actor : slice_get (threads_of board) p.place ≡ Some (actors.Thread x.def.line t.dev) =
       map_there (λ (y : DeviceDef). actors.Thread y.line y.dev) board.devices p.place p.device p.at
@@ -211,12 +212,12 @@ module _ (board : BoardSeen) (isb : IsBoard board) (lines : List LineSeen) (scri
       }
     where
       rises : Rises (λ (y : DeviceDef). y.dev.0) board.devices
-      rises i y at = (isb.devices i y at).rises
+      rises i y at = (is_board.devices i y at).rises
 
       before : (p : PlaceOf board.devices x.def.line t.dev) (j : ℕ) (a : Actor) → j < p.place
           → ((y : DeviceDef) × (slice_get board.devices j ≡ Some y) × (actors.Thread y.line y.dev ≡ a)) → due a ≡ None
       before p j a less h = subst (λ (b : Actor). due b ≡ None) h.2 (rests (actors.Thread h.0.line h.0.dev) (λ m is_due.
-          (let u = thread_ready board isb lines scripts is ready r h.0.line h.0.dev m is_due in
+          (let u = thread_ready system h.0.line h.0.dev m is_due in
           let below = rising_key (λ (y : DeviceDef). y.dev.0) board.devices rises j p.place h.0 p.device h.1 p.at less in
           let same = ap (λ (d : DevNo). d.0) p.dev_is in
           let least = thread_least ready.lines t u.0 u.3 low (ap (λ (o : Option LineReadiness). thread_of o) u.6 ∙ u.7) in
@@ -238,14 +239,14 @@ module _ (board : BoardSeen) (isb : IsBoard board) (lines : List LineSeen) (scri
   -- ---- processors
 
   not_ready : (c : ℕ) → is_cpu_ready ready.lines c ≡ false → due (actors.Cpu (record { 0 = c })) ≡ None
-  not_ready c none = cpu_stands board isb lines scripts is ready r (record { 0 = c }) None (sym (none_of (cpu_line ready.lines c) none))
+  not_ready c none = cpu_stands system (record { 0 = c }) None (sym (none_of (cpu_line ready.lines c) none))
 
   pub no_cpu : lowest_cpu ready.lines ≡ None → None_of (cpus_of board)
   unfolding lowest_cpu
   no_cpu none j a at =
       let b = count_back 0 board.cpus j a at in
       let less = b.0 in
-      let few = isb.few_cpus in
+      let few = is_board.few_cpus in
       subst (λ (x : Actor). due x ≡ None) b.1 (not_ready (0 + j) (first_none (is_cpu_ready ready.lines) 32 (0 + j) none (omega (arith, less, few))))
 
   pub cpu_first : (c : CpuNo) → lowest_cpu ready.lines ≡ Some c.0 → At (cpus_of board) (actors.Cpu c) × ((k : ℕ) × (cpu_line ready.lines c.0 ≡ Some k))
@@ -253,8 +254,8 @@ module _ (board : BoardSeen) (isb : IsBoard board) (lines : List LineSeen) (scri
   cpu_first c low =
       let f = first_some (is_cpu_ready ready.lines) 32 c.0 low in
       let k = some_of (cpu_line ready.lines c.0) f.1 in
-      let h = cpu_stands board isb lines scripts is ready r c (Some k.0) (sym k.1) in
-      let few = few_cpus board isb lines scripts is ready r c h.1.0 h.1.1 in
+      let h = cpu_stands system c (Some k.0) (sym k.1) in
+      let few = few_cpus system c h.1.0 h.1.1 in
       let at : slice_get (cpus_of board) c.0 ≡ Some (actors.Cpu c) = count_at 0 board.cpus c.0 few
       ∙ ap (λ (n : ℕ). Some (actors.Cpu (record { 0 = n }))) (let e : 0 + c.0 ≡ c.0 = omega arith in e) in (
         record {
@@ -285,13 +286,13 @@ module _ (board : BoardSeen) (isb : IsBoard board) (lines : List LineSeen) (scri
   -- ---- drivers
 
   pub script_of : (j : ℕ) (d : DriverNo) → slice_get board.drivers j ≡ Some d → (s : ScriptSeen) × (slice_get scripts j ≡ Some s) × (s.driver ≡ d)
-  script_of j d at = map_back (λ (s : ScriptSeen). s.driver) scripts j d (ap (λ (ds : List DriverNo). slice_get ds j) is.drivers ∙ at)
+  script_of j d at = map_back (λ (s : ScriptSeen). s.driver) scripts j d (ap (λ (ds : List DriverNo). slice_get ds j) kept.system.drivers ∙ at)
 
   pub current_is : (j : ℕ) (s : ScriptSeen) → slice_get scripts j ≡ Some s → current_call ready.drivers j ≡ call_of s
-  current_is j s at = ap (λ (o : Option (Option CurrentCall)). unwrap_or o None) (r.each_driver j s at)
+  current_is j s at = ap (λ (o : Option (Option CurrentCall)). unwrap_or o None) (kept.ready.each_driver j s at)
 
   pub driver_ready_is : (j : ℕ) (s : ScriptSeen) → slice_get scripts j ≡ Some s → is_driver_ready ready j ≡ is_some (due (actors.Driver s.driver))
-  driver_ready_is j s at = ap (λ (o : Option CurrentCall). can_go_on ready.lines o) (current_is j s at) ∙ driver_can board isb lines scripts is ready r j s at
+  driver_ready_is j s at = ap (λ (o : Option CurrentCall). can_go_on ready.lines o) (current_is j s at) ∙ driver_can system j s at
 
   driver_rests : (j : ℕ) (d : DriverNo) → slice_get board.drivers j ≡ Some d → is_driver_ready ready j ≡ false → due (actors.Driver d) ≡ None
   driver_rests j d at none =
@@ -299,8 +300,8 @@ module _ (board : BoardSeen) (isb : IsBoard board) (lines : List LineSeen) (scri
       subst (λ (x : DriverNo). due (actors.Driver x) ≡ None) s.2 (none_of (due (actors.Driver s.0.driver)) (sym (driver_ready_is j s.0 s.1) ∙ none))
 
   many_drivers : length board.drivers ≡ length ready.drivers
-  many_drivers = let a = ap (λ (ds : List DriverNo). length ds) is.drivers in
-      let b = length-map scripts (λ (s : ScriptSeen). s.driver) in let c = r.all_drivers in omega (arith, a, b, c)
+  many_drivers = let a = ap (λ (ds : List DriverNo). length ds) kept.system.drivers in
+      let b = length-map scripts (λ (s : ScriptSeen). s.driver) in let c = kept.ready.all_drivers in omega (arith, a, b, c)
 
   pub no_driver : lowest_driver ready ≡ None → None_of (drivers_of board)
   no_driver none j a at =

@@ -19,7 +19,7 @@ use Rattle.board_play.specs.Lines.{BoardLine, mapped, lines_at}
 use Rattle.board_core.specs.Making.{MakesAll, IsNewLine, AreNew}
 use Rattle.board_core.specs.Seen.{board_line, board_lines}
 use Rattle.board_core.proofs.MadeOf.{all_taken, map_more}
-use Rattle.board_core.proofs.TurnLaws.{map_back}
+use Rattle.board_core.proofs.InLists.{map_back}
 
 -- the row, if its line takes part
 abbrev row_if : LineRow → Option Placement → List LineRow

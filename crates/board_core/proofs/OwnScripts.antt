@@ -36,7 +36,8 @@ use Rattle.board_core.specs.declared.scripts.PlacedCall.{PlacedCall}
 use Rattle.board_core.proofs.Cutting.{script_there}
 use Rattle.line_scripts.proofs.LastEntry.{completes_at, last_is, goes, ends, one_more}
 use Rattle.board_core.proofs.MadeOf.{taken, map_more}
-use Rattle.board_core.proofs.TurnLaws.{map_there, one_place, set_cases, set_same}
+use Rattle.board_core.proofs.InLists.{map_there, set_cases, set_same}
+use Rattle.board_core.proofs.InLists.{one_place}
 
 -- ---- one driver's script is changed
 
@@ -214,11 +215,11 @@ same_driver_put e s = by_step (slice_get s.calls s.at)
     by_step (Some st) = by_last (completes st.call.call e)
 
 -- the drivers' scripts on the line after one more entry, which was due
-pub own_more : (rs : List DriverNo) → Rises (λ (r : DriverNo). r.0) rs → (numbers : List ℕ)
-    → numbers ≡ numbers_of_drivers rs → (x : BoardLine) (e : Entry) → IsDue x.def e x.past → (q : Option ℕ)
-    → IsPlaceOfActor numbers (actor_of x.def.line e) q → (scripts new : List ScriptSeen)
+pub own_more : {rs : List DriverNo} → Rises (λ (r : DriverNo). r.0) rs → {numbers : List ℕ}
+    → numbers ≡ numbers_of_drivers rs → {x : BoardLine} (e : Entry) → IsDue x.def e x.past → (q : Option ℕ)
+    → IsPlaceOfActor numbers (actor_of x.def.line e) q → {scripts new : List ScriptSeen}
     → new ≡ scripts_after q (Ok (Some e)) scripts → AreOwn rs x scripts → AreOwn rs (with_entry e x) new
-own_more rs rises numbers are x e due q place scripts new is own
+own_more {rs} rises {numbers} are {x} e due q place {scripts} {new} is own
     = subst (λ (ss : List ScriptSeen). AreOwn rs (with_entry e x) ss) (sym (is ∙ entry_is q e scripts))
     (by_actor (actor_of x.def.line e) refl place)
   where
@@ -296,12 +297,12 @@ bare_first board scripts are cs = record {
       = λ j s at. (let c = are.each j s at in record { calls = no_calls s.calls c.cut; at = c.at; made = c.made });
 }
 
-pub bare_more : (rs : List DriverNo) → Rises (λ (r : DriverNo). r.0) rs → (numbers : List ℕ)
-    → numbers ≡ numbers_of_drivers rs → (cs : List (DriverNo × Call)) (i : ℕ) (r : DriverNo) (c : ScriptCall)
-    (pair : DriverNo × Call) → slice_get cs i ≡ Some pair → pair.0 ≡ r → pair.1 ≡ c.call → (q : Option ℕ)
-    → IsPlaceOfNumber numbers r.0 q → (scripts new : List ScriptSeen) → new ≡ with_call q (Some 0) c scripts
+pub bare_more : {rs : List DriverNo} → Rises (λ (r : DriverNo). r.0) rs → {numbers : List ℕ}
+    → numbers ≡ numbers_of_drivers rs → (cs : List (DriverNo × Call)) (i : ℕ) {r : DriverNo} (c : ScriptCall)
+    {pair : DriverNo × Call} → slice_get cs i ≡ Some pair → pair.0 ≡ r → pair.1 ≡ c.call → (q : Option ℕ)
+    → IsPlaceOfNumber numbers r.0 q → {scripts new : List ScriptSeen} → new ≡ with_call q (Some 0) c scripts
     → AreBare rs (take i cs) scripts → AreBare rs (take (i + 1) cs) new
-bare_more rs rises numbers are cs i r c pair at first second q place scripts new is bare =
+bare_more {rs} rises {numbers} are cs i {r} c {pair} at first second q place {scripts} {new} is bare =
     subst (λ (ss : List ScriptSeen). AreBare rs (take (i + 1) cs) ss) (sym (is ∙ call_is q 0 c scripts))
     (record {
       drivers = drivers_put rs rises r scripts bare.drivers (longer 0 c) (λ s. refl) q;
@@ -339,9 +340,9 @@ none_made : (def : LineDef) (r : DriverNo) (o : Option (Call × ℕ)) → due_ca
 none_made def r None is = refl
 none_made def r (Some (c, n)) is = sym (fresh (calls_by r def.calls) c n is)
 
-pub bare_own : (rs : List DriverNo) (def : LineDef) (cs : List (DriverNo × Call)) (scripts : List ScriptSeen)
+pub bare_own : {rs : List DriverNo} (def : LineDef) {cs : List (DriverNo × Call)} {scripts : List ScriptSeen}
     → cs ≡ def.calls → AreBare rs cs scripts → AreOwn rs (record { def = def; past = [] }) scripts
-bare_own rs def cs scripts all bare =
+bare_own {rs} def {cs} {scripts} all bare =
     record {
       drivers = bare.drivers;
       each = λ j s at.

@@ -1,5 +1,5 @@
 -- The system of lines as they stand: its scripts are placed by what is counted on all lines.
-use Rattle.std.proofs.Common.{◌≡◌, ℕ, zero, suc, ◌+◌, ◌<◌, ◌≤◌, ◌⊎◌, inl, inr, max, IsSomeAnd, Option, Some, None, List}
+use Rattle.std.proofs.Common.{◌≡◌, ℕ, zero, suc, ◌+◌, ◌<◌, ◌≤◌, ◌⊎◌, inl, inr, max, IsSomeAnd, Option, Some, List}
 use Rattle.std.proofs.Common.{[], ◌∷◌, ◌++◌, map, length, get_or, take, reverse, slice_get, slice_set, refl, sym, ap}
 use Rattle.std.proofs.Common.{◌∙◌, subst, arith}
 use Rattle.std.specs.List.{sum_by}
@@ -7,41 +7,23 @@ use Rattle.std.proofs.Math.ListN.{length-map}
 use Rattle.std.proofs.lemmas.List.{map-set, length-set, reverse-append}
 use Rattle.std.proofs.lemmas.List.Sums.{sum_by_push, sum_by-take-le}
 use Rattle.std.proofs.lemmas.Option.{get_or_from_slice_get, slice_get_within}
-use Rattle.irq_base.specs.declared.calls.Call.{Call}
 use Rattle.irq_base.specs.declared.entries.Entry.{Entry}
 use Rattle.irq_base.specs.declared.lines.LineDef.{LineDef}
 use Rattle.irq_base.specs.declared.numbers.DriverNo.{DriverNo}
 use Rattle.irq_line.specs.Seen.{LineSeen}
-use Rattle.irq_model.specs.Due.{due_call}
 use Rattle.irq_model.specs.Legal.{IsDue, IsLegal, IsLegalPast}
 use Rattle.irq_laws.proofs.Chosen.{the_same}
-use Rattle.board_def.specs.Rules.{IsBoard}
-use Rattle.board_def.specs.Seen.{BoardSeen}
-use Rattle.board_def.specs.declared.rows.ScriptCall.{ScriptCall}
-use Rattle.board_play.specs.Kept.{IsCallOn, IsUpTo, AreKept}
-use Rattle.board_play.specs.Lines.{BoardLine, defs_of}
-use Rattle.board_play.proofs.KeptAlways.{apart_kept}
-use Rattle.board_play.proofs.Listed.{def_at}
-use Rattle.board_play.proofs.Members.{AreApart}
-use Rattle.board_play.proofs.OfBoard.{has_calls}
-use Rattle.board_play.proofs.Parts.{the_line}
-use Rattle.board_core.specs.Inside.{drivers_of, IsSystem}
+use Rattle.board_play.specs.Lines.{BoardLine}
+use Rattle.board_core.specs.Inside.{drivers_of}
 use Rattle.board_core.specs.Log.{IsWalk}
-use Rattle.board_core.specs.Making.{IsCut, AreNewScripts, AreSound}
-use Rattle.board_core.specs.Numbers.{numbers_of_defs, numbers_of_lines}
-use Rattle.board_core.specs.Placing.{completed_on, made_of, made_on, most_made, placed, ArePlaced, HaveRoom, IsOwn}
+use Rattle.board_core.specs.Placing.{completed_on, made_on, most_made, placed, ArePlaced, HaveRoom, IsOwn}
 use Rattle.board_core.specs.Placing.{AreOwn, joined, CanJoin, AreJoined, AreLengths}
-use Rattle.board_core.specs.Scripts.{ScriptSeen, cut, calls_of, IsScript}
+use Rattle.board_core.specs.Scripts.{ScriptSeen}
 use Rattle.board_core.specs.Seen.{board_line, board_lines}
-use Rattle.board_core.specs.declared.scripts.PlacedCall.{PlacedCall}
-use Rattle.board_core.proofs.CutCounts.{kept, kept_few, complete_all, cut_up_to}
-use Rattle.board_core.proofs.Few.{few_lines}
-use Rattle.board_core.proofs.InSystem.{numbers_are}
-use Rattle.board_core.proofs.MadeOf.{taken, all_taken, number_back}
+use Rattle.board_core.proofs.MadeOf.{taken, all_taken}
 use Rattle.board_core.proofs.Readiness.{seen_at}
-use Rattle.board_core.proofs.ScriptLaws.{HaveCalls, call_there, due_there}
 use Rattle.board_core.proofs.Searches.{there}
-use Rattle.board_core.proofs.TurnLaws.{map_there, set_same, set_there, set_other}
+use Rattle.board_core.proofs.InLists.{map_there, set_same, set_there, set_other}
 use Rattle.board_core.proofs.Walking.{walk_fresh}
 
 -- ---- the most of what is made
@@ -53,7 +35,7 @@ most_more : (r : DriverNo) (lines : List BoardLine) (x : BoardLine) → most_mad
 most_more r [] x = omega arith
 most_more r (y ∷ ys) x = let d = most_more r ys x in omega (arith, d)
 
-most_at_most : (r : DriverNo) (n : ℕ) (lines : List BoardLine)
+pub most_at_most : (r : DriverNo) (n : ℕ) (lines : List BoardLine)
     → ((i : ℕ) (x : BoardLine) → slice_get lines i ≡ Some x → made_on r x ≤ n) → most_made r lines ≤ n
 most_at_most r n [] each = omega arith
 most_at_most r n (x ∷ xs) each =
@@ -61,7 +43,7 @@ most_at_most r n (x ∷ xs) each =
     let b = most_at_most r n xs (λ i y at. each (suc i) y at) in
     omega (arith, a, b)
 
-at_most : (r : DriverNo) (lines : List BoardLine) (k : ℕ) (y : BoardLine) → slice_get lines k ≡ Some y → made_on r y ≤ most_made r lines
+pub at_most : (r : DriverNo) (lines : List BoardLine) (k : ℕ) (y : BoardLine) → slice_get lines k ≡ Some y → made_on r y ≤ most_made r lines
 at_most r [] k y at = cc
 at_most r (x ∷ xs) zero y at = let e = ap (λ (z : BoardLine). made_on r z) (the_same x y at) in omega (arith, e)
 at_most r (x ∷ xs) (suc k) y at = let d = at_most r xs k y at in omega (arith, d)
@@ -89,9 +71,9 @@ placed_more lines x s o same own =
     ap (λ (n : ℕ). record s { at = n; made = max (max s.made (most_made s.driver lines)) o.made }) a
     ∙ ap (λ (n : ℕ). record s { at = s.at + sum_by (completed_on s.driver) (lines ++ x ∷ []); made = n }) m
 
-module _ (lines : List BoardLine) (k : ℕ) (x : BoardLine) (at : slice_get lines k ≡ Some x)
-    (first now own : List ScriptSeen) (are : ArePlaced (take k lines) first now) (rs : List DriverNo)
-    (all : drivers_of first ≡ rs) (its : AreOwn rs x own) where
+module _ (lines : List BoardLine) (k : ℕ) {x : BoardLine} (at : slice_get lines k ≡ Some x) {first now : List ScriptSeen}
+    (are : ArePlaced (take k lines) first now) {rs : List DriverNo} (all : drivers_of first ≡ rs) {own : List ScriptSeen}
+    (its : AreOwn rs x own) where
   as_many : (xs ys : List ScriptSeen) → drivers_of xs ≡ drivers_of ys → length xs ≡ length ys
   as_many xs ys same =
       let a = length-map xs (λ (s : ScriptSeen). s.driver) in
@@ -139,8 +121,8 @@ module _ (lines : List BoardLine) (k : ℕ) (x : BoardLine) (at : slice_get line
   pub as_many_own : length now ≡ length own
   as_many_own = as_many now own (are.drivers ∙ own_drivers)
 
-  pub placed_next : (new : List ScriptSeen) → AreJoined own now new → ArePlaced (take (k + 1) lines) first new
-  placed_next new join =
+  pub placed_next : {new : List ScriptSeen} → AreJoined own now new → ArePlaced (take (k + 1) lines) first new
+  placed_next join =
       record {
         drivers = join.drivers ∙ are.drivers;
         each = λ j s at_s.
@@ -150,10 +132,10 @@ module _ (lines : List BoardLine) (k : ℕ) (x : BoardLine) (at : slice_get line
             ∙ ap (λ (ls : List BoardLine). placed ls s) (sym (taken lines k x at))));
       }
 
-pub all_placed_seen : {X : Type 0} (f : X → LineSeen) (xs : List X) (k : ℕ) (first now : List ScriptSeen)
+pub all_placed_seen : {X : Type 0} (f : X → LineSeen) (xs : List X) {k : ℕ} {first now : List ScriptSeen}
     → length xs ≤ k → ArePlaced (take k (board_lines (map f xs))) first now
     → ArePlaced (board_lines (map f xs)) first now
-all_placed_seen f xs k first now end are =
+all_placed_seen f xs {k} {first} {now} end are =
     subst (λ (ls : List BoardLine). ArePlaced ls first now)
     (all_taken (board_lines (map f xs)) k (let a = length-map xs f in let b = length-map (map f xs) board_line in omega (arith, end, a, b))) are
 
@@ -170,10 +152,10 @@ none_joined own old = record { drivers = refl; each = λ j s o less. absurd (ome
 two : (j n : ℕ) → j < n + 1 → (j < n) ⊎ (j ≡ n)
 two j n h = grind arith
 
-pub one_joined : (own old now : List ScriptSeen) (n : ℕ) (s o : ScriptSeen) → slice_get now n ≡ Some s
-    → slice_get own n ≡ Some o → (new : List ScriptSeen) → new ≡ slice_set now n (joined o s) → JoinedTo own old n now
+pub one_joined : {own old now : List ScriptSeen} {n : ℕ} {s o : ScriptSeen} → slice_get now n ≡ Some s
+    → slice_get own n ≡ Some o → {new : List ScriptSeen} → new ≡ slice_set now n (joined o s) → JoinedTo own old n now
     → JoinedTo own old (n + 1) new
-one_joined own old now n s o at at_own new is so =
+one_joined {own} {old} {now} {n} {s} {o} at at_own is so =
     subst (λ (ss : List ScriptSeen). JoinedTo own old (n + 1) ss) (sym is)
     (record {
       drivers = map-set (λ (s : ScriptSeen). s.driver) now n (joined o s)
@@ -193,17 +175,17 @@ one_joined own old now n s o at at_own new is so =
           ∙ (set_there now n s (joined o s) at ∙ (ap (λ (v : ScriptSeen). Some (joined v s)) same_o ∙ ap (λ (v : ScriptSeen). Some (joined u v)) same_s))
     ]
 
-pub all_joined : (own old now : List ScriptSeen) (n : ℕ) → length old ≤ n → JoinedTo own old n now → AreJoined own old now
-all_joined own old now n end so = record {
+pub all_joined : {own old now : List ScriptSeen} {n : ℕ} → length old ≤ n → JoinedTo own old n now → AreJoined own old now
+all_joined {own} {old} {now} {n} end so = record {
   drivers = so.drivers;
   each
       = λ j s o at at_o. (let l = slice_get_within old j s at in so.each j s o (omega (arith, l, end)) at at_o);
 }
 
 -- the one at a place can join
-pub join_fits : (own old now : List ScriptSeen) (n : ℕ) (s o : ScriptSeen) → CanJoin own old → JoinedTo own old n now
+pub join_fits : {own old now : List ScriptSeen} {n : ℕ} {s o : ScriptSeen} → CanJoin own old → JoinedTo own old n now
     → slice_get now n ≡ Some s → slice_get own n ≡ Some o → s.at + o.at ≤ length s.calls
-join_fits own old now n s o can so at at_own =
+join_fits {own} {old} {now} {n} {s} {o} can so at at_own =
     subst (λ (p : Option ScriptSeen). IsSomeAnd p (λ o. s.at + o.at ≤ length s.calls)) at_own (can n s (sym (so.rest n (omega arith)) ∙ at))
 
 -- ---- entry by entry
@@ -267,124 +249,3 @@ walk_now lines lengths order few are none =
     subst (λ (ks : List ℕ). IsWalk lengths ks lines) (sym none)
     (walk_fresh lengths lines few are.all (λ k x at. get_or_from_slice_get lengths k (length x.entries) 0
     (are.each k x at)))
-
--- ---- the whole system
-
-module _ (board : BoardSeen) (isb : IsBoard board) (lines : List LineSeen) (k : AreKept board (board_lines lines)) where
-  apart : AreApart (map (λ (x : BoardLine). x.def) (board_lines lines))
-  apart = apart_kept board isb (board_lines lines) k
-
-  have : HaveCalls board.calls (board_lines lines)
-  have i x at = has_calls board i x.def (def_at board (board_lines lines) k i x at)
-
-  pub kept_numbers : numbers_of_lines lines ≡ numbers_of_defs (defs_of board)
-  kept_numbers = numbers_are lines ∙ ap (λ (ds : List LineDef). numbers_of_defs ds) k.defs
-
-  pub kept_few_lines : length lines ≤ 64
-  kept_few_lines = few_lines board isb lines k.defs
-
-  module _ (s : ScriptSeen) (is : IsCut board (length board.calls) s) where
-    abbrev here : List LineDef
-    here = map (λ (x : BoardLine). x.def) (board_lines lines)
-
-    its_cut : calls_of s.calls ≡ cut here s.driver board.calls
-    its_cut = is.cut ∙ (ap (λ (cs : List ScriptCall). cut (defs_of board) s.driver cs)
-        (all_taken board.calls (length board.calls) (omega arith))
-        ∙ ap (λ (ds : List LineDef). cut ds s.driver board.calls) (sym k.defs))
-
-    -- the place up to which the driver's calls are complete, in the scripts and in its own
-    whole : (place : ℕ) × IsUpTo board.calls (board_lines lines) s.driver place
-    whole = k.in_order s.driver
-
-    abbrev own_place : ℕ
-    own_place = kept here s.driver whole.0 board.calls
-
-    counted : sum_by (completed_on s.driver) (board_lines lines) ≡ own_place
-    counted = complete_all (board_lines lines) apart s.driver board.calls whole.0 whole.1
-
-    at_is : s.at + sum_by (completed_on s.driver) (board_lines lines) ≡ own_place
-    at_is = let a = is.at in let c = counted in omega (arith, a, c)
-
-    script_room : s.at + sum_by (completed_on s.driver) (board_lines lines) ≤ length s.calls
-    script_room =
-        let a = at_is in
-        let le = kept_few here s.driver board.calls whole.0 in
-        let many = length-map s.calls (λ (x : PlacedCall). x.call) in
-        let same = ap (λ (cs : List ScriptCall). length cs) its_cut in
-        omega (arith, a, le, many, same)
-
-    up : IsUpTo (calls_of s.calls) (board_lines lines) s.driver (s.at + sum_by (completed_on s.driver) (board_lines lines))
-    up =
-        subst (λ (n : ℕ). IsUpTo (calls_of s.calls) (board_lines lines) s.driver n) (sym at_is)
-        (subst (λ (cs : List ScriptCall). IsUpTo cs (board_lines lines) s.driver own_place) (sym its_cut)
-        (cut_up_to (board_lines lines) apart s.driver board.calls whole.0 whole.1))
-
-    line_is : (x : PlacedCall) (i : ℕ) → slice_get s.calls i ≡ Some x → IsSomeAnd (slice_get (board_lines lines) x.place) (λ y. y.def.line ≡ x.call.line)
-    line_is x i at = number_back (board_lines lines) x.place x.call.line
-        (ap (λ (ds : List LineDef). slice_get (numbers_of_defs ds) x.place) k.defs ∙ is.places i x at)
-
-    module _ (x : PlacedCall) (y : BoardLine) (at : slice_get s.calls (placed (board_lines lines) s).at ≡ Some x)
-        (there_y : slice_get (board_lines lines) x.place ≡ Some y) where
-      of_line : y.def.line ≡ x.call.line
-      of_line = subst (λ (o : Option BoardLine). IsSomeAnd o (λ z. z.def.line ≡ x.call.line)) there_y (line_is x (placed (board_lines lines) s).at at)
-
-      due : (n : ℕ) × (due_call y.def s.driver y.past ≡ Some (x.call.call, n))
-      due = due_there board.calls (board_lines lines) have apart s.driver s.calls its_cut (placed (board_lines lines) s).at up x y at there_y of_line
-
-      -- only on this line has a call begun
-      only : (i : ℕ) (z : BoardLine) → slice_get (board_lines lines) i ≡ Some z → made_on s.driver z ≤ made_on s.driver y
-      only i z at_z = by_due (due_call z.def s.driver z.past) refl
-        where
-          by_due : (o : Option (Call × ℕ)) → due_call z.def s.driver z.past ≡ o → made_of o ≤ made_on s.driver y
-          by_due None is_due = omega arith
-          by_due (Some (c, zero)) is_due = omega arith
-          by_due (Some (c, suc n)) is_due =
-              let on : IsCallOn z.def.line s.driver x.call =
-              subst (λ (o : Option ScriptCall). IsSomeAnd o (IsCallOn z.def.line s.driver))
-              (call_there s.calls (placed (board_lines lines) s).at x at) (up.begun i z c n at_z is_due) in
-              let same : z ≡ y = the_line (board_lines lines) apart i x.place z y at_z there_y (sym on.0 ∙ sym of_line) in
-              let e : made_on s.driver z ≡ suc n = ap made_of is_due in
-              let f : made_on s.driver z ≡ made_on s.driver y = ap (λ (w : BoardLine). made_on s.driver w) same in
-              omega (arith, e, f)
-
-      made_is : due.0 ≡ max s.made (most_made s.driver (board_lines lines))
-      made_is =
-          let a : made_on s.driver y ≡ due.0 = ap made_of due.1 in
-          let b = most_at_most s.driver (made_on s.driver y) (board_lines lines) only in
-          let c = at_most s.driver (board_lines lines) x.place y there_y in
-          let d = is.made in
-          omega (arith, a, b, c, d)
-
-      due_is : due_call y.def s.driver y.past ≡ Some (x.call.call, (placed (board_lines lines) s).made)
-      due_is = due.1 ∙ ap (λ (n : ℕ). Some (x.call.call, n)) made_is
-
-    placed_script : IsScript board.calls (board_lines lines) (placed (board_lines lines) s)
-    placed_script = record { cut = its_cut; places = λ i x at. line_is x i at; up_to = up; due = due_is }
-
-  pub kept_room : (scripts : List ScriptSeen) → AreNewScripts board scripts → HaveRoom (board_lines lines) scripts
-  kept_room scripts are j s at = script_room s (are.each j s at)
-
-  module _ (scripts new : List ScriptSeen) (are : AreNewScripts board scripts) (its : ArePlaced (board_lines lines) scripts new) where
-    placed_drivers : drivers_of new ≡ board.drivers
-    placed_drivers = its.drivers ∙ are.drivers
-
-    pub placed_few : length new ≤ 64
-    placed_few =
-        let a = ap (λ (rs : List DriverNo). length rs) placed_drivers in
-        let b = length-map new (λ (s : ScriptSeen). s.driver) in
-        let f = isb.few_drivers in
-        omega (arith, a, b, f)
-
-    pub placed_system : AreSound lines → IsSystem board lines new
-    placed_system sound = record { kept = k; sound = sound; drivers = placed_drivers; each = each }
-      where
-        each : (j : ℕ) (t : ScriptSeen) → slice_get new j ≡ Some t → IsScript board.calls (board_lines lines) t
-        each j t at =
-            let within = slice_get_within new j t at in
-            let a = length-map new (λ (s : ScriptSeen). s.driver) in
-            let b = length-map scripts (λ (s : ScriptSeen). s.driver) in
-            let c = ap (λ (ds : List DriverNo). length ds) its.drivers in
-            let s = there scripts j (omega (arith, within, a, b, c)) in
-            subst (λ (u : ScriptSeen). IsScript board.calls (board_lines lines) u)
-            (the_same (placed (board_lines lines) s.0) t (sym (its.each j s.0 s.1) ∙ at))
-            (placed_script s.0 (are.each j s.0 s.1))

@@ -17,7 +17,7 @@ use Rattle.board_core.specs.ReadyFor.{IsReadinessOf, IsReadyFor, call_of}
 use Rattle.board_core.specs.Refreshed.{HasLines, HasDrivers, AsksScript, IsRefreshed}
 use Rattle.board_core.specs.Scripts.{ScriptSeen}
 use Rattle.board_core.proofs.Searches.{there}
-use Rattle.board_core.proofs.TurnLaws.{set_there, set_other}
+use Rattle.board_core.proofs.InLists.{set_there, set_other}
 
 pub same_or_other : (i k : ℕ) → (i ≡ k) ⊎ ((i ≡ k) → ⊥)
 same_or_other i k = by_test (i == k) refl

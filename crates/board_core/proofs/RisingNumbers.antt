@@ -19,7 +19,8 @@ use Rattle.board_play.specs.Lines.{mapped, defs_of}
 use Rattle.board_core.specs.Numbers.{IsRising, numbers_of_defs, numbers_of_lines, numbers_of_drivers}
 use Rattle.board_core.proofs.MadeOf.{taken, map_more}
 use Rattle.board_core.proofs.Searches.{there}
-use Rattle.board_core.proofs.TurnLaws.{map_there, rising_below}
+use Rattle.board_core.proofs.InLists.{map_there}
+use Rattle.board_core.proofs.InLists.{rising_below}
 
 module _ {A : Type 0} (key : A → ℕ) (xs : List A) (below : (i j : ℕ) (x y : A) → slice_get xs i ≡ Some x
     → slice_get xs j ≡ Some y → i < j → key x < key y) where

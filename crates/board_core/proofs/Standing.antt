@@ -1,9 +1,7 @@
 -- Where an actor steps, as a system answers it.
-use Rattle.std.proofs.Common.{◌≡◌, ℕ, suc, ◌<◌, ◌==◌, inl, inr, true, false, is_some, Option, Some, None, List, [], ◌∷◌}
-use Rattle.std.proofs.Common.{map, length, get_or, slice_get, refl, sym, ap, ◌∙◌, subst, arith, eq-eqb}
-use Rattle.std.proofs.Math.ListN.{length-map}
+use Rattle.std.proofs.Common.{◌≡◌, ℕ, suc, ◌==◌, inl, inr, true, false, is_some, Option, Some, None, List, [], ◌∷◌}
+use Rattle.std.proofs.Common.{map, slice_get, refl, sym, ap, ◌∙◌, subst, eq-eqb}
 use Rattle.std.proofs.lemmas.Bool.{leb-true, le-leb, or_cases}
-use Rattle.std.proofs.lemmas.Option.{slice_get_within, slice_get-get_or}
 use Rattle.irq_base.specs.declared.entries.Actor.{Actor}
 use Rattle.irq_base.specs.declared.entries.Actor.TheVariants as actors
 use Rattle.irq_base.specs.declared.numbers.CpuNo.{CpuNo}
@@ -16,9 +14,6 @@ use Rattle.irq_steps.proofs.Same.{line_from_same, driver_from_same}
 use Rattle.irq_laws.proofs.Lists.{both_ways}
 use Rattle.irq_line.specs.Queries.{IsLowestThread}
 use Rattle.irq_line.specs.Seen.{LineSeen}
-use Rattle.board_def.specs.Rules.{IsBoard}
-use Rattle.board_def.specs.Seen.{BoardSeen}
-use Rattle.domain_rules.specs.declared.layouts.Placement.{Placement}
 use Rattle.board_def.specs.Rules.{has_driver}
 use Rattle.board_play.specs.Current.{current_line}
 use Rattle.board_play.specs.Lines.{BoardLine, Move, find_line}
@@ -27,31 +22,29 @@ use Rattle.board_play.proofs.KeptAlways.{apart_kept}
 use Rattle.board_play.proofs.Members.{AreApart, find_there, found}
 use Rattle.board_play.proofs.Moves.{line_stands}
 use Rattle.board_play.proofs.Script.{current}
-use Rattle.board_ready.specs.Kept.{thread_of}
-use Rattle.board_ready.specs.Ready.{cpu_line, can_go_on, current_call, is_driver_ready, lowest_thread, lowest_driver, lowest}
+use Rattle.board_ready.specs.Ready.{cpu_line, can_go_on, current_call, is_driver_ready, lowest}
 use Rattle.board_ready.specs.declared.parts.CurrentCall.{CurrentCall}
 use Rattle.board_ready.specs.declared.parts.LineReadiness.{LineReadiness}
-use Rattle.board_ready.specs.declared.parts.ReadyActor.TheVariants as readies
-use Rattle.board_ready.specs.declared.parts.ReadyThread.{ReadyThread}
-use Rattle.board_ready.proofs.Lowest.{first_some, thread_some}
-use Rattle.board_core.specs.Inside.{Parts, seen_of, IsKept}
+use Rattle.board_core.specs.Inside.{seen_of}
 use Rattle.board_core.specs.Scripts.{ScriptSeen}
 use Rattle.board_core.specs.Numbers.{IsPlaceOfNumber, numbers_of_drivers}
 use Rattle.board_core.specs.Places.{IsPlace}
 use Rattle.board_core.specs.ReadyFor.{IsReadinessOf, is_up_to, has_thread_up_to}
 use Rattle.board_core.specs.Seen.{SystemSeen, board_line, board_lines}
-use Rattle.board_core.specs.Stands.{IsCurrentAt, CanStepAt, IsCurrentOn, IsAt, IsStand, IsLowestStand, IsScriptPlace, IsStandOn}
+use Rattle.board_core.specs.Stands.{IsCurrentAt, CanStepAt, IsCurrentOn, IsAt, IsStand, IsScriptPlace, IsStandOn}
 use Rattle.board_core.specs.Turned.{IsScriptOf, StepsBy}
 use Rattle.board_core.specs.Turns.{move_of}
 use Rattle.board_core.specs.declared.turns.Turn.{Turn}
 use Rattle.board_core.specs.declared.stands.Stand.{Stand}
-use Rattle.board_core.proofs.LowestMover.{lowest_says, lowest_is_thread, lowest_is_cpu, lowest_is_driver, nobody, script_of, current_is, driver_ready_is}
-use Rattle.board_core.proofs.Movers.{some_of, none_of, some_with, not_both, cpu_stands, somebody, thread_moves, thread_ready, script_place}
-use Rattle.board_core.proofs.TurnLaws.{map_there, map_back}
+use Rattle.board_core.proofs.LowestMover.{script_of, current_is, driver_ready_is}
+use Rattle.board_core.proofs.Movers.{some_of, none_of, some_with, not_both, somebody, thread_moves, thread_ready, script_place}
+use Rattle.board_core.proofs.CpuMovers.{cpu_stands}
+use Rattle.board_core.proofs.InLists.{map_there, map_back}
+use Rattle.board_core.proofs.Kept.{KeptSystem}
 
-module _ (board : BoardSeen) (isb : IsBoard board) (layout : List Placement) (lines : List LineSeen)
-    (scripts : List ScriptSeen) (order : List ℕ) (parts : Parts) (is : IsKept board lines scripts order parts)
-    (view : SystemSeen) (v : seen_of board layout lines order ≡ view) where
+module _ {view : SystemSeen} (system : KeptSystem view) where
+  open system use {board, layout, lines, scripts, order, parts, is_board, kept, view_is}
+
   abbrev seen : SystemSeen
   seen = seen_of board layout lines order
 
@@ -60,39 +53,39 @@ module _ (board : BoardSeen) (isb : IsBoard board) (layout : List Placement) (li
   pub cpu_there : (c : CpuNo) (k : ℕ) (stand : Stand) → Some k ≡ cpu_line parts.ready.lines c.0
       → stand ≡ record { line = k; script = None } → IsStand view (actors.Cpu c) (Some stand)
   cpu_there c k stand at same =
-      let h = cpu_stands board isb lines scripts is.system parts.ready is.ready c (Some k) at in
+      let h = cpu_stands system c (Some k) at in
       let some = ap (λ (o : Option _). is_some o) h.1.1 in
-      subst (λ (s : SystemSeen). IsStand s (actors.Cpu c) (Some stand)) v
+      subst (λ (s : SystemSeen). IsStand s (actors.Cpu c) (Some stand)) view_is
       (subst (λ (t : Stand). IsStand seen (actors.Cpu c) (Some t)) (sym same) (
         record { line = h.0; script = tt },
         record {
           actor = some;
           somebody
-              = somebody board isb lines scripts is.system parts.ready is.ready (actors.Cpu c) h.1.0 h.1.1;
+              = somebody system (actors.Cpu c) h.1.0 h.1.1;
         },
       ))
 
   pub cpu_nowhere : (c : CpuNo) → None ≡ cpu_line parts.ready.lines c.0 → IsStand view (actors.Cpu c) None
-  cpu_nowhere c at = subst (λ (s : SystemSeen). IsStand s (actors.Cpu c) None) v (cpu_stands board isb lines scripts is.system parts.ready is.ready c None at)
+  cpu_nowhere c at = subst (λ (s : SystemSeen). IsStand s (actors.Cpu c) None) view_is (cpu_stands system c None at)
 
   -- ---- threads
 
   apart : AreApart (map (λ (x : BoardLine). x.def) (board_lines lines))
-  apart = apart_kept board isb (board_lines lines) is.system.kept
+  apart = apart_kept board is_board (board_lines lines) kept.system.kept
 
   -- the line that stands where its number does
   pub line_at : (k : ℕ) (line : LineNo) → slice_get parts.line_numbers k ≡ Some line.0 → (x : LineSeen) × (slice_get lines k ≡ Some x) × (x.def.line ≡ line)
   line_at k line at =
-      let x = map_back (λ (x : LineSeen). x.def.line.0) lines k line.0 (ap (λ (ns : List ℕ). slice_get ns k) (sym is.line_numbers) ∙ at) in
+      let x = map_back (λ (x : LineSeen). x.def.line.0) lines k line.0 (ap (λ (ns : List ℕ). slice_get ns k) (sym kept.line_numbers) ∙ at) in
       (x.0, x.1, line_from_same x.0.def.line line (eq-eqb x.0.def.line.0 line.0 x.2))
 
-  place_is : (k : ℕ) (x : LineSeen) → slice_get lines k ≡ Some x → IsPlace (board_lines lines) (Some k) (find_line (board_lines lines) x.def.line)
+  pub place_is : (k : ℕ) (x : LineSeen) → slice_get lines k ≡ Some x → IsPlace (board_lines lines) (Some k) (find_line (board_lines lines) x.def.line)
   place_is k x at =
       let f = find_there (board_lines lines) apart k (board_line x) (map_there board_line lines k x at) in
       (ap (λ (o : Option BoardLine). is_some o) f, map_there board_line lines k x at ∙ sym f)
 
   part_there : (k : ℕ) (x : LineSeen) → slice_get lines k ≡ Some x → (p : LineReadiness) × (slice_get parts.ready.lines k ≡ Some p) × IsReadinessOf x p
-  part_there k x at = some_with (IsReadinessOf x) (slice_get parts.ready.lines k) (is.ready.each_line k x at)
+  part_there k x at = some_with (IsReadinessOf x) (slice_get parts.ready.lines k) (kept.ready.each_line k x at)
 
   pub thread_there : (line : LineNo) (d : DevNo) (k : ℕ) (stand : Stand) → slice_get parts.line_numbers k ≡ Some line.0
       → has_thread_up_to (slice_get parts.ready.lines k) d ≡ true → stand ≡ record { line = k; script = None }
@@ -101,7 +94,7 @@ module _ (board : BoardSeen) (isb : IsBoard board) (layout : List Placement) (li
       let x = line_at k line at in
       let p = part_there k x.0 x.1 in
       let h = by_thread x.0 x.1 p.0.thread p.2.thread (ap (λ (o : Option LineReadiness). has_thread_up_to o d) (sym p.1) ∙ up_to) in
-      subst (λ (s : SystemSeen). IsStand s (actors.Thread line d) (Some stand)) v
+      subst (λ (s : SystemSeen). IsStand s (actors.Thread line d) (Some stand)) view_is
       (subst (λ (t : Stand). IsStand seen (actors.Thread line d) (Some t)) (sym same)
       (subst (λ (l : LineNo). IsStand seen (actors.Thread l d) (Some (record { line = k; script = None }))) x.2 h))
     where
@@ -109,11 +102,11 @@ module _ (board : BoardSeen) (isb : IsBoard board) (layout : List Placement) (li
           → is_up_to d o ≡ true → IsStand seen (actors.Thread x.def.line d) (Some (record { line = k; script = None }))
       by_thread x at None low up_to = cc
       by_thread x at (Some lowest) low up_to =
-          let m = thread_moves board isb lines scripts is.system parts.ready is.ready k x lowest at low.0 in (
+          let m = thread_moves system k x lowest at low.0 in (
             record { line = place_is k x at; script = tt },
             record {
               actor = (lowest, leb-true lowest.0 d.0 up_to, ap (λ (o : Option Move). is_some o) m.1);
-              somebody = somebody board isb lines scripts is.system parts.ready is.ready (actors.Thread x.def.line lowest) m.0 m.1;
+              somebody = somebody system (actors.Thread x.def.line lowest) m.0 m.1;
             },
           )
 
@@ -123,7 +116,7 @@ module _ (board : BoardSeen) (isb : IsBoard board) (layout : List Placement) (li
   thread_below line d k at above =
       let x = line_at k line at in
       let p = part_there k x.0 x.1 in
-      subst (λ (s : SystemSeen). IsStand s (actors.Thread line d) None) v
+      subst (λ (s : SystemSeen). IsStand s (actors.Thread line d) None) view_is
       (subst (λ (l : LineNo). IsStand seen (actors.Thread l d) None) x.2
       (by_thread x.0 x.1 p.0.thread p.2.thread (ap (λ (o : Option LineReadiness). has_thread_up_to o d) (sym p.1)
       ∙ above) (next x.0.def x.0.entries (actors.Thread x.0.def.line d)) refl))
@@ -141,15 +134,15 @@ module _ (board : BoardSeen) (isb : IsBoard board) (layout : List Placement) (li
           (le-leb lowest.0 d.0 (low.1 d (ap (λ (y : Option Entry). is_some y) due))) above)
 
   pub thread_nowhere : (line : LineNo) (d : DevNo) → ((k : ℕ) → slice_get parts.line_numbers k ≡ Some line.0 → ⊥) → IsStand view (actors.Thread line d) None
-  thread_nowhere line d none = subst (λ (s : SystemSeen). IsStand s (actors.Thread line d) None) v
+  thread_nowhere line d none = subst (λ (s : SystemSeen). IsStand s (actors.Thread line d) None) view_is
       (by_move (due_move board (board_lines lines) (actors.Thread line d)) refl)
     where
       by_move : (o : Option Move) → due_move board (board_lines lines) (actors.Thread line d) ≡ o
           → due_move board (board_lines lines) (actors.Thread line d) ≡ None
       by_move None due = due
       by_move (Some m) due =
-          let t = thread_ready board isb lines scripts is.system parts.ready is.ready line d m due in
-          absurd (none t.0 (ap (λ (ns : List ℕ). slice_get ns t.0) is.line_numbers
+          let t = thread_ready system line d m due in
+          absurd (none t.0 (ap (λ (ns : List ℕ). slice_get ns t.0) kept.line_numbers
           ∙ (map_there (λ (x : LineSeen). x.def.line.0) lines t.0 t.1 t.4
           ∙ ap (λ (l : LineNo). Some l.0) (sym t.5))))
 
@@ -157,23 +150,23 @@ module _ (board : BoardSeen) (isb : IsBoard board) (layout : List Placement) (li
 
   pub driver_at : (j : ℕ) (d : DriverNo) → slice_get parts.driver_numbers j ≡ Some d.0 → slice_get board.drivers j ≡ Some d
   driver_at j d at =
-      let x = map_back (λ (x : DriverNo). x.0) board.drivers j d.0 (ap (λ (ns : List ℕ). slice_get ns j) (sym is.driver_numbers) ∙ at) in
+      let x = map_back (λ (x : DriverNo). x.0) board.drivers j d.0 (ap (λ (ns : List ℕ). slice_get ns j) (sym kept.driver_numbers) ∙ at) in
       x.1 ∙ ap (λ (y : DriverNo). Some y) (driver_from_same x.0 d (eq-eqb x.0.0 d.0 x.2))
 
-  at_script : (j : ℕ) (s : ScriptSeen) (call : CurrentCall) (m : Move) → slice_get scripts j ≡ Some s
+  pub at_script : (j : ℕ) (s : ScriptSeen) (call : CurrentCall) (m : Move) → slice_get scripts j ≡ Some s
       → current_call parts.ready.drivers j ≡ Some call
       → due_move board (board_lines lines) (actors.Driver s.driver) ≡ Some m
       → IsStand seen (actors.Driver s.driver) (Some (record { line = call.line; script = Some j }))
   at_script j s call m at called due = (
     record {
-      line = script_place board isb lines scripts is.system parts.ready is.ready j s call at
-          (sym (current_is board isb lines scripts is.system parts.ready is.ready j s at) ∙ called);
-      script = ap (λ (ds : List DriverNo). slice_get ds j) (sym is.system.drivers) ∙ map_there (λ (x : ScriptSeen). x.driver) scripts j s at;
+      line = script_place system j s call at
+          (sym (current_is system j s at) ∙ called);
+      script = ap (λ (ds : List DriverNo). slice_get ds j) (sym kept.system.drivers) ∙ map_there (λ (x : ScriptSeen). x.driver) scripts j s at;
     },
     record {
       actor = ap (λ (o : Option Move). is_some o) due;
       somebody
-          = somebody board isb lines scripts is.system parts.ready is.ready (actors.Driver s.driver) m due;
+          = somebody system (actors.Driver s.driver) m due;
     },
   )
 
@@ -182,10 +175,10 @@ module _ (board : BoardSeen) (isb : IsBoard board) (layout : List Placement) (li
       → Some call ≡ current_call parts.ready.drivers j → stand ≡ record { line = call.line; script = Some j }
       → IsStand view (actors.Driver d) (Some stand)
   driver_there d j call stand at can called same =
-      let s = script_of board isb lines scripts is.system parts.ready is.ready j d (driver_at j d at) in
+      let s = script_of system j d (driver_at j d at) in
       let m = some_of (due_move board (board_lines lines) (actors.Driver s.0.driver))
-      (sym (driver_ready_is board isb lines scripts is.system parts.ready is.ready j s.0 s.1) ∙ can) in
-      subst (λ (w : SystemSeen). IsStand w (actors.Driver d) (Some stand)) v
+      (sym (driver_ready_is system j s.0 s.1) ∙ can) in
+      subst (λ (w : SystemSeen). IsStand w (actors.Driver d) (Some stand)) view_is
       (subst (λ (t : Stand). IsStand seen (actors.Driver d) (Some t)) (sym same)
       (subst (λ (x : DriverNo). IsStand seen (actors.Driver x) (Some (record { line = call.line; script = Some j })))
       s.2 (at_script j s.0 call m.0 s.1 (sym called) m.1)))
@@ -193,11 +186,11 @@ module _ (board : BoardSeen) (isb : IsBoard board) (layout : List Placement) (li
   pub driver_waits : (d : DriverNo) (j : ℕ) → slice_get parts.driver_numbers j ≡ Some d.0
       → is_driver_ready parts.ready j ≡ false → IsStand view (actors.Driver d) None
   driver_waits d j at waits =
-      let s = script_of board isb lines scripts is.system parts.ready is.ready j d (driver_at j d at) in
-      subst (λ (w : SystemSeen). IsStand w (actors.Driver d) None) v
+      let s = script_of system j d (driver_at j d at) in
+      subst (λ (w : SystemSeen). IsStand w (actors.Driver d) None) view_is
       (subst (λ (x : DriverNo). IsStand seen (actors.Driver x) None) s.2
       (none_of (due_move board (board_lines lines) (actors.Driver s.0.driver))
-      (sym (driver_ready_is board isb lines scripts is.system parts.ready is.ready j s.0 s.1) ∙ waits)))
+      (sym (driver_ready_is system j s.0 s.1) ∙ waits)))
 
   -- without a current call it isn't ready
   pub driver_ends : (d : DriverNo) (j : ℕ) → slice_get parts.driver_numbers j ≡ Some d.0
@@ -221,114 +214,19 @@ module _ (board : BoardSeen) (isb : IsBoard board) (layout : List Placement) (li
           let k = current (board_lines lines) d [] board.calls x its in
           let declared : has_driver board.drivers d ≡ true
           = ap (λ (r : DriverNo). has_driver board.drivers r) (driver_from_same d k.call.driver k.mine)
-          ∙ (isb.calls k.place k.call k.at).driver in
+          ∙ (is_board.calls k.place k.call k.at).driver in
           let p = place_of_driver board.drivers declared in
-          absurd (none p.0 (ap (λ (ns : List ℕ). slice_get ns p.0) is.driver_numbers ∙ p.1))
+          absurd (none p.0 (ap (λ (ns : List ℕ). slice_get ns p.0) kept.driver_numbers ∙ p.1))
 
   pub driver_nowhere : (d : DriverNo) → ((j : ℕ) → slice_get parts.driver_numbers j ≡ Some d.0 → ⊥) → IsStand view (actors.Driver d) None
-  driver_nowhere d none = subst (λ (w : SystemSeen). IsStand w (actors.Driver d) None) v
+  driver_nowhere d none = subst (λ (w : SystemSeen). IsStand w (actors.Driver d) None) view_is
       (ap (λ (o : Option BoardLine). due_on o (actors.Driver d)) (no_call d none))
-
-  -- ---- the lowest
-
-  pub lowest_thread_stands : (t : ReadyThread) (line : LineNo) (stand : Stand)
-      → Some (readies.Thread t) ≡ lowest parts.ready → slice_get parts.line_numbers t.line ≡ Some line.0
-      → stand ≡ record { line = t.line; script = None }
-      → IsLowestStand view (Some (actors.Thread line t.dev, stand))
-  lowest_thread_stands t line stand is_lowest at same =
-      let low = lowest_says parts.ready (Some (readies.Thread t)) is_lowest in
-      let x = line_at t.line line at in
-      let h = lowest_is_thread board isb lines scripts is.system parts.ready is.ready t x.0 low x.1 in
-      let stands : IsLowestStand seen (Some (actors.Thread x.0.def.line t.dev, record { line = t.line; script = None })) =
-      (record { line = place_is t.line x.0 x.1; script = tt }, h.2 ∙ sym h.1, ap (λ (o : Option Move). is_some o) h.1) in
-      subst (λ (w : SystemSeen). IsLowestStand w (Some (actors.Thread line t.dev, stand))) v
-      (subst (λ (u : Stand). IsLowestStand seen (Some (actors.Thread line t.dev, u))) (sym same)
-      (subst (λ (l : LineNo). IsLowestStand seen (Some
-      (actors.Thread l t.dev, record { line = t.line; script = None }))) x.2 stands))
-
-  pub lowest_cpu_stands : (c : CpuNo) (k : ℕ) (stand : Stand) → Some (readies.Cpu c) ≡ lowest parts.ready
-      → Some k ≡ cpu_line parts.ready.lines c.0 → stand ≡ record { line = k; script = None }
-      → IsLowestStand view (Some (actors.Cpu c, stand))
-  lowest_cpu_stands c k stand is_lowest at same =
-      let low = lowest_says parts.ready (Some (readies.Cpu c)) is_lowest in
-      let h = lowest_is_cpu board isb lines scripts is.system parts.ready is.ready c low.0 low.1 in
-      let p = cpu_stands board isb lines scripts is.system parts.ready is.ready c (Some k) at in
-      let stands : IsLowestStand seen (Some (actors.Cpu c, record { line = k; script = None }))
-      = (record { line = p.0; script = tt }, h.4 ∙ sym h.3, ap (λ (o : Option Move). is_some o) h.3) in
-      subst (λ (w : SystemSeen). IsLowestStand w (Some (actors.Cpu c, stand))) v
-      (subst (λ (u : Stand). IsLowestStand seen (Some (actors.Cpu c, u))) (sym same) stands)
-
-  pub lowest_cpu_there : (c : CpuNo) → Some (readies.Cpu c) ≡ lowest parts.ready → None ≡ cpu_line parts.ready.lines c.0 → IsLowestStand view None
-  lowest_cpu_there c is_lowest none =
-      let low = lowest_says parts.ready (Some (readies.Cpu c)) is_lowest in
-      let h = lowest_is_cpu board isb lines scripts is.system parts.ready is.ready c low.0 low.1 in
-      absurd (not_both (cpu_line parts.ready.lines c.0) h.1 (sym none) h.2)
-
-  pub lowest_driver_stands : (j : ℕ) (d : DriverNo) (call : CurrentCall) (stand : Stand)
-      → Some (readies.Driver j) ≡ lowest parts.ready → slice_get parts.driver_numbers j ≡ Some d.0
-      → Some call ≡ current_call parts.ready.drivers j
-      → stand ≡ record { line = call.line; script = Some j } → IsLowestStand view (Some (actors.Driver d, stand))
-  lowest_driver_stands j d call stand is_lowest at called same =
-      let low = lowest_says parts.ready (Some (readies.Driver j)) is_lowest in
-      let h = lowest_is_driver board isb lines scripts is.system parts.ready is.ready j d low.0 low.1 low.2 (driver_at j d at) in
-      let s = script_of board isb lines scripts is.system parts.ready is.ready j d (driver_at j d at) in
-      let stands : IsLowestStand seen (Some (actors.Driver d, record { line = call.line; script = Some j })) = (
-        subst (λ (x : DriverNo). IsAt seen (actors.Driver x) (record { line = call.line; script = Some j })) s.2
-            (at_script j s.0 call h.0 s.1 (sym called) (ap
-            (λ (x : DriverNo). due_move board (board_lines lines) (actors.Driver x)) s.2 ∙ h.1)).0,
-        h.2
-            ∙ sym h.1,
-        ap (λ (o : Option Move). is_some o) h.1,
-      ) in
-      subst (λ (w : SystemSeen). IsLowestStand w (Some (actors.Driver d, stand))) v
-      (subst (λ (u : Stand). IsLowestStand seen (Some (actors.Driver d, u))) (sym same) stands)
-
-  pub lowest_driver_there : (j : ℕ) → Some (readies.Driver j) ≡ lowest parts.ready → None ≡ current_call parts.ready.drivers j → IsLowestStand view None
-  lowest_driver_there j is_lowest none =
-      let low = lowest_says parts.ready (Some (readies.Driver j)) is_lowest in
-      let f = first_some (is_driver_ready parts.ready) (length parts.ready.drivers) j low.2 in
-      absurd (both_ways (is_driver_ready parts.ready j) f.1 (ap (λ (o : Option CurrentCall). can_go_on parts.ready.lines o) (sym none)))
-
-  pub nobody_stands : None ≡ lowest parts.ready → IsLowestStand view None
-  nobody_stands is_lowest =
-      let low = lowest_says parts.ready None is_lowest in
-      subst (λ (w : SystemSeen). IsLowestStand w None) v
-      (nobody board isb lines scripts is.system parts.ready is.ready low.0 low.1 low.2)
-
-  -- the bounds of the places
-  pub line_number_within : (t : ReadyThread) → lowest_thread parts.ready.lines ≡ Some t → t.line < length parts.line_numbers
-  line_number_within t low =
-      let within = part_within (slice_get parts.ready.lines t.line) (thread_some parts.ready.lines t low) refl in
-      let a = is.ready.all_lines in
-      let b = ap (λ (ns : List ℕ). length ns) is.line_numbers in
-      let c = length-map lines (λ (x : LineSeen). x.def.line.0) in
-      omega (arith, within, a, b, c)
-    where
-      part_within : (o : Option LineReadiness) → thread_of o ≡ Some t.dev → slice_get parts.ready.lines t.line ≡ o → t.line < length parts.ready.lines
-      part_within None h at = cc
-      part_within (Some p) h at = slice_get_within parts.ready.lines t.line p at
-
-  pub line_number_there : (t : ReadyThread) → Some (readies.Thread t) ≡ lowest parts.ready → t.line < length parts.line_numbers
-  line_number_there t is_lowest = line_number_within t (lowest_says parts.ready (Some (readies.Thread t)) is_lowest)
-
-  pub driver_number_within : (j : ℕ) → lowest_driver parts.ready ≡ Some j → j < length parts.driver_numbers
-  driver_number_within j low =
-      let f = (first_some (is_driver_ready parts.ready) (length parts.ready.drivers) j low).0 in
-      let a = is.ready.all_drivers in
-      let b = ap (λ (ns : List ℕ). length ns) is.driver_numbers in
-      let c = length-map board.drivers (λ (x : DriverNo). x.0) in
-      let d = ap (λ (rs : List DriverNo). length rs) is.system.drivers in
-      let e = length-map scripts (λ (s : ScriptSeen). s.driver) in
-      omega (arith, f, a, b, c, d, e)
-
-  pub driver_number_there : (j : ℕ) → Some (readies.Driver j) ≡ lowest parts.ready → j < length parts.driver_numbers
-  driver_number_there j is_lowest = driver_number_within j (lowest_says parts.ready (Some (readies.Driver j)) is_lowest).2
 
   -- ---- a line by its number
 
   pub script_there : (d : DriverNo) (numbers : List ℕ) (o : Option ℕ) → numbers ≡ parts.driver_numbers
       → IsPlaceOfNumber numbers d.0 o → IsScriptPlace view (actors.Driver d) o
-  script_there d numbers o same place = subst (λ (s : SystemSeen). IsScriptPlace s (actors.Driver d) o) v
+  script_there d numbers o same place = subst (λ (s : SystemSeen). IsScriptPlace s (actors.Driver d) o) view_is
       (by_place o (subst (λ (ns : List ℕ). IsPlaceOfNumber ns d.0 o) same place))
     where
       by_place : (o : Option ℕ) → IsPlaceOfNumber parts.driver_numbers d.0 o → IsScriptPlace seen (actors.Driver d) o
@@ -336,7 +234,7 @@ module _ (board : BoardSeen) (isb : IsBoard board) (layout : List Placement) (li
       by_place (Some j) at = driver_at j d at
 
   pub line_nowhere : (line : LineNo) → ((k : ℕ) → slice_get parts.line_numbers k ≡ Some line.0 → ⊥) → find_line (board_lines view.lines) line ≡ None
-  line_nowhere line none = subst (λ (s : SystemSeen). find_line (board_lines s.lines) line ≡ None) v (by_line (find_line (board_lines lines) line) refl)
+  line_nowhere line none = subst (λ (s : SystemSeen). find_line (board_lines s.lines) line ≡ None) view_is (by_line (find_line (board_lines lines) line) refl)
     where
       by_line : (o : Option BoardLine) → find_line (board_lines lines) line ≡ o → find_line (board_lines lines) line ≡ None
       by_line None is_none = is_none
@@ -344,7 +242,7 @@ module _ (board : BoardSeen) (isb : IsBoard board) (layout : List Placement) (li
           let f = found (board_lines lines) line y there in
           let x = map_back board_line lines f.place y f.at in
           let number : x.0.def.line ≡ line = ap (λ (z : BoardLine). z.def.line) x.2 ∙ sym f.number in
-          absurd (none f.place (ap (λ (ns : List ℕ). slice_get ns f.place) is.line_numbers
+          absurd (none f.place (ap (λ (ns : List ℕ). slice_get ns f.place) kept.line_numbers
           ∙ (map_there (λ (x : LineSeen). x.def.line.0) lines f.place x.0 x.1
           ∙ ap (λ (l : LineNo). Some l.0) number)))
 
@@ -355,10 +253,10 @@ module _ (board : BoardSeen) (isb : IsBoard board) (layout : List Placement) (li
       let x = line_at k line at in
       let place = subst (λ (l : LineNo). IsPlace (board_lines lines) (Some k) (find_line (board_lines lines) l)) x.2 (place_is k x.0 x.1) in
       let here : slice_get (board_lines lines) k ≡ Some (board_line x.0) = map_there board_line lines k x.0 x.1 in
-      let w : seen ≡ view = v in
+      let w : seen ≡ view = view_is in
       let current_now = subst (λ (s : SystemSeen). IsCurrentOn s line a) (sym w) cur in
       let its = subst (λ (s : SystemSeen). IsScriptPlace s a o) (sym w) script in
-      subst (λ (s : SystemSeen). IsStandOn s line a (Some stand)) v
+      subst (λ (s : SystemSeen). IsStandOn s line a (Some stand)) view_is
       (subst (λ (t : Stand). IsStandOn seen line a (Some t)) (sym same) (
         record {
           line = ap (λ (o : Option BoardLine). is_some o) here;
@@ -386,18 +284,19 @@ module _ (board : BoardSeen) (isb : IsBoard board) (layout : List Placement) (li
       is_script (actors.Thread l d) o cur its = its
 
 -- what a search by number answers
-pub number_there : (numbers items : List ℕ) (n k : ℕ) (o : Option ℕ) → numbers ≡ items → IsPlaceOfNumber numbers n o → o ≡ Some k → slice_get items k ≡ Some n
-number_there numbers items n k o same place some = subst (λ (ns : List ℕ). IsPlaceOfNumber ns n (Some k)) same
+pub number_there : {numbers items : List ℕ} (n : ℕ) {k : ℕ} {o : Option ℕ} → numbers ≡ items
+    → IsPlaceOfNumber numbers n o → o ≡ Some k → slice_get items k ≡ Some n
+number_there {numbers} n {k} same place some = subst (λ (ns : List ℕ). IsPlaceOfNumber ns n (Some k)) same
     (subst (λ (p : Option ℕ). IsPlaceOfNumber numbers n p) some place)
 
-pub number_nowhere : (numbers items : List ℕ) (n : ℕ) (o : Option ℕ) → numbers ≡ items → IsPlaceOfNumber numbers n o
+pub number_nowhere : {numbers items : List ℕ} (n : ℕ) {o : Option ℕ} → numbers ≡ items → IsPlaceOfNumber numbers n o
     → o ≡ None → (k : ℕ) → slice_get items k ≡ Some n → ⊥
-number_nowhere numbers items n o same place none = subst (λ (ns : List ℕ). IsPlaceOfNumber ns n None) same
+number_nowhere {numbers} n same place none = subst (λ (ns : List ℕ). IsPlaceOfNumber ns n None) same
     (subst (λ (p : Option ℕ). IsPlaceOfNumber numbers n p) none place)
 
--- the number that is read at a place
-pub number_read : (numbers : List ℕ) (k n : ℕ) → k < length numbers → n ≡ get_or numbers k 0 → slice_get numbers k ≡ Some n
-number_read numbers k n within is = slice_get-get_or numbers k 0 within ∙ ap (λ (m : ℕ). Some m) (sym is)
+-- what is asked for, by the arm that its answer took
+pub told_by_arm : {A : Type 0} {answer asked : Option A} {x y : A} → answer ≡ Some y → y ≡ x → answer ≡ asked → Some x ≡ asked
+told_by_arm is same ensures = ap (λ (z : _). Some z) (sym same) ∙ (sym is ∙ ensures)
 
 -- ---- a step at a stand
 

@@ -4,7 +4,6 @@ use Rattle.std.proofs.Common.{Some, None, Result, Ok, Err, List, [], ◌∷◌, 
 use Rattle.std.proofs.Common.{replicate, slice_get, IfSome, refl, sym, ap, ◌∙◌, subst, arith, add-one, zero-add}
 use Rattle.std.proofs.Common.{length-append}
 use Rattle.std.specs.List.{All}
-use Rattle.std.proofs.Math.ListN.{length-map}
 use Rattle.std.proofs.lemmas.Bool.Decides.{nat_tests}
 use Rattle.std.proofs.lemmas.List.{length-set, reverse-append, length-reverse, get_or-reverse, get_or-set_same, get_or-set_other}
 use Rattle.std.proofs.lemmas.List.Elements.{All-head, All-tail, All-append, All-nil}
@@ -27,7 +26,7 @@ use Rattle.board_core.specs.Log.{older, without_newest, with_newest, merged, mov
 use Rattle.irq_base.specs.declared.numbers.LineNo.{LineNo}
 use Rattle.board_core.specs.Seen.{board_line, board_lines}
 use Rattle.board_core.proofs.Searches.{there, dropped}
-use Rattle.board_core.proofs.TurnLaws.{set_there, set_other, set_cases, map_there}
+use Rattle.board_core.proofs.InLists.{set_there, set_other, set_cases, map_there}
 
 -- ---- the oldest of the moves
 
@@ -193,9 +192,9 @@ pub record NextAt (cursors order : List ℕ) (at k : ℕ) (lines : List LineSeen
   pub next : NextMove cursors k (drop (at + 1) order) lines
   pub moves : moves_of (drop at order) lines ≡ (next.line.def.line, next.entry) ∷ moves_of (drop (at + 1) order) lines
 
-pub next_at : (cursors order : List ℕ) (at k : ℕ) (lines : List LineSeen) → slice_get order at ≡ Some k
+pub next_at : (order : List ℕ) (at : ℕ) {cursors : List ℕ} {k : ℕ} {lines : List LineSeen} → slice_get order at ≡ Some k
     → IsWalk cursors (drop at order) lines → NextAt cursors order at k lines
-next_at cursors order at k lines here w =
+next_at order at {cursors} {k} {lines} here w =
     let left : drop at order ≡ k ∷ drop (at + 1) order = dropped order at k here ∙ ap (λ (n : ℕ). k ∷ drop n order) (sym (add-one at)) in
     let v = subst (λ (ks : List ℕ). IsWalk cursors ks lines) left w in
     let n = next_move cursors k (drop (at + 1) order) lines v in
@@ -301,19 +300,11 @@ walk_new board lines isb new order none =
     no_entries : (x : LineSeen) → reverse x.entries ≡ [] → length x.entries ≡ 0
     no_entries x none = sym (length-reverse x.entries) ∙ ap (λ (es : List Entry). length es) none
 
--- what a walk answers
-pub rest_left : (cursors order : List ℕ) (at k : ℕ) (lines : List LineSeen) (view : List Move)
-    → slice_get order at ≡ Some k → IsWalk cursors (drop at order) lines → view ≡ moves_of (drop at order) lines
-    → moves_of (drop (at + 1) order) lines ≡ drop 1 view
-rest_left cursors order at k lines view here w is = let n = next_at cursors order at k lines here w in sym (ap (λ (g : List Move). drop 1 g) (is ∙ n.moves))
+-- ---- what a walk answers
 
-pub within_lines : {X : Type 0} (f : X → LineSeen) (cursors order : List ℕ) (at k : ℕ) (xs : List X)
-    → slice_get order at ≡ Some k → IsWalk cursors (drop at order) (map f xs) → k < length xs
-within_lines f cursors order at k xs here w = let l = (next_at cursors order at k (map f xs) here w).within in let m = length-map xs f in omega (arith, l, m)
-
-pub none_left : (order : List ℕ) (at : ℕ) (lines : List LineSeen) (view : List Move) (o : Option ℕ)
-    → o ≡ slice_get order at → o ≡ None → view ≡ moves_of (drop at order) lines → view ≡ []
-none_left order at lines view o its none is = is ∙ ap (λ (ks : List ℕ). moves_of ks lines) (past_end order at (sym its ∙ none))
+pub none_left : (order : List ℕ) (at : ℕ) (lines : List LineSeen) {view : List Move} {o : Option ℕ} → o ≡ slice_get order at
+    → o ≡ None → view ≡ moves_of (drop at order) lines → view ≡ []
+none_left order at lines its none is = is ∙ ap (λ (ks : List ℕ). moves_of ks lines) (past_end order at (sym its ∙ none))
   where
     past_end : (xs : List ℕ) (i : ℕ) → slice_get xs i ≡ None → drop i xs ≡ []
     past_end [] zero end = refl
@@ -321,21 +312,23 @@ none_left order at lines view o its none is = is ∙ ap (λ (ks : List ℕ). mov
     past_end (x ∷ xs) zero end = cc
     past_end (x ∷ xs) (suc i) end = past_end xs i end
 
--- where the next of them stands
-module _ (cursors order : List ℕ) (at k : ℕ) (lines : List LineSeen) (here : slice_get order at ≡ Some k) (w : IsWalk cursors (drop at order) lines) where
+module _ {cursors order : List ℕ} {at k : ℕ} {lines : List LineSeen} (n : NextAt cursors order at k lines) where
   pub cursor_within : IfSome (slice_get lines k) (λ (x : LineSeen). get_or cursors k 0 < length x.entries)
   cursor_within =
-      let n = (next_at cursors order at k lines here w).next in
-      subst (λ (o : Option LineSeen). IfSome o (λ (x : LineSeen). get_or cursors k 0 < length x.entries)) (sym n.at)
-      (slice_get_within n.line.entries (get_or cursors k 0) n.entry n.entry_at)
+      subst (λ (o : Option LineSeen). IfSome o (λ (x : LineSeen). get_or cursors k 0 < length x.entries)) (sym n.next.at)
+      (slice_get_within n.next.line.entries (get_or cursors k 0) n.next.entry n.next.entry_at)
 
-  pub stands_left : (view : List Move) → view ≡ moves_of (drop at order) lines → (line : LineNo) (entries : List Entry) (place : ℕ)
-      → IfSome (slice_get lines k) (λ (x : LineSeen). (line ≡ x.def.line) × (entries ≡ x.entries)) → place ≡ get_or cursors k 0
-      → StandsAt line entries place (slice_get view 0)
-  stands_left view is line entries place its same =
-      let n = next_at cursors order at k lines here w in
-      let of = subst (λ (o : Option LineSeen). IfSome o (λ (x : LineSeen). (line ≡ x.def.line) × (entries ≡ x.entries))) n.next.at its in (
-        n.next.entry,
-        ap (λ (es : List Entry). slice_get es place) of.1 ∙ (ap (λ (i : ℕ). slice_get n.next.line.entries i) same ∙ n.next.entry_at),
-        ap (λ (g : List Move). slice_get g 0) (is ∙ n.moves) ∙ ap (λ (l : LineNo). Some (l, n.next.entry)) (sym of.0),
-      )
+  module _ {view : List Move} (is : view ≡ moves_of (drop at order) lines) where
+    pub rest_left : moves_of (drop (at + 1) order) lines ≡ drop 1 view
+    rest_left = sym (ap (λ (g : List Move). drop 1 g) (is ∙ n.moves))
+
+    -- where the next of them stands
+    pub stands_left : (line : LineNo) (entries : List Entry) (place : ℕ)
+        → IfSome (slice_get lines k) (λ (x : LineSeen). (line ≡ x.def.line) × (entries ≡ x.entries)) → place ≡ get_or cursors k 0
+        → StandsAt line entries place (slice_get view 0)
+    stands_left line entries place its same =
+        let of = subst (λ (o : Option LineSeen). IfSome o (λ (x : LineSeen). (line ≡ x.def.line) × (entries ≡ x.entries))) n.next.at its in (
+          n.next.entry,
+          ap (λ (es : List Entry). slice_get es place) of.1 ∙ (ap (λ (i : ℕ). slice_get n.next.line.entries i) same ∙ n.next.entry_at),
+          ap (λ (g : List Move). slice_get g 0) (is ∙ n.moves) ∙ ap (λ (l : LineNo). Some (l, n.next.entry)) (sym of.0),
+        )

@@ -1,6 +1,6 @@
 -- For which step of a system memory was refused.
-use Rattle.std.proofs.Common.{◌≡◌, ℕ, ◌<◌, IsSome, Option, Some, List, [], ◌∷◌, length, reverse, get_or, drop, slice_get, sym, ◌∙◌}
-use Rattle.std.proofs.Common.{subst, arith, ◌+◌}
+use Rattle.std.proofs.Common.{◌≡◌, ℕ, IsSome, Option, Some, List, [], ◌∷◌, length, reverse, slice_get, sym, ◌∙◌}
+use Rattle.std.proofs.Common.{subst, arith}
 use Rattle.irq_base.specs.declared.entries.Actor.{Actor}
 use Rattle.irq_base.specs.declared.entries.Actor.TheVariants as actors
 use Rattle.irq_base.specs.declared.entries.Entry.{Entry}
@@ -10,12 +10,13 @@ use Rattle.board_play.specs.Play.{choice}
 use Rattle.board_core.specs.Playing.{IsUnderway}
 use Rattle.board_core.specs.Seen.{SystemSeen, board_lines}
 use Rattle.board_core.specs.Stands.{IsAt}
-use Rattle.board_core.specs.Turns.{CanMove, MayMove, Turns, TurnsBy, lowest_move, move_of}
+use Rattle.board_core.specs.Turns.{CanMove, MayMove, MayWant, lowest_move, move_of}
 use Rattle.board_core.specs.Wanted.{HasSpare, LowestWants, WantedMemory, Wants, WantsLowest, WantsNext, WantsOn}
 use Rattle.board_core.specs.declared.stands.Stand.{Stand}
 use Rattle.board_core.specs.declared.turns.Turn.{Turn}
 use Rattle.board_core.specs.declared.turns.Turn.TheVariants as turns
-use Rattle.board_core.proofs.Underway.{at_pick, lowest_next, some_choice, with_move}
+use Rattle.board_core.proofs.LowestTurns.{LowestTurn, answered, lowest_next}
+use Rattle.board_core.proofs.Underway.{PickTurn, pick, after, pick_next, answered as pick_answered, some_choice, with_move}
 
 module _ (may_want : Option Entry → Type 0) where
   -- where the actor steps
@@ -30,10 +31,9 @@ module _ (may_want : Option Entry → Type 0) where
   lowest_wants s a turns.NoMemory lowest wants = record { actor = a; lowest = lowest; step = wants }
 
   -- the lowest actor's turn ends a settling
-  pub lowest_ends : (old new : SystemSeen) (turn : Turn) → turn ≡ turns.NoMemory → TurnsBy old (lowest_move old) turn new
-      → LowestWants may_want old turn → WantsLowest may_want new
-  lowest_ends old new turn same t wants =
-      let refused = subst (λ (x : Turn). TurnsBy old (lowest_move old) x new) same t in
+  pub lowest_ends : {old new : SystemSeen} (t : LowestTurn old new) → t.turn ≡ turns.NoMemory → LowestWants may_want old t.turn → WantsLowest may_want new
+  lowest_ends {old} {new} t same wants =
+      let refused : IsSome (lowest_move old) × (new ≡ old) = answered t turns.NoMemory same in
       subst (λ (s : SystemSeen). WantsLowest may_want s) (sym refused.1) (subst (λ (x : Turn). LowestWants may_want old x) same wants)
 
   may_move : (s : SystemSeen) (a : Actor) → IsSome (move_of s a) → MayMove s a
@@ -66,11 +66,10 @@ module _ (may_want : Option Entry → Type 0) where
         step = subst (λ (ls : List BoardLine). WantedMemory may_want (HasSpare s.lines) (length s.log) (line_for s.board ls a) a) u.lines step;
       }
 
-  pub lowest_ends_play : (old new : SystemSeen) (picks : List Actor) (turn : Turn) → IsUnderway old picks []
-      → turn ≡ turns.NoMemory → TurnsBy old (lowest_move old) turn new → LowestWants may_want old turn
-      → WantsNext may_want (HasSpare new.lines) new.board picks new.log
-  lowest_ends_play old new picks turn u same t wants =
-      let refused = subst (λ (x : Turn). TurnsBy old (lowest_move old) x new) same t in
+  pub lowest_ends_play : {old new : SystemSeen} (t : LowestTurn old new) {picks : List Actor} → IsUnderway old picks []
+      → t.turn ≡ turns.NoMemory → LowestWants may_want old t.turn → WantsNext may_want (HasSpare new.lines) new.board picks new.log
+  lowest_ends_play {old} {new} t {picks} u same wants =
+      let refused : IsSome (lowest_move old) × (new ≡ old) = answered t turns.NoMemory same in
       let low = subst (λ (x : Turn). LowestWants may_want old x) same wants in
       subst (λ (s : SystemSeen). WantsNext may_want (HasSpare s.lines) s.board picks s.log) (sym refused.1)
       (next_wants old picks [] u refused.0 low.actor
@@ -78,13 +77,10 @@ module _ (may_want : Option Entry → Type 0) where
       (λ m due. ([], lowest_next old m (low.lowest ∙ due))) low.step)
 
   -- a pick's turn ends a play
-  pub pick_ends_play : (old new : SystemSeen) (picks : List Actor) (i : ℕ) (d : Actor) (turn : Turn) → i < length picks
-      → IsUnderway old picks (drop i picks) → turn ≡ turns.NoMemory → Turns old (get_or picks i d) turn new
-      → Wants may_want old (get_or picks i d) turn → WantsNext may_want (HasSpare new.lines) new.board picks new.log
-  pick_ends_play old new picks i d turn within u same t wants =
-      let pick : Actor = get_or picks i d in
-      let refused = subst (λ (x : Turn). Turns old pick x new) same t in
+  pub pick_ends_play : {old new : SystemSeen} {picks : List Actor} {i : ℕ} (t : PickTurn old new picks i) → t.turn ≡ turns.NoMemory
+      → Wants may_want old (pick t) t.turn → WantsNext may_want (HasSpare new.lines) new.board picks new.log
+  pick_ends_play {old} {new} {picks} t same wants =
+      let refused : MayWant old (pick t) × (new ≡ old) = pick_answered t turns.NoMemory same in
       subst (λ (s : SystemSeen). WantsNext may_want (HasSpare s.lines) s.board picks s.log) (sym refused.1)
-      (next_wants old picks (pick ∷ drop (i + 1) picks) (at_pick old picks i d within u) refused.0.somebody pick refused.0.actor
-      (λ m due. (drop (i + 1) picks, with_move old pick (drop (i + 1) picks) m due))
-      (subst (λ (x : Turn). Wants may_want old pick x) same wants))
+      (next_wants old picks (pick t ∷ after t) (pick_next t) refused.0.somebody (pick t) refused.0.actor
+      (λ m due. (after t, with_move old (pick t) (after t) m due)) (subst (λ (x : Turn). Wants may_want old (pick t) x) same wants))

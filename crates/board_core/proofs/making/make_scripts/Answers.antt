@@ -14,12 +14,9 @@ push_call-requires c = script_there c.args.board.now c.loop-call.scripts.items c
 
 pub loop-call-preserved : goal.loop-call-preserved
 loop-call-preserved c =
-    next_cut c.args.board.now c.is_board.ensures.board c.loop-call.call-index c.calls-call-items.result.now _
-    c.loop-call.scripts.items c.push_call.new.scripts.items c.args.line_numbers.now c.args.driver_numbers.now
-    c.place_of-script.result c.place_of-place.result c.calls-call-items.ensures c.loop-call-test.true
-    c.loop-call.invariant c.requires.lines c.requires.drivers c.place_of-script.ensures c.place_of-place.ensures
-    c.in_ok-push_call.ensures
+    next_cut c.is_board.ensures.board _ c.place_of-script.result c.place_of-place.result c.calls-call-items.ensures
+    c.loop-call-test.true c.loop-call.invariant c.requires.lines c.requires.drivers c.place_of-script.ensures
+    c.place_of-place.ensures c.in_ok-push_call.ensures
 
 pub returns : goal.returns
-returns c = all_cut c.args.board.now c.loop-call.call-index c.calls-call-items.result.now c.loop-call.scripts.items
-    c.calls-call-items.ensures c.loop-call-test.false c.loop-call.auto.call-index-end c.loop-call.invariant
+returns c = all_cut c.calls-call-items.ensures c.loop-call-test.false c.loop-call.auto.call-index-end c.loop-call.invariant

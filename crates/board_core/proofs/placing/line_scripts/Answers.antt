@@ -17,10 +17,8 @@ loop-i-init c = bare_first c.args.board.now c.in_ok-own.own.items c.in_ok-own.en
 
 pub loop-i-preserved : goal.loop-i-preserved
 loop-i-preserved c =
-    bare_more c.args.board.now.drivers (λ i r at. (c.is_board.ensures.board.drivers i r at).rises)
-    c.args.driver_numbers.now c.requires c.args.def.now.calls c.loop-i.i c.in-Some.driver _
-    (c.in-Some.driver, c.in-Some.call) (sym c.in-Some.ensures) refl refl
-    c.place_of-script.result c.place_of-script.ensures c.loop-i.own.items c.push_call.new.scripts.items c.in_ok-push_call.ensures c.loop-i.invariant
+    bare_more (λ i r at. (c.is_board.ensures.board.drivers i r at).rises) c.requires c.args.def.now.calls c.loop-i.i _
+    (sym c.in-Some.ensures) refl refl c.place_of-script.result c.place_of-script.ensures c.in_ok-push_call.ensures c.loop-i.invariant
 
 pub returns : goal.returns
-returns c = bare_own c.args.board.now.drivers c.args.def.now _ c.loop-i.own.items (all_taken c.args.def.now.calls c.loop-i.i (search rules)) c.loop-i.invariant
+returns c = bare_own c.args.def.now (all_taken c.args.def.now.calls c.loop-i.i (search rules)) c.loop-i.invariant

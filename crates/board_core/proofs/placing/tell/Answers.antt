@@ -10,8 +10,8 @@ advance-requires c = actor_fits c.args.board.now c.args.own.now.items c.args.dri
 
 pub returns : goal.returns
 returns c x line due own =
-    own_more c.args.board.now.drivers (λ i r at. (c.is_board.ensures.board.drivers i r at).rises)
-    c.args.driver_numbers.now c.requires.numbers x c.args.entry due c.place_of_actor-script.result
+    own_more (λ i r at. (c.is_board.ensures.board.drivers i r at).rises) c.requires.numbers c.args.entry due
+    c.place_of_actor-script.result
     (subst (λ a. IsPlaceOfActor c.args.driver_numbers.now a c.place_of_actor-script.result)
     (c.actor.ensures ∙ ap (λ l. actor_of l c.args.entry) (sym line)) c.place_of_actor-script.ensures)
-    c.args.own.now.items c.advance.new.scripts.items c.advance.ensures own
+    c.advance.ensures own

@@ -1,4 +1,5 @@
-use Rattle.std.proofs.Common.{map, refl, sym, ◌∙◌}
+use Rattle.std.proofs.Common.{refl, sym, ◌∙◌}
+use Rattle.board_core.proofs.Kept.{kept_system}
 use Rattle.board_core.proofs.RisingNumbers.{rising_drivers}
 use Rattle.board_core.proofs.Standing.{driver_nowhere, driver_waits, driver_there, number_there, number_nowhere}
 use Rattle.board_core.proofs.system.System.driver_stand.Goals as goal
@@ -9,24 +10,19 @@ place_of-requires g c = rising_drivers c.self.inside.board.now c.is_board.ensure
 
 pub returns-in_default : goal.returns-in_default
 returns-in_default g c =
-    let s = c.self.inside in
-    driver_nowhere s.board.now c.is_board.ensures.board s.layout (map g.L.IrqLine.seen s.lines.items) s.scripts.items
-    s.order.items _ c.self.invariant c.args.self.now c.self.view_is c.args.driver
-    (number_nowhere c.deref.result.now s.driver_numbers.items c.args.driver.0 c.place_of.result c.deref.ensures.value c.place_of.ensures c.in_default.is)
+    let system = kept_system c.is_board.ensures.board c.self.invariant c.self.view_is in
+    driver_nowhere system c.args.driver
+    (number_nowhere c.args.driver.0 c.deref.ensures.value c.place_of.ensures c.in_default.is)
 
 pub returns-then-not-is_ready : goal.returns-then-not-is_ready
 returns-then-not-is_ready g c =
-    let s = c.self.inside in
-    driver_waits s.board.now c.is_board.ensures.board s.layout (map g.L.IrqLine.seen s.lines.items) s.scripts.items
-    s.order.items _ c.self.invariant c.args.self.now c.self.view_is c.args.driver c.in-Some.j
-    (number_there c.deref.result.now s.driver_numbers.items c.args.driver.0 c.in-Some.j c.place_of.result
-    c.deref.ensures.value c.place_of.ensures c.in-Some.is) (sym c.is_ready.ensures ∙ c.if-not-is_ready.true)
+    let system = kept_system c.is_board.ensures.board c.self.invariant c.self.view_is in
+    driver_waits system c.args.driver c.in-Some.j
+    (number_there c.args.driver.0 c.deref.ensures.value c.place_of.ensures c.in-Some.is) (sym c.is_ready.ensures ∙ c.if-not-is_ready.true)
 
 pub returns-in-Some-call : goal.returns-in-Some-call
 returns-in-Some-call g c =
-    let s = c.self.inside in
-    driver_there s.board.now c.is_board.ensures.board s.layout (map g.L.IrqLine.seen s.lines.items) s.scripts.items
-    s.order.items _ c.self.invariant c.args.self.now c.self.view_is c.args.driver c.in-Some.j c.in-Some-call.call _
-    (number_there c.deref.result.now s.driver_numbers.items c.args.driver.0 c.in-Some.j c.place_of.result
-    c.deref.ensures.value c.place_of.ensures c.in-Some.is) (sym c.is_ready.ensures ∙ c.if-not-is_ready.false)
+    let system = kept_system c.is_board.ensures.board c.self.invariant c.self.view_is in
+    driver_there system c.args.driver c.in-Some.j c.in-Some-call.call _
+    (number_there c.args.driver.0 c.deref.ensures.value c.place_of.ensures c.in-Some.is) (sym c.is_ready.ensures ∙ c.if-not-is_ready.false)
     c.in-Some-call.ensures refl

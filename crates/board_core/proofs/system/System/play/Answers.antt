@@ -2,7 +2,7 @@ use Rattle.std.proofs.Common.{◌∙◌, refl, List, subst, arith}
 use Rattle.irq_base.specs.declared.entries.Actor.{Actor}
 use Rattle.board_core.specs.Playing.{IsUnderway}
 use Rattle.board_core.proofs.Searches.{all_dropped}
-use Rattle.board_core.proofs.Underway.{fresh, pick_done, pick_full, pick_refused, turn_same_board, turn_same_layout}
+use Rattle.board_core.proofs.Underway.{fresh, pick_turn, pick_done, pick_full, pick_refused, pick_keeps_board, pick_keeps_layout}
 use Rattle.board_core.proofs.Wanting.{pick_ends_play}
 use Rattle.board_core.proofs.system.System.play.Goals as goal
 
@@ -10,24 +10,20 @@ pub loop-pick-init : goal.loop-pick-init
 loop-pick-init g c = record { board = refl; layout = refl; underway = fresh c.args.self.now c.args.picks.now c.requires }
 
 pub returns-in-Full-clause-play : goal.returns-in-Full-clause-play
-returns-in-Full-clause-play g c =
-    pick_full c.loop-pick.self c.turn.new.self c.args.picks.now c.loop-pick.pick-index _ c.in-Full.line c.in-Full.len
-    c.turn.result c.loop-pick-test.true c.loop-pick.invariant.underway c.in-Full.is c.turn.ensures.turns
+returns-in-Full-clause-play g c = pick_full (pick_turn _ c.turn.result c.loop-pick-test.true c.loop-pick.invariant.underway c.turn.ensures.turns) c.in-Full.is
 
 pub loop-pick-preserved : goal.loop-pick-preserved
 loop-pick-preserved g c =
+    let t = pick_turn _ c.turn.result c.loop-pick-test.true c.loop-pick.invariant.underway c.turn.ensures.turns in
     record {
-      board = turn_same_board c.loop-pick.self c.turn.new.self _ c.turn.result c.turn.ensures.turns ∙ c.loop-pick.invariant.board;
-      layout = turn_same_layout c.loop-pick.self c.turn.new.self _ c.turn.result c.turn.ensures.turns ∙ c.loop-pick.invariant.layout;
-      underway =
-          pick_done c.loop-pick.self c.turn.new.self c.args.picks.now c.loop-pick.pick-index _ c.turn.result
-          c.loop-pick-test.true c.loop-pick.invariant.underway c.in_default.not-Full c.in_default.not-NoMemory
-          c.turn.ensures.turns;
+      board = pick_keeps_board t ∙ c.loop-pick.invariant.board;
+      layout = pick_keeps_layout t ∙ c.loop-pick.invariant.layout;
+      underway = pick_done t c.in_default.not-Full c.in_default.not-NoMemory;
     }
 
 pub returns-in-NoMemory-clause-play : goal.returns-in-NoMemory-clause-play
-returns-in-NoMemory-clause-play g c =
-    pick_refused c.loop-pick.self c.turn.new.self c.args.picks.now _ _ c.turn.result c.loop-pick.invariant.underway c.in-NoMemory.is c.turn.ensures.turns
+returns-in-NoMemory-clause-play g c = pick_refused (pick_turn _ c.turn.result c.loop-pick-test.true
+    c.loop-pick.invariant.underway c.turn.ensures.turns) c.in-NoMemory.is
 
 pub returns-clause-lines : goal.returns-clause-lines
 returns-clause-lines g c =
@@ -38,9 +34,8 @@ returns-clause-lines g c =
     c.loop-pick.invariant.underway)
 
 pub returns-in-NoMemory-clause-memory : goal.returns-in-NoMemory-clause-memory
-returns-in-NoMemory-clause-memory g c = pick_ends_play g.L.IrqLine.may_want c.loop-pick.self c.turn.new.self c.args.picks.now
-    c.loop-pick.pick-index _ c.turn.result c.loop-pick-test.true c.loop-pick.invariant.underway c.in-NoMemory.is
-    c.turn.ensures.turns c.turn.ensures.memory
+returns-in-NoMemory-clause-memory g c = pick_ends_play g.L.IrqLine.may_want
+    (pick_turn _ c.turn.result c.loop-pick-test.true c.loop-pick.invariant.underway c.turn.ensures.turns) c.in-NoMemory.is c.turn.ensures.memory
 
 pub returns-clause-memory : goal.returns-clause-memory
 returns-clause-memory g c =

@@ -1,7 +1,7 @@
 use Rattle.std.proofs.Common.{◌≡◌, List, []}
 use Rattle.irq_base.specs.declared.entries.Actor.{Actor}
 use Rattle.board_core.specs.Playing.{IsUnderway, Settles}
-use Rattle.board_core.proofs.Underway.{room_of}
+use Rattle.board_core.proofs.Room.{room_of}
 use Rattle.board_core.proofs.system.System.settle.Given as goal
 
 abbrev pub invariant-loop-line : goal.invariant-loop-line

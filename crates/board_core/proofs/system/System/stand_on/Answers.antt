@@ -1,4 +1,5 @@
 use Rattle.std.proofs.Common.{map, refl, ◌∙◌}
+use Rattle.board_core.proofs.Kept.{kept_system}
 use Rattle.board_core.proofs.InSystem.{numbers_kept}
 use Rattle.board_core.proofs.RisingNumbers.{rising_lines}
 use Rattle.board_core.proofs.Standing.{line_nowhere, line_there, number_there, number_nowhere}
@@ -13,17 +14,14 @@ place_of-requires g c =
 
 pub returns-in_default : goal.returns-in_default
 returns-in_default g c =
-    let s = c.self.inside in
-    line_nowhere s.board.now c.is_board.ensures.board s.layout (map g.L.IrqLine.seen s.lines.items) s.scripts.items
-    s.order.items _ c.self.invariant c.args.self.now c.self.view_is c.args.line
-    (number_nowhere c.deref.result.now s.line_numbers.items c.args.line.0 c.place_of.result c.deref.ensures.value
+    let system = kept_system c.is_board.ensures.board c.self.invariant c.self.view_is in
+    line_nowhere system c.args.line
+    (number_nowhere c.args.line.0 c.deref.ensures.value
     c.place_of.ensures c.in_default.is)
 
 pub returns : goal.returns
 returns g c =
-    let s = c.self.inside in
-    line_there s.board.now c.is_board.ensures.board s.layout (map g.L.IrqLine.seen s.lines.items) s.scripts.items
-    s.order.items _ c.self.invariant c.args.self.now c.self.view_is c.args.line c.args.actor c.in-Some.k
+    let system = kept_system c.is_board.ensures.board c.self.invariant c.self.view_is in
+    line_there system c.args.line c.args.actor c.in-Some.k
     c.script_place-script.result _
-    (number_there c.deref.result.now s.line_numbers.items c.args.line.0 c.in-Some.k c.place_of.result
-    c.deref.ensures.value c.place_of.ensures c.in-Some.is) c.requires c.script_place-script.ensures refl
+    (number_there c.args.line.0 c.deref.ensures.value c.place_of.ensures c.in-Some.is) c.requires c.script_place-script.ensures refl

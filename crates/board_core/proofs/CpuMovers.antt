@@ -1,0 +1,270 @@
+-- What the ready actors tell of a processor: the lines on which a take of it is due, its flow, and where it steps.
+use Rattle.std.proofs.Common.{◌≡◌, ℕ, zero, suc, ◌+◌, ◌<◌, ◌==◌, ◌⊎◌, inl, inr, Bool, true, false, ◌&&◌, cond}
+use Rattle.std.proofs.Common.{is_some, nat_lt, IsSome, Option, Some, None, List, [], ◌∷◌, ◌++◌}
+use Rattle.std.proofs.Common.{map, length, reverse, slice_get, refl, sym, ap, ◌∙◌, subst, arith, eq-eqb}
+use Rattle.std.specs.Option.{option_map}
+use Rattle.std.proofs.Math.ListN.{length-map}
+use Rattle.std.proofs.lemmas.Bool.{lt-ltb, ltb-false}
+use Rattle.std.proofs.lemmas.Bool.Decides.{nat_tests}
+use Rattle.std.proofs.lemmas.Option.{slice_get-map}
+use Rattle.irq_base.specs.declared.entries.Actor.{Actor}
+use Rattle.irq_base.specs.declared.entries.Actor.TheVariants as actors
+use Rattle.irq_base.specs.declared.entries.Entry.{Entry}
+use Rattle.irq_base.specs.declared.lines.LineDef.{LineDef}
+use Rattle.irq_base.specs.declared.numbers.CpuNo.{CpuNo}
+use Rattle.irq_model.specs.Next.{next, next_past, next_in_flow, next_take}
+use Rattle.irq_model.specs.Rounds.{flow, is_cpu, at_work}
+use Rattle.irq_steps.proofs.Same.{cpu_from_same}
+use Rattle.irq_laws.proofs.Chosen.{the_same}
+use Rattle.irq_line.specs.Queries.{IsTaker, is_some_take}
+use Rattle.irq_line.specs.Seen.{LineSeen}
+use Rattle.play_laws.specs.Actors.{count_up, IsOneOf, threads_of as threads_of_line, cpus_of as cpus_of_line}
+use Rattle.play_laws.specs.Actors.{drivers_of as drivers_of_line, actors_of as actors_of_line}
+use Rattle.play_laws.proofs.Listed.{mover_listed}
+use Rattle.board_play.specs.Lines.{BoardLine, Move}
+use Rattle.board_play.specs.Order.{line_for, flow_line, due_line, or_line, move_on, due_on, due_move}
+use Rattle.board_play.proofs.OfBoard.{def_of_row}
+use Rattle.board_ready.specs.First.{first_of}
+use Rattle.board_ready.specs.Ready.{has_flow, has_take, flow_line as flow_place, take_line, flow_or_take, cpu_line}
+use Rattle.board_ready.specs.Ready.{is_cpu as is_number}
+use Rattle.board_ready.specs.declared.parts.LineReadiness.{LineReadiness}
+use Rattle.board_core.specs.Firsts.{is_take_due}
+use Rattle.board_core.specs.Places.{IsPlace}
+use Rattle.board_core.specs.Seen.{board_line, board_lines}
+use Rattle.board_core.proofs.Searches.{first_that, in_flow_of, due_of_cpu, flow_is, due_is, first_place, due_is_take, same_truth, no_flow_at}
+use Rattle.board_core.proofs.InLists.{map_back}
+use Rattle.board_core.specs.Seen.{SystemSeen}
+use Rattle.board_core.proofs.Kept.{KeptSystem}
+use Rattle.board_core.proofs.Movers.{some_of, not_both, valid, legal, definition, is_move, at_line, part_of, line_of}
+
+-- ---- who is in a list
+
+in_either : (a : Actor) (xs ys : List Actor) → IsOneOf a (xs ++ ys) → IsOneOf a xs ⊎ IsOneOf a ys
+in_either a [] ys at = inr at
+in_either a (x ∷ xs) ys at = elim at [
+  | inl here ↦ inl (inl here)
+  | inr there ↦ elim (in_either a xs ys there) [ inl first ↦ inl (inr first) | inr second ↦ inr second ]
+]
+
+not_of : (a : Actor) (f : ℕ → Actor) → ((n : ℕ) → a ≡ f n → ⊥) → (ns : List ℕ) → IsOneOf a (map f ns) → ⊥
+not_of a f differs [] at = at
+not_of a f differs (n ∷ ns) at = elim at [ inl here ↦ differs n here | inr there ↦ not_of a f differs ns there ]
+
+in_count : (c : CpuNo) (k n : ℕ) → IsOneOf (actors.Cpu c) (map (λ n. actors.Cpu (record { 0 = n })) (count_up k n)) → c.0 < k + n
+in_count c k zero at = absurd at
+in_count c k (suc n) at = elim at [
+  | inl here ↦ (let e : c.0 ≡ k = cpu_is here in omega (arith, e))
+  | inr there ↦ (let l = in_count c (k + 1) n there in omega (arith, l))
+]
+  where
+    cpu_is : actors.Cpu c ≡ actors.Cpu (record { 0 = k }) → c.0 ≡ k
+    cpu_is h = cc
+
+-- ---- a processor
+
+module _ {view : SystemSeen} (system : KeptSystem view) where
+  open system use {board, lines, parts.{ready}, is_board, kept}
+
+  only_cpu : (c : CpuNo) (def : LineDef) → IsOneOf (actors.Cpu c) (actors_of_line def) → c.0 < def.cpus
+  only_cpu c def at = elim (in_either (actors.Cpu c) (threads_of_line def) (cpus_of_line def ++ drivers_of_line def) at) [
+    | inl thread ↦ absurd (not_of (actors.Cpu c) _ (λ n h. cc) _ thread)
+    | inr rest ↦ elim (in_either (actors.Cpu c) (cpus_of_line def) (drivers_of_line def) rest) [
+      | inl cpu ↦ let l = in_count c 0 def.cpus cpu in omega (arith, l)
+      | inr driver ↦ absurd (not_of (actors.Cpu c) _ (λ n h. cc) _ driver)
+    ]
+  ]
+
+  -- a processor for which an entry is due is the board's
+  due_below : (c : CpuNo) (k : ℕ) (x : LineSeen) (e : Entry) → slice_get lines k ≡ Some x → next x.def x.entries (actors.Cpu c) ≡ Some e → c.0 < board.cpus
+  due_below c k x e at due =
+      let l = only_cpu c x.def (mover_listed x.def (reverse x.entries) (actors.Cpu c) e (valid system k x at) (legal system k x at) due) in
+      let o = def_of_row board k x.def (definition system k x at) in
+      subst (λ (def : LineDef). c.0 < def.cpus) (sym o.is) l
+
+  pub few_cpus : (c : CpuNo) (m : Move) → due_move board (board_lines lines) (actors.Cpu c) ≡ Some m → c.0 < board.cpus
+  few_cpus c m due = let v = is_move system (actors.Cpu c) m due in due_below c v.place v.line m.1 v.at v.due
+
+  flow_test : (c : CpuNo) (k : ℕ) (y : BoardLine) → slice_get (board_lines lines) k ≡ Some y → has_flow c.0 (slice_get ready.lines k) ≡ in_flow_of c y
+  flow_test c k y at =
+      let x = map_back board_line lines k y at in
+      let p = part_of system k x.0 x.1 in
+      ap (λ (o : Option LineReadiness). has_flow c.0 o) p.1
+      ∙ (same_cpu p.0.flow ∙ (ap (λ (o : Option CpuNo). is_cpu c o) p.2.flow
+      ∙ ap (λ (z : BoardLine). in_flow_of c z) x.2))
+    where
+      same_cpu : (o : Option CpuNo) → is_number c.0 o ≡ is_cpu c o
+      same_cpu None = refl
+      same_cpu (Some b) = equal_ways b.0 c.0
+        where
+          equal_ways : (m n : ℕ) → (m == n) ≡ (n == m)
+          equal_ways m n = grind (arith, nat_tests)
+
+  taker_is : (c : CpuNo) (x : LineSeen) (o : Option CpuNo) → IsTaker x o → is_number c.0 o ≡ is_some_take (next_past x.def (reverse x.entries) (actors.Cpu c))
+  taker_is c x o taker = same_truth (is_number c.0 o) (is_some_take
+      (next_past x.def (reverse x.entries) (actors.Cpu c))) (λ is. (taker c).0 (its o is)) (λ h. back o ((taker c).1 h))
+    where
+      its : (o : Option CpuNo) → is_number c.0 o ≡ true → o ≡ Some c
+      its None is = cc
+      its (Some b) is = ap (λ (z : CpuNo). Some z) (cpu_from_same b c is)
+
+      back : (o : Option CpuNo) → o ≡ Some c → is_number c.0 o ≡ true
+      back o is = ap (λ (z : Option CpuNo). is_number c.0 z) is ∙ eq-eqb c.0 c.0 refl
+
+  take_test : (c : CpuNo) → flow_line (board_lines lines) c ≡ None → (k : ℕ) (y : BoardLine)
+      → slice_get (board_lines lines) k ≡ Some y → has_take c.0 (slice_get ready.lines k) ≡ due_of_cpu c y
+  take_test c none k y at =
+      let x = map_back board_line lines k y at in
+      let p = part_of system k x.0 x.1 in
+      ap (λ (o : Option LineReadiness). has_take c.0 o) p.1 ∙ (taker_is c x.0 p.0.taker p.2.taker
+      ∙ (sym (due_is_take x.0.def (reverse x.0.entries) c
+      (no_flow_at (board_lines lines) c none k (board_line x.0) (at_line system k x.0 x.1)))
+      ∙ ap (λ (z : BoardLine). due_of_cpu c z) x.2))
+
+  -- the lines on which a take of it is due
+  pub take_told : (c : CpuNo) (k : ℕ) (b : Bool) → b ≡ (nat_lt c.0 32 && has_take c.0 (slice_get ready.lines k))
+      → b ≡ is_take_due c (slice_get (board_lines lines) k)
+  take_told c k b is = is ∙ by_line (slice_get lines k) refl
+    where
+      and_false : (b : Bool) → (b && false) ≡ false
+      and_false true = refl
+      and_false false = refl
+
+      some_take : (o : Option Entry) → is_some_take o ≡ true → (e : Entry) × (o ≡ Some e)
+      some_take None h = cc
+      some_take (Some e) h = (e, refl)
+
+      low : (x : LineSeen) → slice_get lines k ≡ Some x → (t : Bool)
+          → is_some_take (next_past x.def (reverse x.entries) (actors.Cpu c)) ≡ t → (nat_lt c.0 32 && t) ≡ t
+      low x at false none = and_false (nat_lt c.0 32)
+      low x at true some =
+          let e = some_take (next_past x.def (reverse x.entries) (actors.Cpu c)) some in
+          let l = due_below c k x e.0 at e.1 in
+          let f = is_board.few_cpus in
+          ap (λ (b : Bool). b && true) (lt-ltb c.0 32 (omega (arith, l, f)))
+
+      no_part : slice_get lines k ≡ None → (o : Option LineReadiness) → slice_get ready.lines k ≡ o → slice_get ready.lines k ≡ None
+      no_part none None is = is
+      no_part none (Some p) is = let x = line_of system k p is in absurd (not_both (slice_get lines k) x.0 none x.1)
+
+      by_line : (o : Option LineSeen) → slice_get lines k ≡ o
+          → (nat_lt c.0 32 && has_take c.0 (slice_get ready.lines k)) ≡ is_take_due c (slice_get (board_lines lines) k)
+      by_line None none =
+          ap (λ (o : Option LineReadiness). nat_lt c.0 32 && has_take c.0 o) (no_part none (slice_get ready.lines k) refl)
+          ∙ (and_false (nat_lt c.0 32) ∙ sym (ap (λ (o : Option BoardLine). is_take_due c o)
+          (slice_get-map board_line lines k ∙ ap (option_map board_line) none)))
+      by_line (Some x) at =
+          let p = part_of system k x at in
+          ap (λ (o : Option LineReadiness). nat_lt c.0 32 && has_take c.0 o) p.1
+          ∙ (ap (λ (t : Bool). nat_lt c.0 32 && t) (taker_is c x p.0.taker p.2.taker)
+          ∙ (low x at (is_some_take (next_past x.def (reverse x.entries) (actors.Cpu c))) refl
+          ∙ ap (λ (o : Option BoardLine). is_take_due c o) (sym (at_line system k x at))))
+
+  many : length (board_lines lines) ≡ length ready.lines
+  many = let a = length-map lines board_line in let b = kept.ready.all_lines in omega (arith, a, b)
+
+  flow_at : (c : CpuNo) (f : Option ℕ) → flow_place ready.lines c.0 ≡ f → IsPlace (board_lines lines) f (flow_line (board_lines lines) c)
+  flow_at c f flows =
+      subst (λ (o : Option BoardLine). IsPlace (board_lines lines) f o) (flow_is (board_lines lines) c)
+      (first_place (in_flow_of c) (board_lines lines) (λ k. has_flow c.0 (slice_get ready.lines k)) (flow_test c) f
+      (ap (λ (n : ℕ). first_of (λ k. has_flow c.0 (slice_get ready.lines k)) n) many ∙ flows))
+
+  -- the processor's line
+  cpu_place : (c : CpuNo) (f t : Option ℕ) → flow_place ready.lines c.0 ≡ f → take_line ready.lines c.0 ≡ t
+      → IsPlace (board_lines lines) (flow_or_take f t) (line_for board (board_lines lines) (actors.Cpu c))
+  cpu_place c f t flows takes = by_flow f (flow_line (board_lines lines) c) refl (flow_at c f flows)
+    where
+      taken : flow_line (board_lines lines) c ≡ None → IsPlace (board_lines lines) t (due_line (board_lines lines) c)
+      taken none =
+          subst (λ (o : Option BoardLine). IsPlace (board_lines lines) t o) (due_is (board_lines lines) c)
+          (first_place (due_of_cpu c) (board_lines lines) (λ k. has_take c.0 (slice_get ready.lines k))
+          (take_test c none) t (ap (λ (n : ℕ). first_of (λ k. has_take c.0 (slice_get ready.lines k)) n) many
+          ∙ takes))
+
+      by_flow : (f : Option ℕ) (o : Option BoardLine) → flow_line (board_lines lines) c ≡ o
+          → IsPlace (board_lines lines) f (flow_line (board_lines lines) c)
+          → IsPlace (board_lines lines) (flow_or_take f t)
+          (or_line (flow_line (board_lines lines) c) (due_line (board_lines lines) c))
+      by_flow None o is place = subst (λ (x : Option BoardLine). IsPlace (board_lines lines) t
+          (or_line x (due_line (board_lines lines) c))) (sym place) (taken place)
+      by_flow (Some k) None is place = absurd (no_some (flow_line (board_lines lines) c) is place.0)
+        where
+          no_some : (o : Option BoardLine) → o ≡ None → IsSome o → ⊥
+          no_some None none some = cc
+          no_some (Some x) none some = cc
+      by_flow (Some k) (Some x) is place = (
+        ap (λ (o : Option BoardLine). is_some
+            (or_line o (due_line (board_lines lines) c))) is,
+        place.1
+            ∙ (is ∙ ap (λ (o : Option BoardLine). or_line o (due_line (board_lines lines) c)) (sym is)),
+      )
+
+  -- on that line something is due of it
+  line_is_due : (c : CpuNo) (y : BoardLine) → line_for board (board_lines lines) (actors.Cpu c) ≡ Some y → IsSome (next_past y.def y.past (actors.Cpu c))
+  line_is_due c y its = by_flow (flow_line (board_lines lines) c) refl its
+    where
+      passes : (p : BoardLine → Bool) (ls : List BoardLine) → first_that p ls ≡ Some y → p y ≡ true
+      passes p [] h = cc
+      passes p (z ∷ zs) h = by_test (p z) refl h (passes p zs)
+        where
+          by_test : (b : Bool) → p z ≡ b → cond b (Some z) (first_that p zs) ≡ Some y → (first_that p zs ≡ Some y → p y ≡ true) → p y ≡ true
+          by_test true is h deeper = ap p (sym (the_same z y h)) ∙ is
+          by_test false is h deeper = deeper h
+
+      flow_due : is_cpu c (flow y.def y.past) ≡ true → IsSome (next_past y.def y.past (actors.Cpu c))
+      flow_due is = ap (λ (b : Bool). is_some (cond b (Some (next_in_flow y.def c y.past (at_work y.past))) (next_take y.def c y.past))) is
+
+      by_flow : (o : Option BoardLine) → flow_line (board_lines lines) c ≡ o
+          → or_line o (due_line (board_lines lines) c) ≡ Some y → IsSome (next_past y.def y.past (actors.Cpu c))
+      by_flow None none its = passes (due_of_cpu c) (board_lines lines) (due_is (board_lines lines) c ∙ its)
+      by_flow (Some z) is its = flow_due (passes (in_flow_of c) (board_lines lines) (flow_is (board_lines lines) c ∙ (is ∙ its)))
+
+  due_at_place : (c : CpuNo) (k : ℕ) → IsPlace (board_lines lines) (Some k)
+      (line_for board (board_lines lines) (actors.Cpu c))
+      → (m : Move) × (due_move board (board_lines lines) (actors.Cpu c) ≡ Some m)
+  due_at_place c k place =
+      let y = some_of (line_for board (board_lines lines) (actors.Cpu c)) place.0 in
+      let e = some_of (next_past y.0.def y.0.past (actors.Cpu c)) (line_is_due c y.0 y.1) in
+      ((y.0.def.line, e.0), ap (λ (o : Option BoardLine). due_on o (actors.Cpu c)) y.1 ∙ ap (λ (o : Option Entry). move_on y.0.def.line o) e.1)
+
+  -- the line of its flow
+  pub flow_there : (c : CpuNo) (o : Option ℕ) → o ≡ cond (nat_lt c.0 32) (flow_place ready.lines c.0) None
+      → IsPlace (board_lines lines) o (flow_line (board_lines lines) c)
+  flow_there c o is = by_number (nat_lt c.0 32) refl is
+    where
+      no_flow : nat_lt c.0 32 ≡ false → (z : Option BoardLine) → flow_line (board_lines lines) c ≡ z → flow_line (board_lines lines) c ≡ None
+      no_flow high None is = is
+      no_flow high (Some y) is =
+          let its : line_for board (board_lines lines) (actors.Cpu c) ≡ Some y = ap (λ (x : Option BoardLine). or_line x (due_line (board_lines lines) c)) is in
+          let e = some_of (next_past y.def y.past (actors.Cpu c)) (line_is_due c y its) in
+          let move : due_move board (board_lines lines) (actors.Cpu c)
+          ≡ Some (y.def.line, e.0) = ap (λ (x : Option BoardLine). due_on x (actors.Cpu c)) its
+          ∙ ap (λ (x : Option Entry). move_on y.def.line x) e.1 in
+          absurd (let l = few_cpus c (y.def.line, e.0) move in let f = is_board.few_cpus in let h = ltb-false c.0 32 high in omega (arith, l, f, h))
+
+      by_number : (b : Bool) → nat_lt c.0 32 ≡ b → o ≡ cond b (flow_place ready.lines c.0) None
+          → IsPlace (board_lines lines) o (flow_line (board_lines lines) c)
+      by_number true low is = flow_at c o (sym is)
+      by_number false high is = subst (λ (x : Option ℕ). IsPlace (board_lines lines) x
+          (flow_line (board_lines lines) c)) (sym is) (no_flow high (flow_line (board_lines lines) c) refl)
+
+  -- what the ready actors answer for a processor
+  abbrev CpuStands : CpuNo → Option ℕ → Type 0
+  CpuStands c None = due_move board (board_lines lines) (actors.Cpu c) ≡ None
+  CpuStands c (Some k) = IsPlace (board_lines lines) (Some k) (line_for board (board_lines lines) (actors.Cpu c))
+      × ((m : Move) × (due_move board (board_lines lines) (actors.Cpu c) ≡ Some m))
+
+  pub cpu_stands : (c : CpuNo) (o : Option ℕ) → o ≡ cpu_line ready.lines c.0 → CpuStands c o
+  cpu_stands c o is = subst (λ (x : Option ℕ). CpuStands c x) (sym is) (by_number (nat_lt c.0 32) refl)
+    where
+      of_place : (o : Option ℕ) → IsPlace (board_lines lines) o (line_for board (board_lines lines) (actors.Cpu c)) → CpuStands c o
+      of_place None place = ap (λ (o : Option BoardLine). due_on o (actors.Cpu c)) place
+      of_place (Some k) place = (place, due_at_place c k place)
+
+      too_high : nat_lt c.0 32 ≡ false → (o : Option Move) → due_move board (board_lines lines) (actors.Cpu c) ≡ o → o ≡ None
+      too_high high None due = refl
+      too_high high (Some m) due = absurd (let l = few_cpus c m due in let f = is_board.few_cpus in let h = ltb-false c.0 32 high in omega (arith, l, f, h))
+
+      by_number : (b : Bool) → nat_lt c.0 32 ≡ b → CpuStands c (cond b (flow_or_take (flow_place ready.lines c.0) (take_line ready.lines c.0)) None)
+      by_number true low = of_place (flow_or_take (flow_place ready.lines c.0) (take_line ready.lines c.0))
+          (cpu_place c (flow_place ready.lines c.0) (take_line ready.lines c.0) refl refl)
+      by_number false high = too_high high (due_move board (board_lines lines) (actors.Cpu c)) refl
