@@ -65,14 +65,14 @@ first_moves b lines can rests (a ∷ rest) some = by_step (can a) refl (λ h. fi
     by_step (Some e) is deeper = refl
     by_step None is deeper = deeper (ap (λ (o : Option Move). is_some (or_move o (first_move b lines rest))) (sym (rests a is)) ∙ some)
 
-module _ (s : SystemSeen) (ms : List Mark) (walk : Option Walk) (parent : Cell) (d : IsDemux s ms walk parent)
+module _ {s : SystemSeen} {ms : List Mark} {walk : Option Walk} {parent : Cell} (d : IsDemux s ms walk parent)
     (isb : IsBoard s.board) (kept : AreKept s.board (board_lines s.lines)) where
   abbrev g : List ChainEntry
   g = steps_of s ms
 
   pub somebody : IsSome (lowest_move s) → IsSome (lowest_of (seen_of s ms parent))
   somebody some =
-      let are : board_lines s.lines ≡ lines_in s.board g = sym (lines_are s ms walk parent d) in
+      let are : board_lines s.lines ≡ lines_in s.board g = sym (lines_are d) in
       first_moves s.board (lines_in s.board g) (chain_next s.board g)
       (rests s.board isb d.fits g d.legal (subst (AreKept s.board) are kept)) (actors_of s.board)
       (subst (λ (ls : List BoardLine). IsSome (first_move s.board ls (actors_of s.board))) are some)

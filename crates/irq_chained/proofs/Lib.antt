@@ -8,4 +8,6 @@ pub mod Lowest
 pub mod Further
 pub mod Room
 pub mod Playing
+pub mod NoTakes
 pub mod Turning
+pub mod SeenTurns

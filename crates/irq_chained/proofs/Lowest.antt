@@ -106,15 +106,15 @@ first_cpu b g some = by_count b.cpus some
         ap (λ (o : Option ChainEntry). or_step (chain_next b g (actors.Cpu cpu_0)) o) (no_others b g 1 n (omega arith))
         ∙ or_none (chain_next b g) (chain_next b g (actors.Cpu cpu_0))
 
-module _ (s : SystemSeen) (ms : List Mark) (walk : Option Walk) (parent : Cell) (d : IsDemux s ms walk parent) where
+module _ {s : SystemSeen} {ms : List Mark} {walk : Option Walk} {parent : Cell} (d : IsDemux s ms walk parent) where
   abbrev g : List ChainEntry
   g = steps_of s ms
 
   -- a thread and a driver step as on any board
   pub other_next : (a : Actor) → IsOther a → chain_next s.board g a ≡ child (move_of s a)
-  other_next (actors.Thread line dev) other = ap (λ (ls : List BoardLine). child (due_move s.board ls (actors.Thread line dev))) (lines_are s ms walk parent d)
+  other_next (actors.Thread line dev) other = ap (λ (ls : List BoardLine). child (due_move s.board ls (actors.Thread line dev))) (lines_are d)
   other_next (actors.Cpu c) other = absurd other
-  other_next (actors.Driver r) other = ap (λ (ls : List BoardLine). child (due_move s.board ls (actors.Driver r))) (lines_are s ms walk parent d)
+  other_next (actors.Driver r) other = ap (λ (ls : List BoardLine). child (due_move s.board ls (actors.Driver r))) (lines_are d)
 
   none_of_move : (a : Actor) → IsOther a → move_of s a ≡ None → chain_next s.board g a ≡ None
   none_of_move a other none = other_next a other ∙ ap (λ (o : Option Move). child o) none

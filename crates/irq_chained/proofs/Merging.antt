@@ -114,8 +114,8 @@ tells_mark all moves at told what is = by_mark (slice_get all at) refl is
 
 -- ---- the next step of a walk
 
-module _ (all : List Mark) (moves : List Move) (at total left : ℕ) (w : IsWalking all moves at total left)
-    (view : List ChainEntry) (v : merged (drop at all) moves (total - left) ≡ view) where
+module _ {all : List Mark} {moves : List Move} {at total left : ℕ} (w : IsWalking all moves at total left)
+    {view : List ChainEntry} (v : merged (drop at all) moves (total - left) ≡ view) where
   pub mark_first : (what : Marked) → mark_reached (slice_get all at) (total - left) ≡ Some what → Some (mark_of what) ≡ slice_get view 0
   mark_first what is = ap (λ (g : List ChainEntry). slice_get g 0) (sym (tells_mark all moves at (total - left) what is) ∙ v)
 

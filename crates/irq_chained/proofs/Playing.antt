@@ -89,24 +89,6 @@ at_pick d picks i x within u =
     ∙ ap (λ (n : ℕ). get_or picks i x ∷ drop n picks) (sym (add-one i)) in
     subst (λ (rest : List Actor). IsUnderway d picks rest) next u
 
-pub pick_done : (old new : DemuxSeen) (picks : List Actor) (i : ℕ) (x : Actor) (turn : ChainTurn) → i < length picks → IsUnderway old picks (drop i picks)
-    → ((line : LineNo) (len : ℕ) → turn ≡ turns.Full line len → ⊥) → (turn ≡ turns.NoMemory → ⊥)
-    → TurnsBy old (next_of old (get_or picks i x)) turn new → IsUnderway new picks (drop (i + 1) picks)
-pick_done old new picks i x (turns.Moved e) within u full refused t =
-    more old new (next_of old (get_or picks i x)) e picks (get_or picks i x ∷ drop (i + 1) picks) (drop (i + 1) picks)
-    (at_pick old picks i x within u) t (with_step old (get_or picks i x) (drop (i + 1) picks) e t.is)
-pick_done old new picks i x turns.NotYet within u full refused t =
-    let v = at_pick old picks i x within u in
-    subst (λ (d : DemuxSeen). IsUnderway d picks (drop (i + 1) picks)) (sym t.1)
-    (record {
-      left = v.left;
-      made = v.made;
-      next = v.next
-          ∙ passed_over old (get_or picks i x) (drop (i + 1) picks) t.0;
-    })
-pick_done old new picks i x (turns.Full line len) within u full refused t = absurd (full line len refl)
-pick_done old new picks i x turns.NoMemory within u full refused t = absurd (refused refl)
-
 -- a full line ends the play
 is_full : (d : DemuxSeen) (picks rest after : List Actor) (due : Option ChainEntry) (line : LineNo) (len : ℕ)
     → IsUnderway d picks rest → IsFullFor d due line len
@@ -128,62 +110,102 @@ is_full d picks rest after due line len u full next = (
   full.length,
 )
 
-pub pick_full : (old new : DemuxSeen) (picks : List Actor) (i : ℕ) (x : Actor) (line : LineNo) (len : ℕ)
-    (turn : ChainTurn) → i < length picks → IsUnderway old picks (drop i picks) → turn ≡ turns.Full line len
-    → TurnsBy old (next_of old (get_or picks i x)) turn new
-    → IsPlay new picks (ends.Full line len)
-pick_full old new picks i x line len turn within u same t =
-    let full = subst (λ (y : ChainTurn). TurnsBy old (next_of old (get_or picks i x)) y new) same t in
-    subst (λ (d : DemuxSeen). IsPlay d picks (ends.Full line len)) (sym full.1)
-    (is_full old picks (get_or picks i x ∷ drop (i + 1) picks) (drop (i + 1) picks) (next_of old (get_or picks i x))
-    line len (at_pick old picks i x within u) full.0
-    (λ e due. with_step old (get_or picks i x) (drop (i + 1) picks) e due))
+-- a turn, where this step was due
+pub record Turned (old new : DemuxSeen) (due : Option ChainEntry) : Type 0 where
+  pub turn : ChainTurn
+  pub turns : TurnsBy old due turn new
 
-pub refused : (old new : DemuxSeen) (picks rest : List Actor) (due : Option ChainEntry) (turn : ChainTurn)
-    → IsUnderway old picks rest → turn ≡ turns.NoMemory → TurnsBy old due turn new → IsPlay new picks ends.NoMemory
-refused old new picks rest due turn u same t =
-    let wanted : IsSome (lowest_of old) × (new ≡ old) = subst (λ (y : ChainTurn). TurnsBy old due y new) same t in
-    let can = chain_next old.board (reverse old.log) in
-    let next : IsSome (choice_of old u.left) = ap (λ (o : Option (ChainEntry × List Actor)). is_some o) u.next
-    ∙ some_choice can (actors_of old.board) rest wanted.0 in
-    subst (λ (d : DemuxSeen). IsPlay d picks ends.NoMemory) (sym wanted.1) (u.left, u.made, next)
+abbrev pub a_turn : {old new : DemuxSeen} {due : Option ChainEntry} (turn : ChainTurn) → TurnsBy old due turn new → Turned old new due
+a_turn turn turns = record { turn = turn; turns = turns }
+
+same_board : (old new : DemuxSeen) (due : Option ChainEntry) (turn : ChainTurn) → TurnsBy old due turn new → new.board ≡ old.board
+same_board old new due (turns.Moved e) t = t.board
+same_board old new due turns.NotYet t = ap (λ (d : DemuxSeen). d.board) t.1
+same_board old new due (turns.Full line len) t = ap (λ (d : DemuxSeen). d.board) t.1
+same_board old new due turns.NoMemory t = ap (λ (d : DemuxSeen). d.board) t.1
+
+same_layout : (old new : DemuxSeen) (due : Option ChainEntry) (turn : ChainTurn) → TurnsBy old due turn new → new.layout ≡ old.layout
+same_layout old new due (turns.Moved e) t = t.layout
+same_layout old new due turns.NotYet t = ap (λ (d : DemuxSeen). d.layout) t.1
+same_layout old new due (turns.Full line len) t = ap (λ (d : DemuxSeen). d.layout) t.1
+same_layout old new due turns.NoMemory t = ap (λ (d : DemuxSeen). d.layout) t.1
+
+module _ {old new : DemuxSeen} {due : Option ChainEntry} (t : Turned old new due) where
+  -- what holds if that was answered
+  answered : (turn : ChainTurn) → t.turn ≡ turn → TurnsBy old due turn new
+  answered turn same = subst (λ (x : ChainTurn). TurnsBy old due x new) same t.turns
+
+  pub keeps_board : new.board ≡ old.board
+  keeps_board = same_board old new due t.turn t.turns
+
+  pub keeps_layout : new.layout ≡ old.layout
+  keeps_layout = same_layout old new due t.turn t.turns
+
+  pub refused : {picks rest : List Actor} → IsUnderway old picks rest → t.turn ≡ turns.NoMemory → IsPlay new picks ends.NoMemory
+  refused {picks} {rest} u same =
+      let wanted : IsSome (lowest_of old) × (new ≡ old) = answered turns.NoMemory same in
+      let can = chain_next old.board (reverse old.log) in
+      let next : IsSome (choice_of old u.left) = ap (λ (o : Option (ChainEntry × List Actor)). is_some o) u.next
+      ∙ some_choice can (actors_of old.board) rest wanted.0 in
+      subst (λ (d : DemuxSeen). IsPlay d picks ends.NoMemory) (sym wanted.1) (u.left, u.made, next)
+
+  -- where the step is the play's next one
+  goes_on : {picks rest : List Actor} (after : List Actor) {e : ChainEntry} → IsUnderway old picks rest
+      → ((e : ChainEntry) → due ≡ Some e → choice_of old rest ≡ Some (e, after)) → t.turn ≡ turns.Moved e → IsUnderway new picks after
+  goes_on {picks} {rest} after {e} u next same =
+      let goes : Goes old due e new = answered (turns.Moved e) same in
+      more old new due e picks rest after u goes (next e goes.is)
+
+  ends_full : {picks rest : List Actor} (after : List Actor) {line : LineNo} {len : ℕ} → IsUnderway old picks rest
+      → ((e : ChainEntry) → due ≡ Some e → choice_of old rest ≡ Some (e, after)) → t.turn ≡ turns.Full line len
+      → IsPlay new picks (ends.Full line len)
+  ends_full {picks} {rest} after {line} {len} u next same =
+      let full : IsFullFor old due line len × (new ≡ old) = answered (turns.Full line len) same in
+      subst (λ (d : DemuxSeen). IsPlay d picks (ends.Full line len)) (sym full.1) (is_full old picks rest after due line len u full.0 next)
+
+-- ---- the pick at a place
+
+module _ {old new : DemuxSeen} {picks : List Actor} {i : ℕ} (x : Actor) (within : i < length picks)
+    (u : IsUnderway old picks (drop i picks)) (t : Turned old new (next_of old (get_or picks i x))) where
+  abbrev pick : Actor
+  pick = get_or picks i x
+
+  abbrev after : List Actor
+  after = drop (i + 1) picks
+
+  pub pick_done : ((line : LineNo) (len : ℕ) → t.turn ≡ turns.Full line len → ⊥) → (t.turn ≡ turns.NoMemory → ⊥) → IsUnderway new picks after
+  pick_done full none = by_turn t.turn refl
+    where
+      by_turn : (turn : ChainTurn) → t.turn ≡ turn → IsUnderway new picks after
+      by_turn (turns.Moved e) same = goes_on t after (at_pick old picks i x within u) (λ e due. with_step old pick after e due) same
+      by_turn turns.NotYet same =
+          let rests : (next_of old pick ≡ None) × (new ≡ old) = answered t turns.NotYet same in
+          let v = at_pick old picks i x within u in
+          subst (λ (d : DemuxSeen). IsUnderway d picks after) (sym rests.1)
+          (record { left = v.left; made = v.made; next = v.next ∙ passed_over old pick after rests.0 })
+      by_turn (turns.Full line len) same = absurd (full line len same)
+      by_turn turns.NoMemory same = absurd (none same)
+
+  pub pick_full : {line : LineNo} {len : ℕ} → t.turn ≡ turns.Full line len → IsPlay new picks (ends.Full line len)
+  pick_full same = ends_full t after (at_pick old picks i x within u) (λ e due. with_step old pick after e due) same
 
 -- ---- the lowest
 
 lowest_next : (d : DemuxSeen) (e : ChainEntry) → lowest_of d ≡ Some e → choice_of d [] ≡ Some (e, [])
 lowest_next d e is = ap (λ (o : Option ChainEntry). with_left [] o) is
 
-pub lowest_moved : (old new : DemuxSeen) (picks : List Actor) (e : ChainEntry) (turn : ChainTurn)
-    → IsUnderway old picks [] → turn ≡ turns.Moved e → TurnsBy old (lowest_of old) turn new → IsUnderway new picks []
-lowest_moved old new picks e turn u same t =
-    let goes : Goes old (lowest_of old) e new = subst (λ (y : ChainTurn). TurnsBy old (lowest_of old) y new) same t in
-    more old new (lowest_of old) e picks [] [] u goes (lowest_next old e goes.is)
+module _ {old new : DemuxSeen} (t : Turned old new (lowest_of old)) where
+  pub lowest_moved : {picks : List Actor} {e : ChainEntry} → IsUnderway old picks [] → t.turn ≡ turns.Moved e → IsUnderway new picks []
+  lowest_moved u same = goes_on t [] u (lowest_next old) same
 
-pub lowest_done : (old new : DemuxSeen) (picks : List Actor) (turn : ChainTurn) → IsUnderway old picks []
-    → turn ≡ turns.NotYet → TurnsBy old (lowest_of old) turn new → IsPlay new picks ends.Done
-lowest_done old new picks turn u same t =
-    let rests = subst (λ (y : ChainTurn). TurnsBy old (lowest_of old) y new) same t in
-    subst (λ (d : DemuxSeen). IsPlay d picks ends.Done) (sym rests.1) (u.left, u.made, u.next ∙ ap (λ (o : Option ChainEntry). with_left [] o) rests.0)
+  pub lowest_done : {picks : List Actor} → IsUnderway old picks [] → t.turn ≡ turns.NotYet → IsPlay new picks ends.Done
+  lowest_done {picks} u same =
+      let rests : (lowest_of old ≡ None) × (new ≡ old) = answered t turns.NotYet same in
+      subst (λ (d : DemuxSeen). IsPlay d picks ends.Done) (sym rests.1) (u.left, u.made, u.next ∙ ap (λ (o : Option ChainEntry). with_left [] o) rests.0)
 
-pub lowest_full : (old new : DemuxSeen) (picks : List Actor) (line : LineNo) (len : ℕ) (turn : ChainTurn)
-    → IsUnderway old picks [] → turn ≡ turns.Full line len → TurnsBy old (lowest_of old) turn new
-    → IsPlay new picks (ends.Full line len)
-lowest_full old new picks line len turn u same t =
-    let full = subst (λ (y : ChainTurn). TurnsBy old (lowest_of old) y new) same t in
-    subst (λ (d : DemuxSeen). IsPlay d picks (ends.Full line len)) (sym full.1)
-    (is_full old picks [] [] (lowest_of old) line len u full.0 (λ e due. lowest_next old e due))
-
-pub same_board : (old new : DemuxSeen) (due : Option ChainEntry) (turn : ChainTurn) → TurnsBy old due turn new → new.board ≡ old.board
-same_board old new due (turns.Moved e) t = t.board
-same_board old new due turns.NotYet t = ap (λ (d : DemuxSeen). d.board) t.1
-same_board old new due (turns.Full line len) t = ap (λ (d : DemuxSeen). d.board) t.1
-same_board old new due turns.NoMemory t = ap (λ (d : DemuxSeen). d.board) t.1
-
-pub same_layout : (old new : DemuxSeen) (due : Option ChainEntry) (turn : ChainTurn) → TurnsBy old due turn new → new.layout ≡ old.layout
-same_layout old new due (turns.Moved e) t = t.layout
-same_layout old new due turns.NotYet t = ap (λ (d : DemuxSeen). d.layout) t.1
-same_layout old new due (turns.Full line len) t = ap (λ (d : DemuxSeen). d.layout) t.1
-same_layout old new due turns.NoMemory t = ap (λ (d : DemuxSeen). d.layout) t.1
+  pub lowest_full : {picks : List Actor} {line : LineNo} {len : ℕ} → IsUnderway old picks [] → t.turn ≡ turns.Full line len
+      → IsPlay new picks (ends.Full line len)
+  lowest_full u same = ends_full t [] u (lowest_next old) same
 
 -- ---- it ends: an enter and an exit use up no room, but never follow one another at once
 
@@ -303,9 +325,9 @@ measure_falls old new due e legal a next goes =
         let most = rank_below (open_status g) in
         omega (arith, less, after, most)
 
-pub lowest_falls : (old new : DemuxSeen) (e : ChainEntry) (turn : ChainTurn) → IsChainLegal old.board (reverse old.log)
-    → turn ≡ turns.Moved e → TurnsBy old (lowest_of old) turn new → measure new < measure old
-lowest_falls old new e turn legal same t =
-    let goes : Goes old (lowest_of old) e new = subst (λ (y : ChainTurn). TurnsBy old (lowest_of old) y new) same t in
+pub lowest_falls : {old new : DemuxSeen} (t : Turned old new (lowest_of old)) {e : ChainEntry} → IsChainLegal old.board (reverse old.log)
+    → t.turn ≡ turns.Moved e → measure new < measure old
+lowest_falls {old} {new} t {e} legal same =
+    let goes : Goes old (lowest_of old) e new = answered t (turns.Moved e) same in
     let a = first_is_some (chain_next old.board (reverse old.log)) (actors_of old.board) e goes.is in
     measure_falls old new (lowest_of old) e legal a.0 a.1 goes

@@ -45,22 +45,22 @@ use Rattle.irq_chained.proofs.Merging.{with_mark, with_move, within_mark, within
 abbrev pub steps_of : SystemSeen → List Mark → List ChainEntry
 steps_of s ms = reverse (merged ms s.log 0)
 
-pub lines_are : (s : SystemSeen) (ms : List Mark) (walk : Option Walk) (parent : Cell) → IsDemux s ms walk parent
+pub lines_are : {s : SystemSeen} {ms : List Mark} {walk : Option Walk} {parent : Cell} → IsDemux s ms walk parent
     → lines_in s.board (steps_of s ms) ≡ board_lines s.lines
-lines_are s ms walk parent d = ap (λ (g : List Move). lines_of s.board g) d.moves ∙ sym d.lines
+lines_are {s} {ms} d = ap (λ (g : List Move). lines_of s.board g) d.moves ∙ sym d.lines
 
-pub parent_level : (s : SystemSeen) (ms : List Mark) (walk : Option Walk) (parent : Cell) → IsDemux s ms walk parent
+pub parent_level : {s : SystemSeen} {ms : List Mark} {walk : Option Walk} {parent : Cell} → IsDemux s ms walk parent
     → parent ≡ level (is_some (open_status (steps_of s ms))) (is_asked (board_lines s.lines))
-parent_level s ms walk parent d =
+parent_level {s} {ms} d =
     d.parent ∙ (parent_is s.board (steps_of s ms) ∙ ap
     (λ (ls : List BoardLine). level (is_some (open_status (steps_of s ms))) (is_asked ls))
-    (lines_are s ms walk parent d))
+    (lines_are d))
 
 -- the input shows already what it is to show
-pub shown : (s : SystemSeen) (ms : List Mark) (walk : Option Walk) (parent : Cell) → IsDemux s ms walk parent
+pub shown : {s : SystemSeen} {ms : List Mark} {walk : Option Walk} {parent : Cell} → IsDemux s ms walk parent
     → after_high (is_asked (board_lines s.lines)) parent ≡ parent
-shown s ms walk parent d =
-    let l = parent_level s ms walk parent d in
+shown {s} {ms} d =
+    let l = parent_level d in
     ap (λ (c : Cell). after_high (is_asked (board_lines s.lines)) c) l ∙ sym l
 
 zero_add : (n : ℕ) → n ≡ 0 + n
@@ -76,8 +76,8 @@ abbrev pub WalkGoes : SystemSeen → List Mark → Turn → SystemSeen → Optio
 WalkGoes s ms (moves.Moved line e) t after = IsWalkOf (board_lines t.lines) (steps.Child line e ∷ steps_of s ms) after
 WalkGoes s ms turn t after = IsWalkOf (board_lines s.lines) (steps_of s ms) after
 
-module _ (s t : SystemSeen) (ms : List Mark) (walk after : Option Walk) (parent now : Cell) (a : Actor)
-    (o : Option BoardLine) (d : IsDemux s ms walk parent)
+module _ {s : SystemSeen} (t : SystemSeen) {ms : List Mark} {walk : Option Walk} (after : Option Walk) {parent now : Cell}
+    (a : Actor) (o : Option BoardLine) (d : IsDemux s ms walk parent)
     (next : chain_next s.board (steps_of s ms) a ≡ child (due_on o a))
     (shows : now ≡ after_high (is_asked (board_lines t.lines)) parent) where
   abbrev g : List ChainEntry
@@ -135,7 +135,7 @@ module _ (s t : SystemSeen) (ms : List Mark) (walk after : Option Walk) (parent 
     child_goes : Goes (seen_of s ms parent) (chain_next s.board g a) step (seen_of t ms now)
     child_goes = record {
       is = due;
-      room = subst (λ (ls : List BoardLine). IsSomeAnd (find_line ls line) (λ x. length x.past < s.board.log)) (sym (lines_are s ms walk parent d)) mv.room;
+      room = subst (λ (ls : List BoardLine). IsSomeAnd (find_line ls line) (λ x. length x.past < s.board.log)) (sym (lines_are d)) mv.room;
       board = mv.board;
       layout = mv.layout;
       log = longer;
@@ -144,7 +144,7 @@ module _ (s t : SystemSeen) (ms : List Mark) (walk after : Option Walk) (parent 
   -- if nothing has changed
   same : t ≡ s → IsWalkOf (board_lines s.lines) (steps_of s ms) after → IsDemux t ms after now × (seen_of t ms now ≡ seen_of s ms parent)
   same is walks =
-      let cell : now ≡ parent = shows ∙ (ap (λ (x : SystemSeen). after_high (is_asked (board_lines x.lines)) parent) is ∙ shown s ms walk parent d) in (
+      let cell : now ≡ parent = shows ∙ (ap (λ (x : SystemSeen). after_high (is_asked (board_lines x.lines)) parent) is ∙ shown d) in (
         subst (λ (x : SystemSeen). IsDemux x ms after now) (sym is)
             (record {
               fits = d.fits;
@@ -199,7 +199,7 @@ mark_has_room : (d : DemuxSeen) (what : Marked) → HasRoomFor d (mark_of what)
 mark_has_room d (marks.Enter status) = tt
 mark_has_room d marks.Exit = tt
 
-module _ (s : SystemSeen) (ms : List Mark) (walk after : Option Walk) (parent now : Cell) (m : Mark)
+module _ {s : SystemSeen} {ms : List Mark} {walk : Option Walk} (after : Option Walk) {parent now : Cell} (m : Mark)
     (d : IsDemux s ms walk parent) (next : chain_next s.board (steps_of s ms) (actors.Cpu cpu_0)
     ≡ Some (mark_of m.what)) (before : m.before ≡ length s.log)
     (walks : IsWalkOf (board_lines s.lines) (mark_of m.what ∷ steps_of s ms) after)

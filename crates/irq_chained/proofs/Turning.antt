@@ -6,24 +6,15 @@ use Rattle.std.proofs.lemmas.Nat.Bits.{bit_at-zero}
 use Rattle.std.proofs.lemmas.List.{length-map}
 use Rattle.std.proofs.lemmas.Option.{slice_get_within}
 use Rattle.irq_base.specs.Cell.{Cell, after_ack, after_high, after_mask, after_unmask, is_edge_cell}
-use Rattle.irq_base.specs.Who.{actor_of}
 use Rattle.irq_base.specs.declared.entries.Actor.{Actor}
 use Rattle.irq_base.specs.declared.entries.Actor.TheVariants as actors
 use Rattle.irq_base.specs.declared.entries.Entry.{Entry}
-use Rattle.irq_base.specs.declared.entries.Entry.TheVariants as entries
-use Rattle.irq_base.specs.declared.lines.FlowKind.{FlowKind}
-use Rattle.irq_base.specs.declared.lines.FlowKind.TheVariants as flows
 use Rattle.irq_base.specs.declared.lines.LineDef.{LineDef}
-use Rattle.irq_base.specs.declared.numbers.CpuNo.{CpuNo}
-use Rattle.irq_base.specs.declared.numbers.DevNo.{DevNo}
 use Rattle.irq_base.specs.declared.numbers.LineNo.{LineNo}
 use Rattle.irq_line.specs.Seen.{LineSeen}
 use Rattle.irq_model.specs.Kinds.{is_take}
-use Rattle.irq_model.specs.Next.{begin_or_end, end_by_flow, end_of, next_in_flow, next_past, next_take}
-use Rattle.irq_model.specs.Rounds.{at_work, first_left as first_dev, flow, is_cpu}
-use Rattle.irq_model.specs.Links.{linked}
-use Rattle.irq_model.specs.Lines.{is_edge_line}
-use Rattle.irq_model.specs.Spurious.{note_of}
+use Rattle.irq_model.specs.Next.{next_past}
+use Rattle.irq_model.specs.Rounds.{flow, is_cpu}
 use Rattle.irq_laws.proofs.Chosen.{the_same}
 use Rattle.board_def.specs.Rules.{IsBoard}
 use Rattle.board_play.specs.Kept.{AreKept}
@@ -58,89 +49,27 @@ use Rattle.irq_chained.proofs.Chained.{due_own, take_is_due}
 use Rattle.irq_chained.proofs.Further.{some_of_0, somebody}
 use Rattle.irq_chained.proofs.Lowest.{other_next}
 use Rattle.irq_chained.proofs.StatusBits.{left_place}
+use Rattle.irq_chained.proofs.NoTakes.{other_is_no_take, in_flow_due, in_flow_is_no_take, flow_line_on}
 use Rattle.irq_chained.proofs.Stepping.{WalkGoes, child_turn, lines_are, mark_goes, mark_kept, parent_level, steps_of, walk_stays, walk_takes}
 
-pub level_cell : (s : SystemSeen) (ms : List Mark) (walk : Option Walk) (parent : Cell) → IsDemux s ms walk parent → is_edge_cell parent ≡ false
-level_cell s ms walk parent d = ap (λ (c : Cell). is_edge_cell c) (parent_level s ms walk parent d)
+pub level_cell : {s : SystemSeen} {ms : List Mark} {walk : Option Walk} {parent : Cell} → IsDemux s ms walk parent → is_edge_cell parent ≡ false
+level_cell d = ap (λ (c : Cell). is_edge_cell c) (parent_level d)
 
 -- processor 0 has this step
 some_step : (seen : DemuxSeen) → IsBoard seen.board → (e : ChainEntry) → next_of seen (actors.Cpu cpu_0) ≡ Some e → IsSome (lowest_of seen)
 some_step seen isb e is = some_of_0 seen isb (ap (λ (o : Option ChainEntry). is_some o) is)
 
 -- the same, said of what is seen
-pub says : (seen view new : DemuxSeen) (a : Actor) (turn answer : ChainTurn) → seen ≡ view → answer ≡ turn
+pub says : {seen view : DemuxSeen} (new : DemuxSeen) (a : Actor) {turn answer : ChainTurn} → seen ≡ view → answer ≡ turn
     → TurnsBy seen (next_of seen a) turn new → TurnsBy view (next_of view a) answer new
-says seen view new a turn answer v same t = subst (λ (d : DemuxSeen). TurnsBy d (next_of d a) answer new) v
+says {seen} {view} new a {turn} {answer} v same t = subst (λ (d : DemuxSeen). TurnsBy d (next_of d a) answer new) v
     (subst (λ (x : ChainTurn). TurnsBy seen (next_of seen a) x new) (sym same) t)
-
--- ---- entries that are no takes
-
-other_is_no_take : (line : LineNo) (e : Entry) (a : Actor) → actor_of line e ≡ a → IsOther a → is_take e ≡ false
-other_is_no_take line (entries.Take cpu way answer) a is other = absurd (subst (λ (x : Actor). IsOther x) (sym is) other)
-other_is_no_take line (entries.Ask r dev) a is other = refl
-other_is_no_take line (entries.Begin cpu dev) a is other = refl
-other_is_no_take line (entries.Return cpu dev answer served) a is other = refl
-other_is_no_take line (entries.End cpu again unmask note) a is other = refl
-other_is_no_take line (entries.ThreadBegin dev) a is other = refl
-other_is_no_take line (entries.ThreadReturn dev served) a is other = refl
-other_is_no_take line (entries.Finish dev kept unmask) a is other = refl
-other_is_no_take line (entries.Done dev) a is other = refl
-other_is_no_take line (entries.Disable r) a is other = refl
-other_is_no_take line (entries.HardClear r) a is other = refl
-other_is_no_take line (entries.Synced r) a is other = refl
-other_is_no_take line (entries.Enable r answer) a is other = refl
-other_is_no_take line (entries.Request r dev flags answer opened) a is other = refl
-other_is_no_take line (entries.Unlink r dev answer) a is other = refl
-other_is_no_take line (entries.Freed r dev) a is other = refl
-other_is_no_take line (entries.Affinity r mask answer) a is other = refl
-other_is_no_take line (entries.Moment r at) a is other = refl
-
-end_is_no_take : (d : LineDef) (c : CpuNo) (past : List Entry) → is_take (end_of d c past) ≡ false
-end_is_no_take d c past = by_flow d.flow
-  where
-    by_edge : (b : Bool) (x y : Entry) → is_take x ≡ false → is_take y ≡ false → is_take (cond b x y) ≡ false
-    by_edge true x y p q = p
-    by_edge false x y p q = q
-
-    by_flow : (f : FlowKind) → is_take (end_by_flow d f c past (note_of d past)) ≡ false
-    by_flow flows.Edge = refl
-    by_flow flows.Level = refl
-    by_flow flows.Eoi = by_edge (is_edge_line d) _ _ refl refl
-
-flow_is_no_take : (d : LineDef) (c : CpuNo) (past : List Entry) (o : Option DevNo) → is_take (next_in_flow d c past o) ≡ false
-flow_is_no_take d c past (Some dev) = refl
-flow_is_no_take d c past None = by_left (first_dev d past (linked past))
-  where
-    by_left : (o : Option DevNo) → is_take (begin_or_end d c past o) ≡ false
-    by_left None = end_is_no_take d c past
-    by_left (Some dev) = refl
-
--- in a flow of the processor an entry is due
-in_flow_due : (x : BoardLine) (c : CpuNo) → is_cpu c (flow x.def x.past) ≡ true
-    → due_on (Some x) (actors.Cpu c) ≡ Some (x.def.line, next_in_flow x.def c x.past (at_work x.past))
-in_flow_due x c on = ap (λ (b : Bool). move_on x.def.line (cond b (Some (next_in_flow x.def c x.past (at_work x.past))) (next_take x.def c x.past))) on
-
-in_flow_is_no_take : (x : BoardLine) (c : CpuNo) (m : Move) → is_cpu c (flow x.def x.past) ≡ true
-    → due_on (Some x) (actors.Cpu c) ≡ Some m → is_take m.1 ≡ false
-in_flow_is_no_take x c m on due =
-    let made : Move = (x.def.line, next_in_flow x.def c x.past (at_work x.past)) in
-    let is : Some made ≡ Some m = sym (in_flow_due x c on) ∙ due in
-    subst (λ (n : Move). is_take n.1 ≡ false) (the_same made m is) (flow_is_no_take x.def c x.past (at_work x.past))
-
-flow_line_on : (lines : List BoardLine) (c : CpuNo) (x : BoardLine) → flow_line lines c ≡ Some x → is_cpu c (flow x.def x.past) ≡ true
-flow_line_on [] c x is = cc
-flow_line_on (y ∷ ys) c x is = by_test (is_cpu c (flow y.def y.past)) refl is (λ h. flow_line_on ys c x h)
-  where
-    by_test : (b : Bool) → is_cpu c (flow y.def y.past) ≡ b → cond b (Some y) (flow_line ys c) ≡ Some x
-        → (flow_line ys c ≡ Some x → is_cpu c (flow x.def x.past) ≡ true) → is_cpu c (flow x.def x.past) ≡ true
-    by_test true on is rest = subst (λ (z : BoardLine). is_cpu c (flow z.def z.past) ≡ true) (the_same y x is) on
-    by_test false off is rest = rest is
 
 some_of : {A : Type 0} (o : Option A) → IsSome o → (x : A) × (o ≡ Some x)
 some_of None h = cc
 some_of (Some x) h = (x, refl)
 
-module _ (s t : SystemSeen) (ms : List Mark) (walk : Option Walk) (parent now : Cell) (d : IsDemux s ms walk parent)
+module _ {s : SystemSeen} (t : SystemSeen) {ms : List Mark} {walk : Option Walk} {parent now : Cell} (d : IsDemux s ms walk parent)
     (shows : now ≡ after_high (is_asked (board_lines t.lines)) parent) where
   abbrev g : List ChainEntry
   g = steps_of s ms
@@ -153,13 +82,13 @@ module _ (s t : SystemSeen) (ms : List Mark) (walk : Option Walk) (parent now : 
   pub other_turn : IsBoard s.board → AreKept s.board (board_lines s.lines) → (a : Actor) (turn : Turn) → IsOther a
       → Turns s a turn t
       → IsDemux t ms walk now × TurnsBy seen (next_of seen a) (turn_of turn) (seen_of t ms now)
-  other_turn isb kept a turn other by = child_turn s t ms walk walk parent now a (line_for s.board (board_lines s.lines) a) d
-      (other_next s ms walk parent d a other) shows turn (wanted turn by) (steps_by turn by) (walks turn by)
+  other_turn isb kept a turn other by = child_turn t walk a (line_for s.board (board_lines s.lines) a) d
+      (other_next d a other) shows turn (wanted turn by) (steps_by turn by) (walks turn by)
     where
       wanted : (turn : Turn) → Turns s a turn t → turn ≡ moves.NoMemory → IsSome (lowest_of seen)
       wanted turn by is =
           let w = subst (λ (x : Turn). Turns s a x t) is by in
-          somebody s ms walk parent d isb kept w.0.somebody
+          somebody d isb kept w.0.somebody
 
       steps_by : (turn : Turn) → Turns s a turn t → StepsBy s (move_of s a) turn t
       steps_by (moves.Moved line e) by = by
@@ -197,9 +126,9 @@ module _ (s t : SystemSeen) (ms : List Mark) (walk : Option Walk) (parent now : 
           stands.place x stands.at in
           let next : chain_next s.board g (actors.Cpu cpu_0) ≡ child (due_on (find_line lines line) (actors.Cpu cpu_0)) =
           ap (λ (o : Option ℕ). of_cpu_0 g (lines_in s.board g) o) st.1
-          ∙ (ap (λ (ls : List BoardLine). in_chain g ls st.0 (flow_line ls cpu_0)) (lines_are s ms walk parent d)
+          ∙ (ap (λ (ls : List BoardLine). in_chain g ls st.0 (flow_line ls cpu_0)) (lines_are d)
           ∙ (ap (λ (o : Option BoardLine). in_chain g lines st.0 o) is ∙ sym (ap (λ (o : Option BoardLine). child (due_on o (actors.Cpu cpu_0))) found))) in
-          child_turn s t ms walk walk parent now (actors.Cpu cpu_0) (find_line lines line) d next shows turn
+          child_turn t walk (actors.Cpu cpu_0) (find_line lines line) d next shows turn
           (λ refused. some_step seen isb _
           (next ∙ (ap (λ (o : Option BoardLine). child (due_on o (actors.Cpu cpu_0))) found
           ∙ ap (λ (o : Option Move). child o) (in_flow_due x cpu_0 (flow_line_on lines cpu_0 x is))))) by
@@ -260,7 +189,7 @@ module _ (s t : SystemSeen) (ms : List Mark) (walk : Option Walk) (parent now : 
           let its : y.def.line ≡ line = the_same y.def.line line number in
           let found : find_line lines line ≡ slice_get lines place = ap (λ (l : LineNo). find_line lines l) (sym its)
           ∙ (find_there lines (apart_kept s.board isb lines kept) place y at ∙ sym at) in
-          child_turn s t ms walk (Some after) parent now (actors.Cpu cpu_0) (find_line lines line) d
+          child_turn t (Some after) (actors.Cpu cpu_0) (find_line lines line) d
           (next ∙ sym (ap (λ (o : Option BoardLine). child (due_on o (actors.Cpu cpu_0))) found)) shows turn
           (λ refused. some_step seen isb _ (next ∙ ap (λ (o : Option Move). child o) (take_is_due (slice_get lines place) due).1)) by
           (walks y at its found turn taken by)
@@ -272,7 +201,7 @@ not_zero n some = by_test (n == 0) refl
     by_test true is = absurd (some (eqb-true n 0 is))
     by_test false is = refl
 
-module _ (s : SystemSeen) (ms : List Mark) (walk : Option Walk) (parent : Cell) (d : IsDemux s ms walk parent) where
+module _ {s : SystemSeen} {ms : List Mark} {walk : Option Walk} {parent : Cell} (d : IsDemux s ms walk parent) where
   abbrev so_far : List ChainEntry
   so_far = steps_of s ms
 
@@ -291,7 +220,7 @@ module _ (s : SystemSeen) (ms : List Mark) (walk : Option Walk) (parent : Cell) 
   enters : (status : ℕ) → open_status so_far ≡ None → status ≡ status_of (board_lines s.lines) → chain_next s.board so_far (actors.Cpu cpu_0) ≡ to_enter status
   enters status closed is =
       ap (λ (o : Option ℕ). of_cpu_0 so_far (lines_in s.board so_far) o) closed
-      ∙ (ap (λ (ls : List BoardLine). to_enter (status_of ls)) (lines_are s ms walk parent d)
+      ∙ (ap (λ (ls : List BoardLine). to_enter (status_of ls)) (lines_are d)
       ∙ ap (λ (n : ℕ). to_enter n) (sym is))
 
   pub not_entered : (status : ℕ) → open_status so_far ≡ None → status ≡ status_of (board_lines s.lines)
@@ -318,7 +247,7 @@ module _ (s : SystemSeen) (ms : List Mark) (walk : Option Walk) (parent : Cell) 
 
     pub enter_kept : (now : Cell) → now ≡ after_ack (after_mask parent) → (all : List Mark) → all ≡ ms ++ enter_mark ∷ [] → IsDemux s all (Some enter_walk) now
     enter_kept now shows all is = subst (λ (l : List Mark). IsDemux s l (Some enter_walk) now) (sym is)
-        (mark_kept s ms walk (Some enter_walk) parent now enter_mark d is_next stands enter_walks shows)
+        (mark_kept (Some enter_walk) enter_mark d is_next stands enter_walks shows)
 
     pub enter_goes : (now : Cell) → now ≡ after_ack (after_mask parent) → (all : List Mark)
         → all ≡ ms ++ enter_mark ∷ [] → (view : DemuxSeen) → seen_of s ms parent ≡ view
@@ -327,7 +256,7 @@ module _ (s : SystemSeen) (ms : List Mark) (walk : Option Walk) (parent : Cell) 
         subst (λ (x : DemuxSeen). Goes x (next_of x (actors.Cpu cpu_0)) (steps.Enter cpu_0 status) (seen_of s all now)) v
         (subst (λ (l : List Mark). Goes (seen_of s ms parent) (chain_next s.board so_far (actors.Cpu cpu_0))
         (steps.Enter cpu_0 status) (seen_of s l now)) (sym is)
-        (mark_goes s ms walk (Some enter_walk) parent now enter_mark d is_next stands enter_walks shows))
+        (mark_goes (Some enter_walk) enter_mark d is_next stands enter_walks shows))
 
   -- ---- an exit
 
@@ -337,7 +266,7 @@ module _ (s : SystemSeen) (ms : List Mark) (walk : Option Walk) (parent : Cell) 
 
     pub exit_kept : (now : Cell) → now ≡ after_unmask parent → (all : List Mark) → all ≡ ms ++ exit_mark ∷ [] → IsDemux s all None now
     exit_kept now shows all is = subst (λ (l : List Mark). IsDemux s l None now) (sym is)
-        (mark_kept s ms walk None parent now exit_mark d next stands refl shows)
+        (mark_kept None exit_mark d next stands refl shows)
 
     pub exit_goes : (now : Cell) → now ≡ after_unmask parent → (all : List Mark) → all ≡ ms ++ exit_mark ∷ []
         → (view : DemuxSeen) → seen_of s ms parent ≡ view
@@ -346,7 +275,7 @@ module _ (s : SystemSeen) (ms : List Mark) (walk : Option Walk) (parent : Cell) 
         subst (λ (x : DemuxSeen). Goes x (next_of x (actors.Cpu cpu_0)) (steps.Exit cpu_0) (seen_of s all now)) v
         (subst (λ (l : List Mark). Goes (seen_of s ms parent) (chain_next s.board so_far (actors.Cpu cpu_0))
         (steps.Exit cpu_0) (seen_of s l now)) (sym is)
-        (mark_goes s ms walk None parent now exit_mark d next stands refl shows))
+        (mark_goes None exit_mark d next stands refl shows))
 
   -- ---- what comes next in an open chain without a flow
 
@@ -356,7 +285,7 @@ module _ (s : SystemSeen) (ms : List Mark) (walk : Option Walk) (parent : Cell) 
     walks_on : chain_next s.board so_far (actors.Cpu cpu_0) ≡ or_exit (child (due_on (first_left so_far (board_lines s.lines) w.status) (actors.Cpu cpu_0)))
     walks_on =
         ap (λ (o : Option ℕ). of_cpu_0 so_far (lines_in s.board so_far) o) walks.0
-        ∙ (ap (λ (ls : List BoardLine). in_chain so_far ls w.status (flow_line ls cpu_0)) (lines_are s ms walk parent d)
+        ∙ (ap (λ (ls : List BoardLine). in_chain so_far ls w.status (flow_line ls cpu_0)) (lines_are d)
         ∙ ap (λ (o : Option BoardLine). in_chain so_far (board_lines s.lines) w.status o) rests)
 
     place_is : (o : Option ℕ) → o ≡ first_of (is_in_words w.status w.taken due) 64

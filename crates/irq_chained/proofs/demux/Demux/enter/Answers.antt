@@ -9,27 +9,24 @@ use Rattle.irq_chained.proofs.demux.Demux.enter.Goals as goal
 
 pub invariant_of-self-in-Ok : goal.invariant_of-self-in-Ok
 invariant_of-self-in-Ok g c =
-    let s = c.self.inside in
-    enter_kept s.system s.marks.items s.walk _ c.self.invariant c.read_status-status.result c.log_len.result
+    enter_kept c.self.invariant c.read_status-status.result c.log_len.result
     (subst (λ (d : DemuxSeen). open_status (reverse d.log) ≡ None) (sym c.self.view_is) c.requires)
     c.read_status-status.ensures (not_zero c.read_status-status.result c.if-status-eq0.false) c.log_len.ensures _
     (c.ack.ensures.cell ∙ ap (λ (x : Cell). after_ack x) c.mask.ensures.cell) c.push.new.self.items c.in-Ok.ensures.items
 
 pub returns-in-Ok : goal.returns-in-Ok
 returns-in-Ok g c =
-    let s = c.self.inside in
-    enter_goes s.system s.marks.items s.walk _ c.self.invariant c.read_status-status.result c.log_len.result
+    enter_goes c.self.invariant c.read_status-status.result c.log_len.result
     (subst (λ (d : DemuxSeen). open_status (reverse d.log) ≡ None) (sym c.self.view_is) c.requires)
     c.read_status-status.ensures (not_zero c.read_status-status.result c.if-status-eq0.false) c.log_len.ensures _
     (c.ack.ensures.cell ∙ ap (λ (x : Cell). after_ack x) c.mask.ensures.cell) c.push.new.self.items c.in-Ok.ensures.items c.args.self.now c.self.view_is
 
 pub returns-in-Err : goal.returns-in-Err
 returns-in-Err g c =
-    let s = c.self.inside in
     let v = sym c.self.view_is in
-    unmarked s.system s.marks.items s.walk _ c.self.invariant (subst (λ (d : DemuxSeen). IsBoard d.board) v c.is_kept.ensures.board)
+    unmarked c.self.invariant (subst (λ (d : DemuxSeen). IsBoard d.board) v c.is_kept.ensures.board)
     (steps.Enter cpu_0 c.read_status-status.result)
-    (enter_next s.system s.marks.items s.walk _ c.self.invariant c.read_status-status.result
+    (enter_next c.self.invariant c.read_status-status.result
     (subst (λ (d : DemuxSeen). open_status (reverse d.log) ≡ None) v c.requires)
     c.read_status-status.ensures (not_zero c.read_status-status.result c.if-status-eq0.false))
     c.push.new.self.items c.in-Err.ensures.items c.args.self.now c.self.view_is

@@ -10,24 +10,21 @@ use Rattle.irq_chained.proofs.demux.Demux.exit.Goals as goal
 
 pub invariant_of-self-in-Ok : goal.invariant_of-self-in-Ok
 invariant_of-self-in-Ok g c =
-    let s = c.self.inside in
-    exit_kept s.system s.marks.items s.walk _ c.self.invariant c.log_len.result
+    exit_kept c.self.invariant c.log_len.result
     (subst (λ (d : DemuxSeen). next_of d (actors.Cpu cpu_0) ≡ Some (steps.Exit cpu_0)) (sym c.self.view_is)
     c.requires) c.log_len.ensures _ c.unmask.ensures.cell c.push.new.self.items c.in-Ok.ensures.items
 
 pub returns-in-Ok : goal.returns-in-Ok
 returns-in-Ok g c =
-    let s = c.self.inside in
-    exit_goes s.system s.marks.items s.walk _ c.self.invariant c.log_len.result
+    exit_goes c.self.invariant c.log_len.result
     (subst (λ (d : DemuxSeen). next_of d (actors.Cpu cpu_0) ≡ Some (steps.Exit cpu_0)) (sym c.self.view_is)
     c.requires) c.log_len.ensures _ c.unmask.ensures.cell c.push.new.self.items c.in-Ok.ensures.items
     c.args.self.now c.self.view_is
 
 pub returns-in-Err : goal.returns-in-Err
 returns-in-Err g c =
-    let s = c.self.inside in
     let v = sym c.self.view_is in
-    unmarked s.system s.marks.items s.walk _ c.self.invariant (subst (λ (d : DemuxSeen). IsBoard d.board) v c.is_kept.ensures.board)
+    unmarked c.self.invariant (subst (λ (d : DemuxSeen). IsBoard d.board) v c.is_kept.ensures.board)
     (steps.Exit cpu_0)
     (subst (λ (d : DemuxSeen). next_of d (actors.Cpu cpu_0) ≡ Some (steps.Exit cpu_0)) v c.requires)
     c.push.new.self.items c.in-Err.ensures.items c.args.self.now c.self.view_is

@@ -8,12 +8,10 @@ use Rattle.irq_chained.proofs.demux.Demux.turn_lowest_driver.Goals as goal
 
 pub returns-in-Some : goal.returns-in-Some
 returns-in-Some g c =
-    let s = c.self.inside in
     let is = subst (λ (d : DemuxSeen). lowest_driver_of d ≡ next_of d (actors.Driver c.in-Some.driver)) c.self.view_is
-    (driver_is_lowest s.system s.marks.items s.walk _ c.self.invariant c.in-Some.driver c.in-Some.ensures) in
+    (driver_is_lowest c.self.invariant c.in-Some.driver c.in-Some.ensures) in
     subst (λ (o : Option ChainEntry). TurnsBy c.args.self.now o c.turn_other.result c.turn_other.new.self) (sym is) c.turn_other.ensures
 
 pub returns-in-None : goal.returns-in-None
 returns-in-None g c =
-    let s = c.self.inside in
-    (subst (λ (d : DemuxSeen). lowest_driver_of d ≡ None) c.self.view_is (no_driver s.system s.marks.items s.walk _ c.self.invariant c.in-None.ensures), refl)
+    (subst (λ (d : DemuxSeen). lowest_driver_of d ≡ None) c.self.view_is (no_driver c.self.invariant c.in-None.ensures), refl)

@@ -7,36 +7,32 @@ use Rattle.irq_chained.proofs.walking.ChainWalk.next.Goals as goal
 
 pub returns-in-Some-clause-first : goal.returns-in-Some-clause-first
 returns-in-Some-clause-first g c =
-    let w = c.self.inside in
     ap (λ (e : ChainEntry). Some e) c.step_of_mark.ensures
-    ∙ mark_first w.marks.now w.moves w.at w.total w.left c.self.invariant c.args.self.now c.self.view_is
+    ∙ mark_first c.self.invariant c.self.view_is
     c.in-Some.what (sym c.in-Some.ensures)
 
 pub returns-in-Some-clause-rest : goal.returns-in-Some-clause-rest
 returns-in-Some-clause-rest g c =
-    let w = c.self.inside in
-    mark_rest w.marks.now w.moves w.at w.total w.left c.self.invariant c.args.self.now c.self.view_is c.in-Some.what (sym c.in-Some.ensures)
+    mark_rest c.self.invariant c.self.view_is c.in-Some.what (sym c.in-Some.ensures)
 
 pub returns-in-Some-next-clause-first : goal.returns-in-Some-next-clause-first
 returns-in-Some-next-clause-first g c =
-    let w = c.self.inside in
-    move_first w.marks.now w.moves w.at w.total w.left c.self.invariant c.args.self.now c.self.view_is
+    move_first c.self.invariant c.self.view_is
     (sym c.in-None.ensures) (c.in-Some-next.line, c.in-Some-next.entry) c.in-Some-next.ensures.first
 
 pub returns-in-Some-next-clause-rest : goal.returns-in-Some-next-clause-rest
 returns-in-Some-next-clause-rest g c =
     let w = c.self.inside in
     ap (λ (l : List Move). merged (drop w.at w.marks.now) l (w.total - (w.left - 1))) c.in-Some-next.ensures.rest
-    ∙ move_rest w.marks.now w.moves w.at w.total w.left c.self.invariant c.args.self.now c.self.view_is
+    ∙ move_rest c.self.invariant c.self.view_is
     (sym c.in-None.ensures) (c.in-Some-next.line, c.in-Some-next.entry) c.in-Some-next.ensures.first
 
 pub returns-in-None-next-clause-first : goal.returns-in-None-next-clause-first
 returns-in-None-next-clause-first g c =
-    let w = c.self.inside in
-    none_first w.marks.now w.moves w.at w.total w.left c.self.invariant c.args.self.now c.self.view_is (sym c.in-None.ensures) c.in-None-next.ensures.first
+    none_first c.self.invariant c.self.view_is (sym c.in-None.ensures) c.in-None-next.ensures.first
 
 pub returns-in-None-next-clause-rest : goal.returns-in-None-next-clause-rest
 returns-in-None-next-clause-rest g c =
     let w = c.self.inside in
     ap (λ (l : List Move). merged (drop w.at w.marks.now) l (w.total - w.left)) c.in-None-next.ensures.rest
-    ∙ none_rest w.marks.now w.moves w.at w.total w.left c.self.invariant c.args.self.now c.self.view_is (sym c.in-None.ensures) c.in-None-next.ensures.first
+    ∙ none_rest c.self.invariant c.self.view_is (sym c.in-None.ensures) c.in-None-next.ensures.first
