@@ -14,8 +14,6 @@ use Rattle.irq_play.specs.Played.{IsPlayed}
 use Rattle.irq_play.specs.Report.{moves_text}
 use Rattle.irq_play.proofs.Finished.{cut_done, full_done, headline_done, no_room_full, rests}
 use Rattle.irq_play.specs.declared.ending.PlayedEnd.{PlayedEnd}
-use Rattle.irq_play.specs.declared.ending.PlayedEnd.TheVariants as ends
-use Rattle.irq_play.specs.declared.ending.Wanted.TheVariants as wants
 use Rattle.irq_hotplug.specs.Fleet.{FleetSeen, fleet_after}
 use Rattle.irq_hotplug.specs.declared.events.Event.{Event}
 use Rattle.hotplug_plan.specs.Planned.{planned}
@@ -72,7 +70,3 @@ module _ (f : FleetSeen) (longer : BoardSeen) (is : IsBoard longer) (s : SystemS
       full b vectors es f longer plan s.log reports line len
       (full_done longer is s line len p reports (told.full line len (no_room_full longer is s line len p)))
   handed plays.NoMemory p b vectors es plan = cut b vectors es f longer plan s.log reports (cut_done longer is s p reports told.so_far)
-
--- a play that was refused memory before its first step isn't done
-pub not_done : (end : PlayedEnd) → end ≡ ends.NoMemory wants.Making → end ≡ ends.Done → ⊥
-not_done end made done = cc

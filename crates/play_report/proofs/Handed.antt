@@ -97,3 +97,7 @@ of_some text HandsOut log reports before now ends.WriteFault h = (log, h)
 of_some text HandsOut log reports before now (ends.LogFull line len) h = (log, h)
 of_some text HandsOut log reports before now (ends.NoMemory wants.Step) h = (log, h)
 of_some text HandsOut log reports before now (ends.NoMemory wants.Making) h = h
+
+-- a play that was refused memory before its first step isn't done
+pub not_done : (end : PlayedEnd) → end ≡ ends.NoMemory wants.Making → end ≡ ends.Done → ⊥
+not_done end made done = cc

@@ -29,8 +29,6 @@ use Rattle.board_report.specs.Reporting.{entries_in}
 use Rattle.board_report.proofs.Laid.{its_entries, line_laid}
 use Rattle.play_orders.specs.Orders.{IsMade, Order}
 use Rattle.irq_play.specs.declared.ending.PlayedEnd.{PlayedEnd}
-use Rattle.irq_play.specs.declared.ending.PlayedEnd.TheVariants as ends
-use Rattle.irq_play.specs.declared.ending.Wanted.TheVariants as wants
 use Rattle.log_text.specs.LayoutRows.{layout_rows}
 use Rattle.play_report.specs.Answers.{Answers}
 use Rattle.play_report.specs.Ordered.{lines_after}
@@ -191,7 +189,3 @@ answered b armed s of longer same reports before after end told =
     of_some (sleep_text b) (SleepHandsOut b armed) (log_of s) reports before after end
     (answers_as (layout_rows longer ++ log_text (log_of s)) (sleep_text b (log_of s)) (HandsOutSleep s) (SleepHandsOut b armed (log_of s))
     (ap (λ (x : BoardSeen). sleep_text x (log_of s)) (sym same ∙ of.longer.slept)) (λ end rs h. h b armed of) reports before after end told)
-
--- a play that was refused memory before its first step isn't done
-pub not_done : (end : PlayedEnd) → end ≡ ends.NoMemory wants.Making → end ≡ ends.Done → ⊥
-not_done end made done = cc

@@ -3,7 +3,8 @@ use Rattle.irq_io.specs.Faults.{Counts}
 use Rattle.irq_play.specs.Ends.{is_write_fault}
 use Rattle.irq_play.specs.declared.ending.PlayedEnd.{PlayedEnd}
 use Rattle.hotplug_play.specs.Played.{HotplugsBoard}
-use Rattle.hotplug_play.proofs.Finished.{answered, not_done}
+use Rattle.play_report.proofs.Handed.{not_done}
+use Rattle.hotplug_play.proofs.Finished.{answered}
 use Rattle.hotplug_play.proofs.playing.play_plan.Goals as goal
 
 pub report-requires-clause-room : goal.report-requires-clause-room

@@ -3,7 +3,8 @@ use Rattle.irq_io.specs.Faults.{Counts}
 use Rattle.irq_play.specs.Ends.{is_write_fault}
 use Rattle.irq_play.specs.declared.ending.PlayedEnd.{PlayedEnd}
 use Rattle.sleep_play.specs.Played.{SleepsBoard}
-use Rattle.sleep_play.proofs.Finished.{answered, not_done}
+use Rattle.play_report.proofs.Handed.{not_done}
+use Rattle.sleep_play.proofs.Finished.{answered}
 use Rattle.sleep_play.proofs.playing.play_laid.Goals as goal
 
 pub of_board-maker-requires-clause-domains : goal.of_board-maker-requires-clause-domains

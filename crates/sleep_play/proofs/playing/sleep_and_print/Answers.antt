@@ -3,7 +3,7 @@ use Rattle.irq_io.specs.Faults.{Counts}
 use Rattle.irq_play.specs.Ends.{is_write_fault}
 use Rattle.irq_play.specs.declared.ending.PlayedEnd.{PlayedEnd}
 use Rattle.sleep_play.specs.Played.{SleepsBoard}
-use Rattle.sleep_play.proofs.Finished.{not_done}
+use Rattle.play_report.proofs.Handed.{not_done}
 use Rattle.sleep_play.proofs.playing.sleep_and_print.Goals as goal
 
 pub returns-in-Ok-clause-plays : goal.returns-in-Ok-clause-plays
