@@ -50,7 +50,8 @@ impl<'b, L: IrqLine> EndedPlay for ChainPlay<'b, L> {
     }
 
     fn print<O: Sink>(&self, out: &mut O) -> WriteEnd {
-        print_rows(out, &mut ChainRows::new(self.demux.steps()))
+        let steps = self.demux.steps();
+        print_rows(out, &mut ChainRows { steps })
     }
 
     fn hand_out(self, board: &Board, room: ReportRoom) -> Reports {

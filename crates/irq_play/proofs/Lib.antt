@@ -2,5 +2,5 @@ mod Turned
 mod Others
 pub mod Parts
 mod Printable
-mod MoveRows
+pub mod RowByRow
 pub mod Finished

@@ -1,7 +1,8 @@
 -- One row after another.
-use Rattle.std.proofs.Common.{◌≡◌, ℕ, Option, Some, List, [], ◌∷◌, ◌++◌, drop, slice_get, refl, sym, ap, subst, ◌∙◌, append_assoc}
+use Rattle.std.proofs.Common.{◌≡◌, ℕ, All, Option, Some, List, [], ◌∷◌, ◌++◌, drop, slice_get, refl, sym, ap, subst, ◌∙◌, append_assoc}
 use Rattle.std.specs.List.{flat_map}
 use Rattle.std.proofs.lemmas.List.{append-nil}
+use Rattle.std.proofs.lemmas.List.Elements.{All-head}
 use Rattle.irq_io.specs.Whole.{WritesAll}
 use Rattle.irq_io.specs.declared.whole.WriteEnd.TheVariants as ends
 use Rattle.irq_laws.proofs.Chosen.{the_same}
@@ -33,7 +34,14 @@ all_printed before now all left none p =
     subst (λ (text : List ℕ). WritesAll before now text ends.Done)
     (sym (append-nil p.done) ∙ (ap (λ (xs : List ℕ). p.done ++ xs) (sym none) ∙ p.rest)) p.written
 
--- the text of the first item, and of those after it
-pub first_text : {E : Type 0} (f : E → List ℕ) (left : List E) (e : E) → slice_get left 0 ≡ Some e → flat_map f left ≡ f e ++ flat_map f (drop 1 left)
-first_text f [] e at = cc
-first_text f (x ∷ xs) e at = ap (λ y. f y ++ flat_map f xs) (the_same x e at)
+-- the row of the first step, and the text of those after it
+pub first_text : {E : Type 0} (f : E → List ℕ) (left after : List E) (e : E) (row : List ℕ) → slice_get left 0 ≡ Some e → after ≡ drop 1 left
+    → row ≡ f e → flat_map f left ≡ row ++ flat_map f after
+first_text f [] after e row at rest is = cc
+first_text f (x ∷ xs) after e row at rest is =
+    ap (λ y. f y ++ flat_map f xs) (the_same x e at) ∙ (ap (λ r. r ++ flat_map f xs) (sym is) ∙ ap (λ ys. row ++ flat_map f ys) (sym rest))
+
+-- the first of items that have rows has one
+pub first_has : {E : Type 0} (P : E → Type 0) (left : List E) (e : E) → All P left → slice_get left 0 ≡ Some e → P e
+first_has P [] e all at = cc
+first_has P (x ∷ xs) e all at = subst P (the_same x e at) (All-head P x xs all)

@@ -10,4 +10,4 @@ pub mod ended;
 pub mod printing;
 
 pub use ended::{EndedPlay, report, unplayed};
-pub use printing::{RowRoom, RowWalk, print_rows};
+pub use printing::{RowRoom, StepRows, print_rows};

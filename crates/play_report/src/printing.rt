@@ -1,6 +1,9 @@
 //! Prints the rows of a log; each row is handed to the sink by itself.
+ghost use Rattle.std.specs.Prelude.{All};
+ghost use Rattle.std.specs.List.{flat_map};
 ghost use Rattle.irq_io.specs.Faults.{Counts};
 ghost use Rattle.irq_io.specs.Whole.{WritesAll, writing_failed};
+ghost use Rattle.play_report.specs.Rows.{HasRow};
 
 use irq_io::{Sink, WriteEnd, write_all};
 use kept_rows::KeptRows;
@@ -25,31 +28,45 @@ impl RowRoom {
     }
 }
 
-/// The rows of a log that are left to be printed, the oldest first.
-pub trait RowWalk {
-    ghost use Rattle.std.specs.Prelude.{◌≡◌, ◌<◌, ◌++◌, ℕ, [], IfNone, IfSome, List};
+/// The steps of a log that are left to be printed, the oldest first, and how their rows are made.
+pub trait StepRows {
+    ghost use Rattle.std.specs.Prelude.{◌≡◌, ℕ, Option, List, drop, slice_get};
+    ghost use Rattle.board_play.specs.Lines.{Move};
+    ghost use Rattle.play_report.specs.Rows.{HasRow};
 
-    /// The text of the rows that are left.
-    ghost text: { Self → List ℕ };
+    /// A step.
+    type Step;
 
-    /// How many rows are left.
-    ghost left: { Self → ℕ };
+    /// The steps that are left.
+    ghost left: { Self → List Self.Step };
 
-    /// The next row, if one is left; `room` is lent for it.
-    fn next_row<'r>(&mut self, room: &'r mut RowRoom) -> Option<&'r [u8]>
-        ensures row { IfSome result (λ row. text self.old ≡ row.now ++ text self.new) }
-        ensures fewer { IfSome result (λ row. left self.new < left self.old) }
-        ensures none { IfNone result (text self.old ≡ []) };
+    /// The move that a step is; none if it moves no line.
+    ghost told: { Self.Step → Option Move };
+
+    /// The text of a step's row.
+    ghost text: { Self.Step → List ℕ };
+
+    /// The next step, if one is left.
+    fn next(&mut self) -> Option<Self::Step>
+        ensures first { result ≡ slice_get (left self.old) 0 }
+        ensures rest { left self.new ≡ drop 1 (left self.old) };
+
+    /// The row of a step; `room` is lent for it.
+    fn row_of<'r>(room: &'r mut RowRoom, step: Self::Step) -> &'r [u8]
+        requires { HasRow told step }
+        ensures { result.now ≡ text step };
 }
 
-/// Prints the rows that are left, the oldest first.
-pub fn print_rows<O: Sink, W: RowWalk>(out: &mut O, walk: &mut W) -> WriteEnd
-    ensures content { WritesAll (O.written out.old) (O.written out.new) (W.text walk.old) result }
+/// Prints the rows of the steps that are left, the oldest first.
+pub fn print_rows<O: Sink, R: StepRows>(out: &mut O, steps: &mut R) -> WriteEnd
+    requires { All (HasRow R.told) (R.left steps.old) }
+    ensures content { WritesAll (O.written out.old) (O.written out.new)
+        (flat_map R.text (R.left steps.old)) result }
     ensures cause { Counts (O.faults out.old) (O.faults out.new) (writing_failed result) }
 {
     let mut room = RowRoom::new();
-    while let Some(row) = walk.next_row(&mut room) {
-        match write_all(out, row) {
+    while let Some(step) = steps.next() {
+        match write_all(out, R::row_of(&mut room, step)) {
             WriteEnd::Done => {}
             WriteEnd::Failed => return WriteEnd::Failed,
         }

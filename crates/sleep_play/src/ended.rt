@@ -51,7 +51,8 @@ impl<'b, L: IrqLine> EndedPlay for SleepPlay<'b, L> {
     }
 
     fn print<O: Sink>(&self, out: &mut O) -> WriteEnd {
-        print_rows(out, &mut SleepRows::new(self.sleeper.entries()))
+        let steps = self.sleeper.entries();
+        print_rows(out, &mut SleepRows { steps })
     }
 
     fn hand_out(self, board: &Board, room: ReportRoom) -> Reports {

@@ -1,68 +1,38 @@
-//! The rows of a sleep, one after another.
-ghost use Rattle.std.specs.Prelude.{◌≡◌, All};
-ghost use Rattle.irq_pm.specs.SleepLog.{told};
-ghost use Rattle.play_report.specs.Rows.{HasRow};
-ghost use Rattle.sleep_play.specs.Rows.{step_text};
-
+//! The rows of a sleep.
 use crate::rows::{asleep_row, wake_row};
 use irq_line::IrqLine;
 use irq_pm::SleepEntry;
 use irq_sleeper::SleepWalk;
-use play_report::{RowRoom, RowWalk};
-use std::marker::Model;
+use play_report::{RowRoom, StepRows};
 
-/// The rows of the steps and marks that are left, the oldest first.
+/// The steps and marks that are left to be printed, the oldest first.
 #[derive(Drop)]
 pub struct SleepRows<'s, L: IrqLine> {
-    steps: SleepWalk<'s, L>,
+    pub(crate) steps: SleepWalk<'s, L>,
 }
 
-impl<'s, L: IrqLine> Model for SleepRows<'s, L> {
-    ghost use Rattle.std.specs.Prelude.{All, List};
+impl<'s, L: IrqLine> StepRows for SleepRows<'s, L> {
     ghost use Rattle.irq_pm.specs.SleepLog.{told};
-    ghost use Rattle.irq_pm.specs.declared.entries.SleepEntry.{SleepEntry};
-    ghost use Rattle.play_report.specs.Rows.{HasRow};
+    ghost use Rattle.sleep_play.specs.Rows.{step_text};
 
-    ghost Value = { List SleepEntry };
+    type Step = SleepEntry;
 
-    ghost view = { λ r. r.steps };
+    ghost left = { λ r. r.steps };
 
-    ghost invariant = { λ r. All (HasRow told) r.steps };
-}
+    ghost told = { told };
 
-impl<'s, L: IrqLine> SleepRows<'s, L> {
-    /// The rows of the steps and marks.
-    pub fn new(steps: SleepWalk<'s, L>) -> SleepRows<'s, L>
-        requires { All (HasRow told) steps }
-        ensures { result ≡ steps.entry }
-    {
-        SleepRows { steps }
+    ghost text = { step_text };
+
+    fn next(&mut self) -> Option<SleepEntry> {
+        self.steps.next()
     }
-}
 
-impl<'s, L: IrqLine> RowWalk for SleepRows<'s, L> {
-    ghost use Rattle.std.specs.Prelude.{length};
-    ghost use Rattle.sleep_play.specs.Rows.{log_text};
-
-    ghost text = { λ g. log_text g };
-
-    ghost left = { λ g. length g };
-
-    fn next_row<'r>(&mut self, room: &'r mut RowRoom) -> Option<&'r [u8]> {
-        let step = self.steps.next()?;
-        Some(row_of(room, step))
+    fn row_of<'r>(room: &'r mut RowRoom, step: SleepEntry) -> &'r [u8] {
+        match step {
+            SleepEntry::Step { line, entry } => return room.kept.row_of(line, &entry),
+            SleepEntry::Asleep => asleep_row(&mut room.row),
+            SleepEntry::Wake { line } => wake_row(&mut room.row, line),
+        }
+        room.row.bytes()
     }
-}
-
-/// The row of a step or a mark; `room` is lent for it.
-fn row_of(room: &mut RowRoom, step: SleepEntry) -> &[u8]
-    requires { HasRow told step }
-    ensures { result.now ≡ step_text step }
-{
-    match step {
-        SleepEntry::Step { line, entry } => return room.kept.row_of(line, &entry),
-        SleepEntry::Asleep => asleep_row(&mut room.row),
-        SleepEntry::Wake { line } => wake_row(&mut room.row, line),
-    }
-    room.row.bytes()
 }

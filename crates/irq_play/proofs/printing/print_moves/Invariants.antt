@@ -1,11 +1,12 @@
 use Rattle.std.proofs.Common.{◌≡◌, All, length}
 use Rattle.irq_play.specs.Printing.{HasRow}
-use Rattle.irq_play.proofs.MoveRows.{IsPrinting}
+use Rattle.irq_play.specs.Report.{moves_text}
+use Rattle.irq_play.proofs.RowByRow.{IsPrinting}
 use Rattle.irq_play.proofs.printing.print_moves.Given as goal
 
 abbrev pub invariant-loop-at : goal.invariant-loop-at
 invariant-loop-at g l = record {
-  printing : IsPrinting (g.O.Sink.written l.fn.out) (g.O.Sink.written l.out) l.fn.moves l.moves;
+  printing : IsPrinting (g.O.Sink.written l.fn.out) (g.O.Sink.written l.out) (moves_text l.fn.moves) (moves_text l.moves);
   rows : All HasRow l.moves;
   faults : g.O.Sink.faults l.out ≡ g.O.Sink.faults l.fn.out;
 }

@@ -1,21 +1,35 @@
-use Rattle.std.proofs.Common.{◌∙◌}
-use Rattle.play_report.proofs.RowByRow.{row_failed, row_printed}
+use Rattle.std.proofs.Common.{All, ◌∙◌, subst, sym}
+use Rattle.std.specs.List.{flat_map}
+use Rattle.std.proofs.lemmas.List.Elements.{All-drop}
+use Rattle.play_report.specs.Rows.{HasRow}
+use Rattle.irq_play.proofs.RowByRow.{first_text, row_failed, row_printed}
 use Rattle.play_report.proofs.printing.print_rows.Goals as goal
 
-pub loop-row-preserved : goal.loop-row-preserved
-loop-row-preserved g c =
+pub loop-step-preserved : goal.loop-step-preserved
+loop-step-preserved g c =
     let sink = g.O.Sink.written in
-    let text = g.W.RowWalk.text in
+    let rows = g.R.StepRows in
+    let left = rows.left c.loop-step.steps in
+    let after = rows.left c.next.new.self in
+    let row = c.row_of.result.now in
     record {
       printing =
-          row_printed (sink c.args.out.now) (sink c.loop-row.out) (sink c.write_all.new.sink) (text c.args.walk.now) (text c.loop-row.walk)
-          c.in-Some.row.now (text c.next_row.new.self) c.in-Some.ensures.row c.loop-row.invariant.printing c.in-Done.ensures.content;
-      faults = c.in-Done.ensures.cause ∙ c.loop-row.invariant.faults;
+          row_printed (sink c.args.out.now) (sink c.loop-step.out) (sink c.write_all.new.sink)
+          (flat_map rows.text (rows.left c.args.steps.now)) (flat_map rows.text left) row (flat_map rows.text after)
+          (first_text rows.text left after c.in-Some.step row (sym c.in-Some.ensures.first) c.in-Some.ensures.rest c.row_of.ensures)
+          c.loop-step.invariant.printing c.in-Done.ensures.content;
+      rows = subst (All (HasRow rows.told)) (sym c.in-Some.ensures.rest) (All-drop (HasRow rows.told) 1 left c.loop-step.invariant.rows);
+      faults = c.in-Done.ensures.cause ∙ c.loop-step.invariant.faults;
     }
 
 pub returns-in-Failed-clause-content : goal.returns-in-Failed-clause-content
 returns-in-Failed-clause-content g c =
     let sink = g.O.Sink.written in
-    let text = g.W.RowWalk.text in
-    row_failed (sink c.args.out.now) (sink c.loop-row.out) (sink c.write_all.new.sink) (text c.args.walk.now) (text c.loop-row.walk)
-    c.in-Some.row.now (text c.next_row.new.self) c.in-Some.ensures.row c.loop-row.invariant.printing c.in-Failed.ensures.content
+    let rows = g.R.StepRows in
+    let left = rows.left c.loop-step.steps in
+    let after = rows.left c.next.new.self in
+    let row = c.row_of.result.now in
+    row_failed (sink c.args.out.now) (sink c.loop-step.out) (sink c.write_all.new.sink)
+    (flat_map rows.text (rows.left c.args.steps.now)) (flat_map rows.text left) row (flat_map rows.text after)
+    (first_text rows.text left after c.in-Some.step row (sym c.in-Some.ensures.first) c.in-Some.ensures.rest c.row_of.ensures)
+    c.loop-step.invariant.printing c.in-Failed.ensures.content

@@ -8,8 +8,8 @@ use Rattle.chained_play.specs.Played.{ChainPlaySeen}
 use Rattle.chained_play.proofs.Finished.{rows_done}
 use Rattle.chained_play.proofs.ended.ChainPlayEndedPlay.print.Goals as goal
 
-pub new-requires : goal.new-requires
-new-requires g c =
+pub print_rows-requires : goal.print_rows-requires
+print_rows-requires g c =
     let d = c.self.inside.demux in
-    subst (λ (log : List ChainEntry). All (HasRow told) log) (sym c.steps.ensures)
+    subst (λ (log : List ChainEntry). All (HasRow told) log) (sym c.steps-steps.ensures)
     (rows_done d (subst (λ (end : PlayEnd). IsPlay d d.board.picks end) (ap (λ (p : ChainPlaySeen). p.end) c.self.view_is ∙ c.requires) c.self.invariant.play))

@@ -11,10 +11,10 @@ use Rattle.sleep_play.specs.Rows.{log_text}
 use Rattle.sleep_play.proofs.Finished.{rows_done}
 use Rattle.sleep_play.proofs.ended.SleepPlayEndedPlay.print.Goals as goal
 
-pub new-requires : goal.new-requires
-new-requires g c =
+pub print_rows-requires : goal.print_rows-requires
+print_rows-requires g c =
     let s = c.self.inside.sleeper in
-    subst (λ (log : List SleepEntry). All (HasRow told) log) (sym c.entries.ensures)
+    subst (λ (log : List SleepEntry). All (HasRow told) log) (sym c.entries-steps.ensures)
     (rows_done s (subst (λ (end : PlayEnd). IsSleep s s.system.board.picks end)
     (ap (λ (p : SleepPlaySeen). p.end) c.self.view_is ∙ c.requires) c.self.invariant.sleep))
 
@@ -22,7 +22,7 @@ pub returns-clause-content : goal.returns-clause-content
 returns-clause-content g c =
     let sink = g.O.Sink.written in
     subst (λ (log : List SleepEntry). WritesAll (sink c.args.out.now) (sink c.print_rows.new.out) (log_text log) c.print_rows.result)
-    (c.new.ensures ∙ (c.entries.ensures ∙ ap (λ (p : SleepPlaySeen). log_of p.sleeper) c.self.view_is)) c.print_rows.ensures.content
+    (c.entries-steps.ensures ∙ ap (λ (p : SleepPlaySeen). log_of p.sleeper) c.self.view_is) c.print_rows.ensures.content
 
 pub returns-clause-cause : goal.returns-clause-cause
 returns-clause-cause g c = c.print_rows.ensures.cause
