@@ -34,8 +34,8 @@ pub fn cut_input(input: &[u8]) -> Option<(&[u8], &[u8])>
     None
 }
 
-/// Where the first text line begins that has a `-`; no text line before it is `---`. None if no text
-/// line has a `-`.
+/// Where the first text line begins that has a `-`; no text line before it is `---`. None if no
+/// text line has a `-`.
 fn first_with_dash(text: &[u8]) -> Option<usize>
     ensures { MatchOption result (split_at_dashes (rows_of text.now) ≡ None)
         (λ start. SkipsTo text.now start) }
