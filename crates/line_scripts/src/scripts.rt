@@ -83,6 +83,15 @@ impl Scripts {
                 return row.due();
             }
         }
+        self.searched_due(who)
+    }
+
+    /// The same, wherever the driver's row is. It stands apart, so that a first row costs no places
+    /// for a search.
+    #[inline(never)]
+    fn searched_due(&self, who: DriverNo) -> Option<(Call, u32)>
+        ensures { result ≡ with_count (call_of self.now who) (within_of self.now who) }
+    {
         self.rows.get(&who)?.due()
     }
 
