@@ -23,7 +23,7 @@ pub struct NotForChain;
 
 /// Lays the board's lines over its domains, plays them behind one demultiplexer by the chain's
 /// order with the board's picks, and prints the play. The maker makes each line; handlers are
-/// called as they are due. None is taken of memory once a row is printed. The only error is a board
+/// called as they are due. No memory is taken once a row is printed. The only error is a board
 /// that has a call that moves a line, a line that leaves a processor out, or more than 32 lines
 /// that take part.
 pub fn chained_and_print<O: Sink, M: MakesDomainLine, H: Handler>(

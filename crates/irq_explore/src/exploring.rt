@@ -76,7 +76,7 @@ pub fn explore_row<O: Sink>(
     }
 }
 
-/// Prints the answer, which is that of the board's line through at most `states` states.
+/// Prints the answer of a search through at most `states` states of the line.
 fn say<O: Sink>(
     board: &Board,
     states: u32,
@@ -151,7 +151,7 @@ fn has_asked(board: &Board, asked: Option<LineNo>) -> bool
     }
 }
 
-/// Prints the surveys, which are those of the lines that are asked for.
+/// Prints the surveys of the lines that are asked for.
 fn say_surveys<O: Sink>(
     board: &Board,
     states: u32,

@@ -58,8 +58,8 @@ pub fn explore_play<M: MakesDomainLine, H: Handler, O: Sink>(
     }
 }
 
-/// Prints a play that comes to the log that was found; or that there is none. The answer is that of
-/// the board's line through at most `states` states.
+/// Prints a play that comes to the log that was found; or that there is none. The search went
+/// through at most `states` states of the line.
 fn say_play<M: MakesDomainLine, H: Handler, O: Sink>(
     alloc: Global,
     board: &Board,

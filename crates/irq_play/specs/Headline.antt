@@ -58,8 +58,8 @@ pub record CutShort (b : BoardSeen) (g : List Move) (reports : List LineReport) 
   pub mapped : EachMapped b (λ row. KeepsLaws (line_of_row b row) (part row.line g))
   pub refused : EachRefused b (λ row. part row.line g ≡ [])
 
--- The step that was refused memory: whose it was, on which line, and that the line may want memory
--- for the entry that is due there, unless there was no room left, in the history that is handed out
--- for the line, or in the log.
+-- The step that was refused memory: whose it was, and on which line. If there was room for one more
+-- entry, in the history that is handed out for the line and in the log, then the line may want
+-- memory for the entry that is due there.
 abbrev pub RefusedStep : (Option Entry → Type 0) → BoardSeen → List Move → List LineReport → Type 0
 RefusedStep may_want b g reports = WantsNext may_want (IsHandedRoom reports) b b.picks g

@@ -1,4 +1,4 @@
-//! The commands that play a board that they read.
+//! The commands that read a board and play it.
 ghost use Rattle.std.specs.Prelude.{◌≡◌, [], false, true};
 ghost use Rattle.irq_io.specs.Faults.{Counts};
 ghost use Rattle.irq_top.specs.Commands.{TakesBoard, TellsTaken};

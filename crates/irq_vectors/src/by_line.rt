@@ -44,7 +44,7 @@ fn judge_by<L: IrqLine, M: MakesLine<L>>(
     Ok(verdict_of(log_check::judge(&mut line, &history)?))
 }
 
-/// The verdict where this is the number of the first entry that isn't due, or where there is none.
+/// The verdict, if `first` is the number of the first entry that isn't due. None: all were due.
 fn verdict_of(first: Option<u32>) -> Verdict
     ensures { (def : LineDef) (entries : List Entry) → Judged def entries first
         → IsVerdict def entries result }

@@ -1,6 +1,7 @@
 pub mod More
 pub mod Runs
 pub mod Lowest
+pub mod Preparing
 pub mod Queries
 pub mod Blocked
 pub mod Asked

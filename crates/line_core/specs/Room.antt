@@ -1,7 +1,40 @@
--- Which entries need memory though there is room for one more.
-use Rattle.std.specs.Prelude.{Bool, false, Option, Some, None}
+-- Which entries need memory though there is room for one more, and what room is made beforehand.
+use Rattle.std.specs.Prelude.{◌≡◌, ◌<◌, ◌≤◌, Bool, false, Option, Some, None, IfSome, Result, Ok}
+use Rattle.std.specs.Prelude.{Err, length}
+use Rattle.irq_base.specs.declared.devices.Run.{Run}
+use Rattle.irq_base.specs.declared.entries.Actor.{Actor}
 use Rattle.irq_base.specs.declared.entries.Entry.{Entry}
 use Rattle.irq_model.specs.Kinds.{is_linked_request}
+use Rattle.irq_model.specs.Next.{next}
+use Rattle.callbacks.specs.Seen.{SaidSeen}
+use Rattle.irq_line.specs.Answers.{IsSaidFor, IsDueOf, IsFull}
+use Rattle.irq_line.specs.Runs.{run_of}
+use Rattle.irq_line.specs.Seen.{LineSeen}
+use Rattle.irq_line.specs.declared.answers.StepRefused.{StepRefused}
+use Rattle.irq_line.specs.declared.answers.StepRefused.TheVariants as refusals
+
+-- the history isn't as long as it may be, and has room for one more entry
+pub record HasRoom (line : LineSeen) : Type 0 where
+  pub below : length line.entries < line.def.log
+  pub spare : 1 ≤ line.spare
+
+-- the entry that is due of the actor, if there is one, fits, once what it needs besides is at hand;
+-- a line that adds none is as it was
+pub record IsReady (old : LineSeen) (who : Actor) (said : Option SaidSeen) (new : LineSeen)
+    : Type 0 where
+  pub below : IsDueOf old who → length old.entries < old.def.log
+  pub room : IsDueOf old who → IfSome (run_of old.def old.entries who) (IsSaidFor said)
+      → 1 ≤ new.spare
+  pub spare : old.spare ≤ new.spare
+  pub idle : next old.def old.entries who ≡ None → new ≡ old
+  pub unheard : (run : Run) → run_of old.def old.entries who ≡ Some run
+      → (IsSaidFor said run → ⊥) → new ≡ old
+
+-- why no room was made
+abbrev pub IsRefused : {A : Type 0} → LineSeen → Actor → Result A StepRefused → LineSeen → Type 0
+IsRefused old who (Ok done) new = Unit {0}
+IsRefused old who (Err (refusals.Full len)) new = IsFull old who len × (new ≡ old)
+IsRefused old who (Err refusals.NoMemory) new = (old.spare ≡ 0) × (new ≡ old)
 
 -- the entry that is due links an action
 abbrev pub links_next : Option Entry → Bool

@@ -1,7 +1,9 @@
 //! The line.
 ghost use Rattle.std.specs.Prelude.{◌≡◌, ◌+◌, ◌<◌, ◌≤◌, [], ◌∷◌, ◌++◌, length, IfOk, IsOk, OnOk};
-ghost use Rattle.std.specs.Prelude.{OnErr, IsTrue, Some, option_map, true, false, reverse};
+ghost use Rattle.std.specs.Prelude.{Ok, OnErr, IfSome, IsTrue, Some, option_map, true, false};
+ghost use Rattle.std.specs.Prelude.{reverse};
 ghost use Rattle.irq_base.specs.Cell.{fresh_cell};
+ghost use Rattle.irq_base.specs.declared.entries.Actor.TheVariants as actors;
 ghost use Rattle.irq_model.specs.Kinds.{is_linked_request};
 ghost use Rattle.irq_model.specs.Lines.{serves};
 ghost use Rattle.irq_model.specs.Next.{next};
@@ -9,21 +11,26 @@ ghost use Rattle.irq_model.specs.Signal.{target};
 ghost use Rattle.irq_model.specs.Up.{is_up};
 ghost use Rattle.irq_model.specs.Valid.{IsValid};
 ghost use Rattle.irq_laws.specs.Driven.{cell_after};
-ghost use Rattle.irq_line.specs.Answers.{Answers};
+ghost use Rattle.irq_line.specs.Answers.{Answers, IsSaidFor};
+ghost use Rattle.irq_line.specs.Heard.{Adds};
 ghost use Rattle.irq_line.specs.Memory.{WantsMemory};
-ghost use Rattle.line_core.specs.Room.{links_next};
+ghost use Rattle.irq_line.specs.Runs.{run_of};
+ghost use Rattle.line_core.specs.Room.{HasRoom, IsReady, IsRefused, links_next};
+ghost use Rattle.line_state.specs.declared.due.DueStep.TheVariants as steps;
 ghost use Rattle.line_core.specs.Entries.{entry_at};
 ghost use Rattle.line_core.specs.Blocking.{freed_in, blocks_by};
 
-use crate::due::due_by;
-use crate::moving::advance;
+use crate::due::{due_by, due_of_driver, due_of_thread};
+use crate::putting::{put_of_call, put_of_cpu, put_of_thread, put_return};
 use crate::room::make_room;
 use crate::running::unanswered;
 use callbacks::Said;
-use irq_base::{Actor, Blocks, Chip, CpuNo, DevNo, DriverNo, Entry, History, LineDef, NoMemory};
+use irq_base::{
+    Actor, Blocks, Chip, CpuNo, DevNo, DriverNo, Entry, History, LineDef, LineNo, NoMemory, Run,
+};
 use irq_line::{IrqLine, StepRefused, Stepped};
 use line_scripts::Scripts;
-use line_state::{DueStep, LineState};
+use line_state::{CallStep, CpuStep, DueStep, LineState, ThreadStep};
 use std::alloc::Global;
 use std::marker::Model;
 
@@ -106,28 +113,262 @@ impl<C: Chip> Line<C> {
         due_by(&self.def, &self.state, &self.scripts, actor)
     }
 
-    /// Makes the step, which is due of the actor, and adds its entry. If it links no action and the
-    /// history has room, it takes no memory.
+    /// Whether the history has room for one more entry, and isn't as long as it may be.
     #[inline(always)]
-    fn add(&mut self, actor: Actor, step: DueStep) -> Result<Entry, NoMemory>
+    fn has_room(&self) -> bool
+        ensures { IsTrue result → HasRoom self.now.line }
+    {
+        self.history.len() < self.def.log as usize && self.history.spare() > 0
+    }
+
+    /// Makes room for the entry that is due of the actor, if there is one, and if what it needs
+    /// besides is at hand.
+    #[inline(always)]
+    fn prepare(&mut self, actor: Actor, said: &Option<Said>) -> Result<(), StepRefused>
+        ensures def { self.new.line.def ≡ self.old.line.def }
+        ensures entries { self.new.line.entries ≡ self.old.line.entries }
+        ensures ready { OnOk result (IsReady self.old.line actor said.now self.new.line) }
+        ensures refused { IsRefused self.old.line actor result self.new.line }
+        ensures wiring { self.new.wiring ≡ self.old.wiring }
+    {
+        if self.has_room() {
+            return Ok(());
+        }
+        self.make_room_for(actor, said)
+    }
+
+    /// The same where no room is at hand.
+    #[inline(never)]
+    fn make_room_for(&mut self, actor: Actor, said: &Option<Said>) -> Result<(), StepRefused>
+        ensures def { self.new.line.def ≡ self.old.line.def }
+        ensures entries { self.new.line.entries ≡ self.old.line.entries }
+        ensures ready { OnOk result (IsReady self.old.line actor said.now self.new.line) }
+        ensures refused { IsRefused self.old.line actor result self.new.line }
+        ensures wiring { self.new.wiring ≡ self.old.wiring }
+    {
+        let Some(step) = self.due(actor) else {
+            return Ok(());
+        };
+        let len = self.history.len();
+        if len >= self.def.log as usize {
+            return Err(StepRefused::Full { len: len as u32 });
+        }
+        if let Some(_run) = unanswered(&self.def, &self.state, step, said) {
+            return Ok(());
+        }
+        if self.history.spare() == 0 {
+            self.history.reserve(1)?;
+        }
+        Ok(())
+    }
+
+    /// The step of the processor, which is due: it asks for the run that ends, or adds the entry.
+    #[inline(always)]
+    fn act_of_cpu(&mut self, cpu: CpuNo, step: CpuStep, said: &Option<Said>) -> Stepped
+        requires due { next self.old.line.def self.old.line.entries (actors.Cpu cpu)
+            ≡ Some (entry_at self.old.line (steps.Cpu cpu step)) }
+        requires below { length self.old.line.entries < self.old.line.def.log }
+        requires room { IfSome (run_of self.old.line.def self.old.line.entries (actors.Cpu cpu))
+            (IsSaidFor said.now)
+            → 1 ≤ self.old.line.spare }
+        ensures def { self.new.line.def ≡ self.old.line.def }
+        ensures answer { Answers self.old.line (actors.Cpu cpu) said.now (Ok result) self.new.line }
+        ensures wiring { self.new.wiring ≡ self.old.wiring }
+    {
+        if let Some(run) = unanswered(&self.def, &self.state, DueStep::Cpu { cpu, step }, said) {
+            return Stepped::Run(run);
+        }
+        let entry = put_of_cpu(
+            &self.def,
+            &mut self.history,
+            &mut self.state,
+            &self.scripts,
+            cpu,
+            step,
+        );
+        Stepped::Added(entry)
+    }
+
+    /// The same for a step of a thread.
+    #[inline(always)]
+    fn act_of_thread(
+        &mut self,
+        line: LineNo,
+        dev: DevNo,
+        step: ThreadStep,
+        said: &Option<Said>,
+    ) -> Stepped
+        requires due { next self.old.line.def self.old.line.entries
+            (actors.Thread line dev)
+            ≡ Some (entry_at self.old.line (steps.Thread dev step)) }
+        requires below { length self.old.line.entries < self.old.line.def.log }
+        requires room { IfSome (run_of self.old.line.def self.old.line.entries
+            (actors.Thread line dev))
+            (IsSaidFor said.now)
+            → 1 ≤ self.old.line.spare }
+        ensures def { self.new.line.def ≡ self.old.line.def }
+        ensures answer { Answers self.old.line (actors.Thread line dev) said.now (Ok result)
+            self.new.line }
+        ensures wiring { self.new.wiring ≡ self.old.wiring }
+    {
+        if let Some(run) = unanswered(&self.def, &self.state, DueStep::Thread { dev, step }, said) {
+            return Stepped::Run(run);
+        }
+        let entry = put_of_thread(
+            &self.def,
+            &mut self.history,
+            &mut self.state,
+            &self.scripts,
+            line,
+            dev,
+            step,
+        );
+        Stepped::Added(entry)
+    }
+
+    /// The step that is due of the actor and ends this run, where the history has room. The run was
+    /// answered, so nothing of it is looked up again.
+    #[inline(always)]
+    fn end_run(&mut self, actor: Actor, step: DueStep, run: Run) -> Entry
         requires due { next self.old.line.def self.old.line.entries actor
             ≡ Some (entry_at self.old.line step) }
+        requires run { run_of self.old.line.def self.old.line.entries actor ≡ Some run }
+        requires room { HasRoom self.old.line }
+        ensures adds { Adds self.old.line actor result self.new.line }
+        ensures wiring { self.new.wiring ≡ self.old.wiring }
+    {
+        put_return(
+            &self.def,
+            &mut self.history,
+            &mut self.state,
+            &mut self.scripts,
+            actor,
+            step,
+            run,
+        )
+    }
+
+    /// A step of a processor.
+    #[inline(always)]
+    fn step_cpu(&mut self, cpu: CpuNo, said: Option<Said>) -> Result<Stepped, StepRefused>
+        ensures def { self.new.line.def ≡ self.old.line.def }
+        ensures answer { Answers self.old.line (actors.Cpu cpu) said result self.new.line }
+        ensures memory { WantsMemory (λ due. links_next due ≡ true) self.old.line
+            (actors.Cpu cpu) result }
+        ensures wiring { self.new.wiring ≡ self.old.wiring }
+    {
+        if let Err(refusal) = self.prepare(Actor::Cpu(cpu), &said) {
+            return Err(refusal);
+        }
+        let Some(step) = self.due_of_cpu(cpu) else {
+            return Ok(Stepped::NotYet);
+        };
+        Ok(self.act_of_cpu(cpu, step, &said))
+    }
+
+    /// A step of a thread. It stands apart, as that of a driver, so that a step of a processor is
+    /// short where it is made.
+    #[inline(never)]
+    fn step_thread(
+        &mut self,
+        line: LineNo,
+        dev: DevNo,
+        said: Option<Said>,
+    ) -> Result<Stepped, StepRefused>
+        ensures def { self.new.line.def ≡ self.old.line.def }
+        ensures answer { Answers self.old.line (actors.Thread line dev) said result self.new.line }
+        ensures memory { WantsMemory (λ due. links_next due ≡ true) self.old.line
+            (actors.Thread line dev) result }
+        ensures wiring { self.new.wiring ≡ self.old.wiring }
+    {
+        if let Err(refusal) = self.prepare(Actor::Thread(line, dev), &said) {
+            return Err(refusal);
+        }
+        let Some(step) = self.due_of_thread(line, dev) else {
+            return Ok(Stepped::NotYet);
+        };
+        Ok(self.act_of_thread(line, dev, step, &said))
+    }
+
+    /// The step that is due of the processor, if there is one.
+    #[inline(always)]
+    fn due_of_cpu(&self, cpu: CpuNo) -> Option<CpuStep>
+        ensures { option_map (λ step. entry_at self.now.line (steps.Cpu cpu step)) result
+            ≡ next self.now.line.def self.now.line.entries (actors.Cpu cpu) }
+    {
+        self.state.due_of_cpu(cpu)
+    }
+
+    /// The step that is due of the thread, if there is one.
+    #[inline(always)]
+    fn due_of_thread(&self, line: LineNo, dev: DevNo) -> Option<ThreadStep>
+        ensures { option_map (λ step. entry_at self.now.line (steps.Thread dev step)) result
+            ≡ next self.now.line.def self.now.line.entries (actors.Thread line dev) }
+    {
+        due_of_thread(&self.def, &self.state, line, dev)
+    }
+
+    /// The step that is due of the driver, if there is one.
+    #[inline(always)]
+    fn due_of_driver(&self, driver: DriverNo) -> Option<CallStep>
+        ensures { option_map (λ step. entry_at self.now.line (steps.Call driver step)) result
+            ≡ next self.now.line.def self.now.line.entries (actors.Driver driver) }
+    {
+        due_of_driver(&self.state, &self.scripts, driver)
+    }
+
+    /// Makes the step, which is due of the driver, and adds its entry. If it links no action and
+    /// the history has room, it takes no memory.
+    #[inline(always)]
+    fn add(&mut self, driver: DriverNo, step: CallStep) -> Result<Entry, NoMemory>
+        requires due { next self.old.line.def self.old.line.entries (actors.Driver driver)
+            ≡ Some (entry_at self.old.line (steps.Call driver step)) }
         requires below { length self.old.line.entries < self.old.line.def.log }
         ensures def { self.new.line.def ≡ self.old.line.def }
-        ensures entry { IfOk result (λ entry. entry ≡ entry_at self.old.line step) }
+        ensures entry { IfOk result
+            (λ entry. entry ≡ entry_at self.old.line (steps.Call driver step)) }
         ensures entries { IfOk result
             (λ entry. self.new.line.entries ≡ self.old.line.entries ++ entry ∷ []) }
         ensures spare { OnOk result (self.old.line.spare ≤ self.new.line.spare + 1) }
         ensures refused { OnErr result (self.new ≡ self.old) }
-        ensures needless { is_linked_request (entry_at self.old.line step) ≡ false
+        ensures needless { is_linked_request (entry_at self.old.line (steps.Call driver step))
+            ≡ false
             → 1 ≤ self.old.line.spare → IsOk result }
         ensures wiring { self.new.wiring ≡ self.old.wiring }
     {
-        make_room(&mut self.state, &mut self.history, step)?;
-        let entry = self.state.make(&self.def, step);
-        advance(&mut self.scripts, actor, &entry);
-        self.history.push(entry);
-        Ok(entry)
+        make_room(
+            &mut self.state,
+            &mut self.history,
+            DueStep::Call { driver, step },
+        )?;
+        Ok(put_of_call(
+            &self.def,
+            &mut self.history,
+            &mut self.state,
+            &mut self.scripts,
+            driver,
+            step,
+        ))
+    }
+
+    /// A step of a driver. No handler is heard.
+    #[inline(never)]
+    fn step_driver(&mut self, driver: DriverNo, said: Option<Said>) -> Result<Stepped, StepRefused>
+        ensures def { self.new.line.def ≡ self.old.line.def }
+        ensures answer { Answers self.old.line (actors.Driver driver) said result self.new.line }
+        ensures memory { WantsMemory (λ due. links_next due ≡ true) self.old.line
+            (actors.Driver driver) result }
+        ensures wiring { self.new.wiring ≡ self.old.wiring }
+    {
+        let Some(step) = self.due_of_driver(driver) else {
+            return Ok(Stepped::NotYet);
+        };
+        let len = self.history.len();
+        if len >= self.def.log as usize {
+            return Err(StepRefused::Full { len: len as u32 });
+        }
+        let entry = self.add(driver, step)?;
+        Ok(Stepped::Added(entry))
     }
 }
 
@@ -178,25 +419,22 @@ impl<C: Chip + Drop> IrqLine for Line<C> {
         ensures memory { WantsMemory (λ due. links_next due ≡ true) self.old.line actor result }
         ensures wiring { self.new.wiring ≡ self.old.wiring }
     {
-        let Some(step) = self.due(actor) else {
-            return Ok(Stepped::NotYet);
-        };
-        let len = self.history.len();
-        if len >= self.def.log as usize {
-            return Err(StepRefused::Full { len: len as u32 });
+        match actor {
+            Actor::Cpu(cpu) => self.step_cpu(cpu, said),
+            Actor::Thread(line, dev) => self.step_thread(line, dev, said),
+            Actor::Driver(driver) => self.step_driver(driver, said),
         }
-        if let Some(run) = unanswered(&self.def, &self.state, step, &said) {
-            return Ok(Stepped::Run(run));
-        }
-        let entry = self.add(actor, step)?;
-        Ok(Stepped::Added(entry))
     }
 
     fn step_answered(&mut self, actor: Actor, said: Said) -> Result<Entry, StepRefused> {
-        match self.step(actor, Some(said))? {
-            Stepped::Added(entry) => Ok(entry),
-            // what was said is the answer of the run that is due
-            Stepped::NotYet | Stepped::Run(_) => unreachable!(),
+        let run = said.run();
+        if let Err(refusal) = self.prepare(actor, &Some(said)) {
+            return Err(refusal);
+        }
+        match self.due(actor) {
+            Some(step) => Ok(self.end_run(actor, step, run)),
+            // the run is due
+            None => unreachable!(),
         }
     }
 

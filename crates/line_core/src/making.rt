@@ -1,4 +1,4 @@
-//! What makes lines over the plain cell.
+//! What makes lines over a cell by itself.
 ghost use Rattle.std.specs.Prelude.{◌≡◌};
 ghost use Rattle.irq_model.specs.Lines.{serves};
 ghost use Rattle.irq_model.specs.Valid.{IsValid};
@@ -9,7 +9,7 @@ use irq_line::MakesLine;
 use line_cell::Cell;
 use std::alloc::Global;
 
-/// Makes a line of every valid definition, whatever its virq, over a plain cell that the definition
+/// Makes a line of every valid definition, whatever its virq, over the cell that the definition
 /// describes.
 #[derive(Clone, Copy)]
 pub struct MakesCellLine;

@@ -1,11 +1,11 @@
 //! The run of a handler that a step ends.
 ghost use Rattle.std.specs.Prelude.{◌≡◌, ◌↔◌, IsTrue, IfSome, Some, None};
 ghost use Rattle.irq_line.specs.Answers.{IsSaidFor};
-ghost use Rattle.line_core.specs.Running.{device_by, run_by};
+ghost use Rattle.line_core.specs.Running.{run_by};
 
 use callbacks::Said;
-use irq_base::{Chip, DevNo, DeviceDef, LineDef, Part, Run};
-use line_state::{DueStep, LineState};
+use irq_base::{Chip, LineDef, Run};
+use line_state::{CpuStep, DueStep, LineState, ThreadStep};
 
 /// Whether the answer that was handed in is this run's answer.
 #[inline(always)]
@@ -39,34 +39,20 @@ pub(crate) fn unanswered<C: Chip>(
     Some(run)
 }
 
-/// The line's device of that number.
-#[inline(always)]
-fn device<C: Chip>(def: &LineDef, state: &LineState<C>, dev: DevNo) -> DeviceDef
-    ensures { result ≡ device_by def.now state.now.state dev }
-{
-    DeviceDef {
-        dev,
-        line: def.line,
-        kind: state.kind(dev),
-    }
-}
-
 /// The run that the step ends.
 #[inline(always)]
 fn run_by<C: Chip>(def: &LineDef, state: &LineState<C>, step: DueStep) -> Option<Run>
     ensures { result ≡ run_by def.now state.now.state step }
 {
     match step {
-        DueStep::Return { dev, .. } => Some(Run {
-            def: device(def, state, dev),
-            part: Part::Primary,
-            unserved: state.met_by_handler(dev),
-        }),
-        DueStep::ThreadReturn { dev } => Some(Run {
-            def: device(def, state, dev),
-            part: Part::Thread,
-            unserved: state.met_by_thread(dev),
-        }),
+        DueStep::Cpu {
+            step: CpuStep::Return { dev },
+            ..
+        } => Some(state.handler_run(def.line, dev)),
+        DueStep::Thread {
+            dev,
+            step: ThreadStep::Return,
+        } => Some(state.thread_run(def.line, dev)),
         _ => None,
     }
 }

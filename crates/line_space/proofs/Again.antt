@@ -33,10 +33,16 @@ use Rattle.line_marks.specs.Kinds.{kind_at}
 use Rattle.line_marks.specs.Next.{due_by}
 use Rattle.line_marks.specs.Scripts.{IsAt}
 use Rattle.line_marks.specs.State.{StateSeen, IsOf, state_of, state_after}
-use Rattle.line_state.specs.Entries.{entry_by, CanMake}
+use Rattle.line_state.specs.Entries.{entry_by, call_entry, CanMake, CanMakeOfCpu, CanMakeOfThread, CanMakeOfCall}
 use Rattle.line_state.specs.Seen.{IsAimOf, taker_of}
+use Rattle.line_state.specs.declared.due.CallStep.{CallStep}
+use Rattle.line_state.specs.declared.due.CallStep.TheVariants as calls
+use Rattle.line_state.specs.declared.due.CpuStep.{CpuStep}
+use Rattle.line_state.specs.declared.due.CpuStep.TheVariants as cpus
 use Rattle.line_state.specs.declared.due.DueStep.{DueStep}
 use Rattle.line_state.specs.declared.due.DueStep.TheVariants as steps
+use Rattle.line_state.specs.declared.due.ThreadStep.{ThreadStep}
+use Rattle.line_state.specs.declared.due.ThreadStep.TheVariants as threads
 use Rattle.line_futures.proofs.Actions.{flags_same, has_same}
 use Rattle.line_futures.proofs.CanonDue.{due_same}
 use Rattle.line_futures.proofs.CanonSteps.{canon_after}
@@ -163,15 +169,26 @@ module _ (def : LineDef) (valid : IsValid def) (g : List Entry) (legal : IsLegal
     absent_again d h =
         sym (has_same d t.list.actions) ∙ (ap (λ (x : StateSeen). has d x.list.actions) again ∙ (has_same d (state_of def g).list.actions ∙ h))
 
+    of_cpu_again : (step : CpuStep) → CanMakeOfCpu def step t
+    of_cpu_again (cpus.Take way) = rounds_again
+    of_cpu_again cpus.End = (rounds_again, depth_again, open_again)
+    of_cpu_again _ = tt
+
+    of_thread_again : (step : ThreadStep) → CanMakeOfThread step t
+    of_thread_again threads.Return = handled_again
+    of_thread_again _ = tt
+
+    of_call_again : (r : DriverNo) (step : CallStep) → IsExpected def (call_entry def t r step) (state_of def g) → CanMakeOfCall step t
+    of_call_again r (calls.Ask dev) x = room_again dev
+    of_call_again r calls.Disable x = depth_again
+    of_call_again r (calls.Request dev flags) x =
+        absent_again dev (requested def t (state_of def g) r dev flags (answer_by (kind_at t.kinds dev) flags t.list.actions) x)
+    of_call_again r _ x = tt
+
     can_again : (step : DueStep) → IsExpected def (entry_by def t step) (state_of def g) → CanMake def step t
-    can_again (steps.Ask driver dev) x = room_again dev
-    can_again (steps.Take cpu way) x = rounds_again
-    can_again (steps.End cpu) x = (rounds_again, depth_again, open_again)
-    can_again (steps.ThreadReturn dev) x = handled_again
-    can_again (steps.Disable driver) x = depth_again
-    can_again (steps.Request driver dev flags) x =
-        absent_again dev (requested def t (state_of def g) driver dev flags (answer_by (kind_at t.kinds dev) flags t.list.actions) x)
-    can_again _ x = tt
+    can_again (steps.Cpu cpu step) x = of_cpu_again step
+    can_again (steps.Thread dev step) x = of_thread_again step
+    can_again (steps.Call driver step) x = of_call_again driver step x
 
     pub can_due : (step : DueStep) → IsDue def (entry_by def t step) g → CanMake def step t
     can_due step due = can_again step (expected (with_log def 100000000) g (longer def valid) legal short (entry_by def t step) due)

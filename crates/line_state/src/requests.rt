@@ -71,14 +71,17 @@ impl<C: Chip> LineState<C> {
         answer
     }
 
-    /// What the line takes over of a linked action: one-shot by its flags, the mark of a storm
-    /// goes, and the window of the rule on spurious interrupts begins anew. The first action starts
+    /// What the line takes over of a linked action: one-shot by its flags, the mark of a storm is
+    /// cleared, and the window of the rule on spurious interrupts begins anew. The first action starts
     /// the line; a further one gives a line that a storm disabled another chance.
     fn set_up(&mut self, trigger: Trigger, first: bool, flags: Flags) -> Opened
         ensures opened { result ≡ (if first then
             (if flags.noauto then opens.No else opens.Started
             (resend_by trigger self.old.state.desc self.old.state.cell))
-            else (if self.old.state.desc.spurious then opened_by_enable (enable_by (not first) trigger self.old.state.desc self.old.state.cell) else opens.No)) }
+            else (if self.old.state.desc.spurious
+            then opened_by_enable (enable_by (not first) trigger self.old.state.desc
+            self.old.state.cell)
+            else opens.No)) }
         ensures state { self.new.state ≡ opened_to first result
             (activated_if first (taken_over flags self.old.state)) }
         ensures wiring { self.new.wiring ≡ self.old.wiring }

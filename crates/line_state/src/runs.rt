@@ -15,10 +15,14 @@ ghost use Rattle.line_marks.specs.Due.{met_in};
 ghost use Rattle.line_marks.specs.Kinds.{kind_at};
 ghost use Rattle.line_marks.specs.State.{state_after, IsOf};
 ghost use Rattle.line_state.specs.Entries.{finish_by};
+ghost use Rattle.line_state.specs.Ended.{device_at, handler_run, thread_run};
 
-use crate::state::{LineState, met_by_handler, met_by_thread};
+use crate::state::LineState;
 use act_thread::Finished;
-use irq_base::{Answer, Chip, CpuNo, DevNo, DriverNo, Entry, Kind, LineDef, Trigger};
+use irq_base::{
+    Answer, Chip, CpuNo, DevNo, DeviceDef, DriverNo, Entry, Kind, LineDef, LineNo, Part, Run,
+    Trigger,
+};
 
 impl<C: Chip> LineState<C> {
     /// The device asks: an edge comes, or the level is high.
@@ -52,20 +56,58 @@ impl<C: Chip> LineState<C> {
         Entry::Begin { cpu, dev }
     }
 
-    /// The handler returns: what it met is served if it serves, and its thread is woken if it says
-    /// so (`__handle_irq_event_percpu`, `kernel/irq/handle.c`).
+    /// The run of the handler that returns: its device, and what it met.
     #[inline(always)]
-    pub(crate) fn returned(&mut self, def: &LineDef, cpu: CpuNo, dev: DevNo) -> Entry
-        requires { IsOf def.now self.old.state }
-        ensures entry { result
-            ≡ return_by self.old.state cpu dev (met_by (at self.old.state.asks dev)) }
+    pub fn handler_run(&self, line: LineNo, dev: DevNo) -> Run
+        ensures { result ≡ handler_run self.now.state line dev }
+    {
+        Run {
+            def: self.device(line, dev),
+            part: Part::Primary,
+            unserved: self.met_by_handler(dev),
+        }
+    }
+
+    /// The run of the thread that returns: its device, and what it met.
+    #[inline(always)]
+    pub fn thread_run(&self, line: LineNo, dev: DevNo) -> Run
+        ensures { result ≡ thread_run self.now.state line dev }
+    {
+        Run {
+            def: self.device(line, dev),
+            part: Part::Thread,
+            unserved: self.met_by_thread(dev),
+        }
+    }
+
+    /// The line's device of that number.
+    #[inline(always)]
+    fn device(&self, line: LineNo, dev: DevNo) -> DeviceDef
+        ensures { result ≡ device_at self.now.state line dev }
+    {
+        DeviceDef {
+            dev,
+            line,
+            kind: self.kind(dev),
+        }
+    }
+
+    /// The handler of this run returns: what it met is served if it serves, and its thread is woken
+    /// if it says so (`__handle_irq_event_percpu`, `kernel/irq/handle.c`). What the run says of its
+    /// device isn't looked up again.
+    #[inline(always)]
+    pub fn returned(&mut self, def: &LineDef, cpu: CpuNo, run: Run) -> Entry
+        requires is_of { IsOf def.now self.old.state }
+        requires run { run ≡ handler_run self.old.state run.def.line run.def.dev }
+        ensures entry { result ≡ return_by self.old.state cpu run.def.dev
+            (met_by (at self.old.state.asks run.def.dev)) }
         ensures state { self.new.state ≡ state_after def.now result self.old.state }
         ensures wiring { self.new.wiring ≡ self.old.wiring }
     {
-        let kind = self.kind(dev);
-        let met = met_by_handler(self.asks.served(dev, is_direct(kind)));
-        let answer = answer(kind, met);
-        let served = served(kind, met);
+        let DeviceDef { dev, kind, .. } = run.def;
+        self.asks.served(dev, is_direct(kind));
+        let answer = answer(kind, run.unserved);
+        let served = served(kind, run.unserved);
         self.lower(def, served);
         if answer == Answer::Wake {
             let oneshot = self.desc.oneshot();
@@ -105,19 +147,22 @@ impl<C: Chip> LineState<C> {
         Entry::ThreadBegin { dev }
     }
 
-    /// Its handler returns: what the run met is served (`irq_thread_fn`, `kernel/irq/manage.c`).
+    /// The handler of this run returns: what the run met is served (`irq_thread_fn`,
+    /// `kernel/irq/manage.c`). What the run says of its device isn't looked up again.
     #[inline(always)]
-    pub(crate) fn thread_returned(&mut self, def: &LineDef, dev: DevNo) -> Entry
+    pub fn thread_returned(&mut self, def: &LineDef, run: Run) -> Entry
         requires is_of { IsOf def.now self.old.state }
         requires room { self.old.state.counts.counts.threads_handled < 2 ^ 32 - 1 }
-        ensures entry { result
-            ≡ entries.ThreadReturn dev (met_in (at self.old.state.asks dev)) }
+        requires run { run ≡ thread_run self.old.state run.def.line run.def.dev }
+        ensures entry { result ≡ entries.ThreadReturn run.def.dev
+            (met_in (at self.old.state.asks run.def.dev)) }
         ensures state { self.new.state ≡ state_after def.now result self.old.state }
         ensures wiring { self.new.wiring ≡ self.old.wiring }
     {
-        let serves = is_threaded(self.kind(dev));
+        let DeviceDef { dev, kind, .. } = run.def;
+        let served = run.unserved;
         self.threads.returned(dev);
-        let served = met_by_thread(self.asks.served(dev, serves));
+        self.asks.served(dev, is_threaded(kind));
         self.lower(def, served);
         if served > 0 {
             self.counts.thread_handled();

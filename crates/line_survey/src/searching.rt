@@ -52,8 +52,8 @@ fn search_states(alloc: Global, def: &LineDef, most: usize) -> Result<Searched<E
 }
 
 impl LineSearch {
-    /// Searches the line's states, up to `most` of them (at most 100,000,000). If there are more, the
-    /// search is cut, and what comes later is unknown. The only error is `NoMemory`.
+    /// Searches the line's states, up to `most` of them (at most 100,000,000). If there are more,
+    /// the search is cut, and what comes later is unknown. The only error is `NoMemory`.
     pub fn new(alloc: Global, def: &LineDef, most: usize) -> Result<LineSearch, NoMemory>
         requires valid { IsValid def.now }
         requires some { 1 ≤ most }

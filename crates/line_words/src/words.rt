@@ -75,7 +75,7 @@ pub(crate) fn mask(words: &[u32], place: usize) -> Option<u32>
     }
 }
 
-/// 1 for what is so, else 0.
+/// 1 for true, 0 for false.
 pub(crate) fn flag(is_so: bool) -> u32
     ensures { result ≡ one_if is_so }
 {

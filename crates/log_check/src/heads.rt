@@ -6,8 +6,8 @@ ghost use Rattle.log_check.specs.Heads.{IsHead, IsNoEntry, ReadsNumber, actor_by
 
 use irq_base::{Actor, CpuNo, DevNo, DriverNo, LineNo};
 
-/// The line of the text's first row, and who made its entry, if it is the row of an entry. Of most
-/// rows that aren't, there is no head.
+/// The line of the text's first row, and who made its entry. If there is no head, the row is no
+/// entry's; a row that is no entry's may have one all the same.
 pub(crate) fn read_head(text: &[u8]) -> Option<(LineNo, Actor)>
     ensures { MatchOption result (IsNoEntry text.now) (λ head. IsHead text.now head.0 head.1) }
 {

@@ -13,8 +13,8 @@ use kept_rows::KeptRows;
 use log_read::{cut_row, read_row};
 use std::marker::Model;
 
-/// What has come of a line's rows so far. While each entry was due, the line has them all; a line
-/// that takes no part isn't there, and may have no entry.
+/// What has come of a line's rows so far. While each entry was due, the line has them all. There is
+/// no line where it takes no part, and no entry of it is due.
 #[derive(Drop)]
 pub(crate) struct LineJudge<L: IrqLine> {
     line: Option<L>,
@@ -32,8 +32,7 @@ impl<L: IrqLine> Model for LineJudge<L> {
 }
 
 impl<L: IrqLine> LineJudge<L> {
-    /// The judge of a line, to which nothing has happened; of one that takes no part, if there is
-    /// none.
+    /// The judge of a line to which nothing has happened; none for a line that takes no part.
     pub(crate) fn new(line: Option<L>) -> LineJudge<L>
         ensures line { result.line ≡ option_map L.seen line }
         ensures first { result.first ≡ None }
@@ -78,8 +77,8 @@ impl<L: IrqLine> LineJudge<L> {
         }
     }
 
-    /// The entry of this number isn't due, if the text's first row is that of an entry. Answers
-    /// what follows the row; none if it isn't the row of an entry.
+    /// Notes that the entry of this number isn't due, if the text's first row is that of an entry.
+    /// Answers what follows the row; none if it isn't the row of an entry.
     #[inline(never)]
     fn stop<'t>(&mut self, entry: u32, text: &'t [u8]) -> Option<&'t [u8]>
         requires { 1 ≤ length text.now }

@@ -31,7 +31,7 @@ pub struct NotForSleep;
 /// Lays the board's lines over its domains, plays the board's picks, puts the lines to sleep, lets
 /// devices ask until an interrupt of an armed line wakes the machine or nothing is left to happen,
 /// opens the lines, plays the board on to its end, and prints the play. The maker makes each line;
-/// handlers are called as they are due. None is taken of memory once a row is printed. The only
+/// handlers are called as they are due. No memory is taken once a row is printed. The only
 /// error is an armed line that takes no part or is masked at once by a disable, or a board without
 /// room for the system's driver and its calls.
 pub fn sleep_and_print<O: Sink, M: MakesDomainLine, H: Handler>(

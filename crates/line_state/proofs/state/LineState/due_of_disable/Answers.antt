@@ -1,14 +1,16 @@
 use Rattle.std.proofs.Common.{rules, ◌≡◌, option_map}
 use Rattle.line_marks.specs.DriversDue.{clear_by, synced_by}
-use Rattle.line_state.specs.Entries.{entry_by}
+use Rattle.line_state.specs.Entries.{call_entry}
 use Rattle.line_state.proofs.state.LineState.due_of_disable.Goals as goal
 
 pub returns-in-1 : goal.returns-in-1
 returns-in-1 g c def =
-    let is : option_map (entry_by def c.args.self.now.state) c.due_clear.result ≡ clear_by c.args.driver c.args.self.now.state = c.due_clear.ensures def in
+    let is : option_map (call_entry def c.args.self.now.state c.args.driver) c.due_clear.result
+    ≡ clear_by c.args.driver c.args.self.now.state = c.due_clear.ensures def in
     search rules
 
 pub returns-in_default : goal.returns-in_default
 returns-in_default g c def =
-    let is : option_map (entry_by def c.args.self.now.state) c.due_synced.result ≡ synced_by c.args.driver c.args.self.now.state = c.due_synced.ensures def in
+    let is : option_map (call_entry def c.args.self.now.state c.args.driver) c.due_synced.result
+    ≡ synced_by c.args.driver c.args.self.now.state = c.due_synced.ensures def in
     search rules

@@ -1,0 +1,82 @@
+-- What is added to a line with room made beforehand is added to the line as it was.
+use Rattle.std.proofs.Common.{◌≡◌, ◌<◌, ◌≤◌, is_some, Ok, Option, Some, None, List, [], ◌∷◌, ◌++◌, length}
+use Rattle.std.proofs.Common.{refl, sym, ap, subst, ◌∙◌, arith}
+use Rattle.std.proofs.lemmas.Option.{none-some}
+use Rattle.std.specs.Prelude.{IfSome}
+use Rattle.irq_base.specs.Who.{actor_of}
+use Rattle.irq_base.specs.declared.devices.Run.{Run}
+use Rattle.irq_base.specs.declared.entries.Actor.{Actor}
+use Rattle.irq_base.specs.declared.entries.Entry.{Entry}
+use Rattle.irq_base.specs.declared.lines.LineDef.{LineDef}
+use Rattle.irq_model.specs.Next.{next}
+use Rattle.callbacks.specs.Seen.{SaidSeen}
+use Rattle.irq_line.specs.Answers.{Answers, IsDueOf, IsSaidFor}
+use Rattle.irq_line.specs.Runs.{run_of}
+use Rattle.irq_line.specs.Seen.{LineSeen}
+use Rattle.irq_line.specs.declared.answers.Stepped.{Stepped}
+use Rattle.irq_line.specs.declared.answers.Stepped.TheVariants as stepped
+use Rattle.line_core.specs.Room.{IsReady}
+
+-- ---- what makes ready
+
+pub ready_unheard : (line : LineSeen) (who : Actor) (said : Option SaidSeen) (run : Run) → length line.entries < line.def.log
+    → run_of line.def line.entries who ≡ Some run → (IsSaidFor said run → ⊥) → IsReady line who said line
+ready_unheard line who said run below told unheard = record {
+  below = λ _. below;
+  room = λ _ heard. absurd (unheard (subst (λ (o : Option Run). IfSome o (IsSaidFor said)) told heard));
+  spare = omega arith;
+  idle = λ _. refl;
+  unheard = λ _ _ _. refl;
+}
+
+pub ready_with_room : (line : LineSeen) (who : Actor) (said : Option SaidSeen) (new : LineSeen) (e : Entry) → next line.def line.entries who ≡ Some e
+    → IfSome (run_of line.def line.entries who) (IsSaidFor said) → (length line.entries < line.def.log) × (1 ≤ new.spare) × (line.spare ≤ new.spare)
+    → IsReady line who said new
+ready_with_room line who said new e due heard room = record {
+  below = λ _. room.0;
+  room = λ _ _. room.1;
+  spare = room.2;
+  idle = λ none. absurd (none-some e (sym none ∙ due));
+  unheard = λ run told unheard. absurd (unheard (subst (λ (o : Option Run). IfSome o (IsSaidFor said)) told heard));
+}
+
+-- ---- a step after it
+
+module _ (old mid : LineSeen) (who : Actor) (said : Option SaidSeen) (ready : IsReady old who said mid)
+    (def : mid.def ≡ old.def) (entries : mid.entries ≡ old.entries) where
+  same_next : next mid.def mid.entries who ≡ next old.def old.entries who
+  same_next = ap (λ (d : LineDef). next d mid.entries who) def ∙ ap (λ (h : List Entry). next old.def h who) entries
+
+  same_run : run_of mid.def mid.entries who ≡ run_of old.def old.entries who
+  same_run = ap (λ (d : LineDef). run_of d mid.entries who) def ∙ ap (λ (h : List Entry). run_of old.def h who) entries
+
+  due_old : (e : Entry) → next mid.def mid.entries who ≡ Some e → IsDueOf old who
+  due_old e due = ap is_some (sym same_next ∙ due)
+
+  pub below_mid : (e : Entry) → next mid.def mid.entries who ≡ Some e → length mid.entries < mid.def.log
+  below_mid e due = subst (λ (d : LineDef). length mid.entries < d.log) (sym def)
+      (subst (λ (h : List Entry). length h < old.def.log) (sym entries) (ready.below (due_old e due)))
+
+  pub room_mid : (e : Entry) → next mid.def mid.entries who ≡ Some e → IfSome (run_of mid.def mid.entries who) (IsSaidFor said) → 1 ≤ mid.spare
+  room_mid e due heard = ready.room (due_old e due) (subst (λ (o : Option Run). IfSome o (IsSaidFor said)) same_run heard)
+
+  below_old : length mid.entries < mid.def.log → length old.entries < old.def.log
+  below_old b = subst (λ (d : LineDef). length old.entries < d.log) def (subst (λ (h : List Entry). length h < mid.def.log) entries b)
+
+  pub answers_old : (new : LineSeen) (s : Stepped) → Answers mid who said (Ok s) new → Answers old who said (Ok s) new
+  answers_old new (stepped.Added e) a =
+      let more = ready.spare in
+      let less = a.spare in
+      record {
+        due = sym same_next ∙ a.due;
+        actor = subst (λ (d : LineDef). actor_of d.line e ≡ who) def a.actor;
+        heard = subst (λ (o : Option Run). IfSome o (IsSaidFor said)) same_run a.heard;
+        below = below_old a.below;
+        def = a.def ∙ def;
+        entries = a.entries ∙ ap (λ (h : List Entry). h ++ e ∷ []) entries;
+        spare = omega (arith, more, less);
+      }
+  answers_old new (stepped.Run run) a =
+      let told : run_of old.def old.entries who ≡ Some run = sym same_run ∙ a.0.due in
+      (record { due = told; unheard = a.0.unheard; below = below_old a.0.below }, a.1 ∙ ready.unheard run told a.0.unheard)
+  answers_old new stepped.NotYet a = let none : next old.def old.entries who ≡ None = sym same_next ∙ a.0 in (none, a.1 ∙ ready.idle none)
