@@ -148,7 +148,7 @@ fn failing_writes(rt: HostRuntime) -> Result<(), Fail> {
 
 /// Pieces of one byte are read, and a sink is full within a row.
 #[test]
-fn small_ends(rt: HostRuntime) -> Result<(), Fail> {
+fn small_sinks(rt: HostRuntime) -> Result<(), Fail> {
     let whole = Wanted {
         status: 0,
         entries: Some(9),

@@ -83,7 +83,7 @@ fn play<T: Threads + Wait + Sync, R: Read + Drop, O: Write + Drop, E: Write + Dr
 }
 
 #[test]
-fn std_ends_give_their_status(rt: HostRuntime) -> Result<(), Fail> {
+fn std_streams_give_their_status(rt: HostRuntime) -> Result<(), Fail> {
     let alloc = rt.alloc();
     let (out, err) = (Vec::new(alloc), Vec::new(alloc));
     let played = play(&rt, alloc, BOARD.as_bytes(), out, err)?;
