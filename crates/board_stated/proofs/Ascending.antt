@@ -1,10 +1,9 @@
 -- Lists whose items rise, and what holds of each item.
-use Rattle.std.proofs.Common.{◌≡◌, ℕ, zero, suc, ◌<◌, ◌≤◌, ◌==◌, Bool, true, false, ◌||◌, IfSome, Option, Some, None}
-use Rattle.std.proofs.Common.{List, [], ◌∷◌, ◌++◌, length, nat_le, refl, arith}
+use Rattle.std.proofs.Common.{◌≡◌, ℕ, zero, suc, ◌<◌, ◌==◌, Bool, true, false, ◌||◌, IfSome, Option, Some, None}
+use Rattle.std.proofs.Common.{List, [], ◌∷◌, nat_le, refl, arith}
 use Rattle.std.specs.List.{All, list_any}
 use Rattle.std.specs.Option.{option_map_or}
 use Rattle.std.proofs.lemmas.Bool.{leb-false, eqb-true}
-use Rattle.std.proofs.lemmas.List.{length_push}
 use Rattle.std.proofs.lemmas.List.Elements.{All-nil, All-cons, All-head, All-tail}
 use Rattle.domain_rules.specs.Domains.{EachAfter}
 use Rattle.domain_rules.proofs.EachAfters.{each_none}
@@ -15,19 +14,11 @@ pub last_below : {A : Type 0} (number : A → ℕ) (n : ℕ) (last : Option A)
 last_below number n None h = tt
 last_below number n (Some x) h = leb-false n (number x) h
 
--- there is room for one more
-pub one_more : {A : Type 0} (limit : ℕ) (xs : List A) (x : A) → nat_le limit (length xs) ≡ false → length (xs ++ x ∷ []) ≤ limit
-one_more limit xs x h = omega (arith, length_push xs x, leb-false limit (length xs) h)
-
 pub first_or_rest : {P : Type 0} (a b : Bool) → (a ≡ true → P) → (b ≡ true → P) → (a || b) ≡ true → P
 first_or_rest true b first rest h = first refl
 first_or_rest false b first rest h = rest h
 
 module _ {A : Type 0} where
-  -- a condition that follows from another
-  pub each_weaker : (P Q : List A → A → Type 0) (xs : List A) → ((earlier : List A) (x : A) → P earlier x → Q earlier x) → EachAfter P xs → EachAfter Q xs
-  each_weaker P Q xs follows each i x at = follows _ x (each i x at)
-
   -- each item of no list
   pub each_of_none : (P : List A → A → Type 0) (xs : List A) → xs ≡ [] → EachAfter P xs
   each_of_none P [] h = each_none P

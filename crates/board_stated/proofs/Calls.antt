@@ -1,27 +1,22 @@
--- One more call keeps the rules of boards.
-use Rattle.std.proofs.Common.{◌≡◌, ℕ, ◌≤◌, Bool, true, false, cond, IfSome, is_none, Option, Some, None, List, [], ◌∷◌, refl, arith}
+-- One more call meets its rule after those before it.
+use Rattle.std.proofs.Common.{◌≡◌, ◌≤◌, Bool, true, false, cond, IfSome, is_none, Option, Some, None, List, [], ◌∷◌, refl}
 use Rattle.std.specs.List.{All}
 use Rattle.std.proofs.lemmas.Bool.{eq-eqb, not-false}
-use Rattle.std.proofs.lemmas.List.Elements.{All-same, All-nil, All-head, All-tail, All-weaker}
+use Rattle.std.proofs.lemmas.List.Elements.{All-head, All-tail, All-weaker}
 use Rattle.irq_base.specs.declared.devices.DeviceDef.{DeviceDef}
 use Rattle.irq_base.specs.declared.numbers.DevNo.{DevNo}
 use Rattle.irq_model.specs.Kinds.{same_dev}
 use Rattle.domain_rules.specs.Domains.{EachAfter}
-use Rattle.board_def.specs.Rules.{has_line, find_device, has_driver, is_on_line, fits_line, IsDeviceAfter, IsCallAfter, IsActorOf, IsBoard}
+use Rattle.board_def.specs.Rules.{has_line, find_device, has_driver, is_on_line, fits_line, IsDeviceAfter, IsCallAfter, IsBoard}
 use Rattle.board_def.specs.Seen.{BoardSeen}
 use Rattle.board_def.specs.declared.rows.LineRow.{LineRow}
-use Rattle.board_def.specs.declared.rows.ScriptCall.{ScriptCall}
-use Rattle.domain_rules.proofs.EachAfters.{each_more}
 use Rattle.board_words.specs.declared.statements.CallWords.{CallWords}
 use Rattle.board_words.specs.declared.statements.CallWords.TheVariants as words
 use Rattle.board_words.specs.declared.statements.Statement.TheVariants as statements
-use Rattle.board_stated.specs.FaultsAfter.{is_misplaced, names_nothing, is_not_there, has_bad_owner, is_one_too_many}
-use Rattle.board_stated.specs.Stated.{driver_writing, line_or_none, line_of_call, call_of_words, script_call, with_statement}
-use Rattle.board_stated.proofs.Ascending.{one_more, each_weaker, each_alone}
-use Rattle.board_stated.proofs.Devices.{devices_kept}
+use Rattle.board_stated.specs.FaultsAfter.{is_misplaced, names_nothing, is_not_there, has_bad_owner}
+use Rattle.board_stated.specs.Stated.{driver_writing, line_or_none, line_of_call, call_of_words, script_call}
+use Rattle.board_stated.proofs.Ascending.{each_alone}
 use Rattle.board_stated.proofs.Drivers.{last_declared, last_greatest}
-use Rattle.board_stated.proofs.Lines.{lines_kept}
-use Rattle.board_stated.proofs.Reached.{NoneLater}
 
 -- ---- the device that a call names
 
@@ -84,7 +79,7 @@ scripts_in_order b board =
 
 -- ---- one more
 
-call_after : (b : BoardSeen) (c : CallWords) → IsBoard b → is_misplaced b (statements.Call c) ≡ false → is_not_there b (statements.Call c) ≡ false
+pub call_after : (b : BoardSeen) (c : CallWords) → IsBoard b → is_misplaced b (statements.Call c) ≡ false → is_not_there b (statements.Call c) ≡ false
     → has_bad_owner b (statements.Call c) ≡ false → IsCallAfter b b.calls (script_call b c)
 call_after b c board placed there owner = record {
   driver = last_declared b.drivers placed;
@@ -93,37 +88,3 @@ call_after b c board placed there owner = record {
   device = device_fits b c there;
   owner = owner;
 }
-
--- a board with more calls
-more_calls : (b : BoardSeen) (c : CallWords) (earlier : List ScriptCall) (e : ScriptCall) → IsCallAfter b earlier e
-    → IsCallAfter (with_statement (statements.Call c) b) earlier e
-more_calls b c earlier e p = record { driver = p.driver; in_order = p.in_order; line = p.line; device = p.device; owner = p.owner }
-
-pub call_kept : (b : BoardSeen) (c : CallWords) (n : ℕ) → n ≤ 5 → NoneLater n b → IsBoard b
-    → is_misplaced b (statements.Call c) ≡ false → is_not_there b (statements.Call c) ≡ false
-    → has_bad_owner b (statements.Call c) ≡ false → is_one_too_many b (statements.Call c) ≡ false → IsBoard (with_statement (statements.Call c) b)
-call_kept b c n early none board placed there owner room =
-    let call = script_call b c in
-    let next = with_statement (statements.Call c) b in
-    record {
-      some_cpu = board.some_cpu;
-      few_cpus = board.few_cpus;
-      small_window = board.small_window;
-      limit = board.limit;
-      some_log = board.some_log;
-      small_log = board.small_log;
-      few_domains = board.few_domains;
-      few_lines = board.few_lines;
-      few_devices = board.few_devices;
-      few_drivers = board.few_drivers;
-      few_calls = one_more 16384 b.calls call room;
-      few_picks = board.few_picks;
-      entries = board.entries;
-      domains = board.domains;
-      lines = lines_kept b next refl refl board.lines;
-      devices = devices_kept b next refl board.devices;
-      drivers = board.drivers;
-      calls = each_more (IsCallAfter next) b.calls call (each_weaker (IsCallAfter b) (IsCallAfter next) b.calls (more_calls b c) board.calls)
-          (more_calls b c b.calls call (call_after b c board placed there owner));
-      picks = All-same (IsActorOf next) b.picks [] (none.picks (omega arith)) (All-nil (IsActorOf next));
-    }

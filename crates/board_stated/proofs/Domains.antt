@@ -1,22 +1,18 @@
--- One more domain keeps the rules of boards.
-use Rattle.std.proofs.Common.{◌≡◌, ℕ, ◌<◌, ◌≤◌, true, false, ◌||◌, refl, IfSome, Option, Some, None, List, [], ◌∷◌, length, arith}
+-- One more domain meets its rule after those before it.
+use Rattle.std.proofs.Common.{◌≡◌, ℕ, ◌<◌, true, false, ◌||◌, refl, IfSome, Option, Some, None, List, [], ◌∷◌, length, arith}
 use Rattle.std.proofs.lemmas.Bool.{or_parts}
-use Rattle.std.proofs.lemmas.List.Elements.{All-same, All-nil}
 use Rattle.board_def.specs.Find.{place_of_name}
-use Rattle.board_def.specs.Rules.{has_name, IsDomainRowAfter, IsLineAfter, IsDeviceAfter, IsCallAfter, IsActorOf, IsBoard}
+use Rattle.board_def.specs.Rules.{has_name, IsDomainRowAfter}
 use Rattle.board_def.specs.Seen.{BoardSeen}
 use Rattle.board_def.specs.declared.names.Name.{Name}
 use Rattle.board_def.specs.declared.rows.DomainRow.{DomainRow}
-use Rattle.domain_rules.proofs.EachAfters.{each_more}
 use Rattle.board_def.proofs.Finds.{place_within}
 use Rattle.board_def.proofs.Unnaming.{declared_def}
 use Rattle.board_words.specs.declared.statements.DomainWords.{DomainWords}
 use Rattle.board_words.specs.declared.statements.Statement.TheVariants as statements
-use Rattle.board_stated.specs.FaultsAfter.{has_bad_parent, is_one_too_many}
+use Rattle.board_stated.specs.FaultsAfter.{has_bad_parent}
 use Rattle.board_stated.specs.Sound.{IsWellFormed}
-use Rattle.board_stated.specs.Stated.{place_or_first, parent_place, domain_row, with_statement}
-use Rattle.board_stated.proofs.Ascending.{one_more, each_of_none}
-use Rattle.board_stated.proofs.Reached.{NoneLater}
+use Rattle.board_stated.specs.Stated.{place_or_first, parent_place, domain_row}
 
 -- ---- the place of a name is one of the list
 
@@ -41,38 +37,10 @@ parent_declared rows None = tt
 
 -- ---- one more
 
-domain_after : (b : BoardSeen) (d : DomainWords) → IsWellFormed (statements.Domain d) → (has_name b.domains d.name || d.twice) ≡ false
+pub domain_after : (b : BoardSeen) (d : DomainWords) → IsWellFormed (statements.Domain d) → (has_name b.domains d.name || d.twice) ≡ false
     → has_bad_parent b (statements.Domain d) ≡ false → IsDomainRowAfter b.domains (domain_row b.domains d)
 domain_after b d fits once parent = record {
   spelled = fits.0;
   new = (or_parts (has_name b.domains d.name) d.twice once).0;
   def = record { size = fits.1; declared = declared_def b.domains (parent_place b.domains d.parent) (parent_declared b.domains d.parent); parent = parent };
 }
-
-pub domain_kept : (b : BoardSeen) (d : DomainWords) (n : ℕ) → n ≤ 2 → NoneLater n b → IsBoard b
-    → IsWellFormed (statements.Domain d) → (has_name b.domains d.name || d.twice) ≡ false
-    → has_bad_parent b (statements.Domain d) ≡ false → is_one_too_many b (statements.Domain d) ≡ false → IsBoard (with_statement (statements.Domain d) b)
-domain_kept b d n early none board fits once parent room =
-    let row = domain_row b.domains d in
-    let next = with_statement (statements.Domain d) b in
-    record {
-      some_cpu = board.some_cpu;
-      few_cpus = board.few_cpus;
-      small_window = board.small_window;
-      limit = board.limit;
-      some_log = board.some_log;
-      small_log = board.small_log;
-      few_domains = one_more 32 b.domains row room;
-      few_lines = board.few_lines;
-      few_devices = board.few_devices;
-      few_drivers = board.few_drivers;
-      few_calls = board.few_calls;
-      few_picks = board.few_picks;
-      entries = board.entries;
-      domains = each_more IsDomainRowAfter b.domains row board.domains (domain_after b d fits once parent);
-      lines = each_of_none (IsLineAfter next) b.lines (none.lines (omega arith));
-      devices = each_of_none (IsDeviceAfter next) b.devices (none.devices (omega arith));
-      drivers = board.drivers;
-      calls = each_of_none (IsCallAfter next) b.calls (none.calls (omega arith));
-      picks = All-same (IsActorOf next) b.picks [] (none.picks (omega arith)) (All-nil (IsActorOf next));
-    }

@@ -2,10 +2,11 @@
 use Rattle.std.proofs.Common.{◌≡◌, ℕ, ◌+◌, ◌*◌, ◌≤◌, Bool, true, false, not, ◌&&◌, cond, nat_lt, Option, Some, None}
 use Rattle.std.proofs.Common.{Result, Ok, Err, List, [], ◌∷◌, length, refl, sym, subst, arith}
 use Rattle.std.specs.List.{list_any}
-use Rattle.std.proofs.lemmas.Bool.{ltb-false}
+use Rattle.std.proofs.lemmas.Bool.{ltb-false, leb-false}
 use Rattle.std.proofs.lemmas.List.Elements.{All-nil}
 use Rattle.board_def.specs.Rules.{IsDomainRowAfter, IsLineAfter, IsDeviceAfter, IsDriverAfter, IsCallAfter, IsActorOf, IsBoard}
 use Rattle.board_def.specs.Seen.{BoardSeen}
+use Rattle.board_def.proofs.Grows.{grows_domain, grows_line, grows_device, grows_driver, grows_call}
 use Rattle.domain_rules.proofs.EachAfters.{each_none}
 use Rattle.board_words.specs.Forms.{fault_of_words}
 use Rattle.board_words.specs.TextLines.{text_lines, words_of, has_bad_byte}
@@ -15,21 +16,20 @@ use Rattle.board_words.specs.declared.faults.FaultKind.TheVariants as faults
 use Rattle.board_words.specs.declared.statements.Statement.{Statement}
 use Rattle.board_words.specs.declared.statements.Statement.TheVariants as statements
 use Rattle.board_stated.specs.FaultsAfter.{is_empty, fault_after}
-use Rattle.board_stated.specs.Sections.{section_reached}
 use Rattle.board_stated.specs.Sound.{IsWellFormed, IsSound, draft_of}
-use Rattle.board_stated.specs.Stated.{board_of}
+use Rattle.board_stated.specs.Stated.{domain_row, line_row, script_call, board_of}
 use Rattle.board_stated.specs.Sections.{has_moments}
 use Rattle.board_stated.specs.TextOf.{begins_with_board, or_else, fault_of_statement, fault_of_line, with_line}
 use Rattle.board_stated.specs.TextOf.{with_lines, fault_or, first_fault, has_words, fault_of_lines, longest_text, whole}
 use Rattle.board_stated.specs.TextOf.{board_unless, board_of_text}
 use Rattle.board_words.specs.declared.faults.BoardFault.{BoardFault}
-use Rattle.board_stated.proofs.Calls.{call_kept}
-use Rattle.board_stated.proofs.Devices.{device_kept}
-use Rattle.board_stated.proofs.Domains.{domain_kept}
-use Rattle.board_stated.proofs.Drivers.{driver_kept}
-use Rattle.board_stated.proofs.Lines.{line_kept}
+use Rattle.board_stated.proofs.Calls.{call_after}
+use Rattle.board_stated.proofs.Devices.{device_after}
+use Rattle.board_stated.proofs.Domains.{domain_after}
+use Rattle.board_stated.proofs.Drivers.{driver_after}
+use Rattle.board_stated.proofs.Lines.{line_after}
 use Rattle.board_stated.proofs.Picks.{picks_kept}
-use Rattle.board_stated.proofs.Reached.{FitsAfter, fits_after, NoneLater, none_later}
+use Rattle.board_stated.proofs.Reached.{FitsAfter, fits_after, no_rows}
 use Rattle.board_stated.proofs.Settings.{cpus_kept, spurious_kept, log_range, log_kept}
 use Rattle.board_stated.proofs.WellFormed.{statement_is_well_formed}
 
@@ -58,40 +58,37 @@ first_draft = record {
   picks = All-nil (IsActorOf (draft_of []));
 }
 
-none_drafted : (n : ℕ) (past : List Statement) → NoneLater n (board_of past) → NoneLater n (draft_of past)
-none_drafted n past none = record {
-  domains = none.domains;
-  lines = none.lines;
-  devices = none.devices;
-  drivers
-      = none.drivers;
-  calls = none.calls;
-  picks = none.picks;
-}
-
-draft_more : (past : List Statement) (s : Statement) → FitsAfter past s → IsWellFormed s
-    → NoneLater (section_reached past) (draft_of past) → IsBoard (draft_of past) → IsBoard (draft_of (s ∷ past))
-draft_more past (statements.Board version) fits formed none board = board
-draft_more past (statements.Cpus cpus) fits formed none board = cpus_kept (draft_of past) cpus (section_reached past) fits.section none board formed
-draft_more past (statements.Spurious window limit) fits formed none board
-    = spurious_kept (draft_of past) window limit (section_reached past) fits.section none board formed
-draft_more past (statements.Log log) fits formed none board = board
-draft_more past (statements.Domain d) fits formed none board =
-    domain_kept (draft_of past) d (section_reached past) fits.section none board formed fits.once fits.parent fits.room
-draft_more past (statements.Line l) fits formed none board =
-    line_kept (draft_of past) l (section_reached past) fits.section none board refl formed fits.placed fits.there fits.unlazy fits.mask fits.room
-draft_more past (statements.Device dev line kind) fits formed none board =
-    device_kept (draft_of past) dev line kind (section_reached past) fits.section none board formed fits.placed fits.there fits.room
-draft_more past (statements.Driver driver) fits formed none board =
-    driver_kept (draft_of past) driver (section_reached past) fits.section none board formed fits.placed fits.room
-draft_more past (statements.Call c) fits formed none board =
-    call_kept (draft_of past) c (section_reached past) fits.section none board fits.placed fits.there fits.owner fits.room
-draft_more past (statements.Picks picks) fits formed none board = picks_kept (draft_of past) picks board fits.there fits.room
+-- a statement changes a setting, or adds to the list of its kind what meets its rule after the rows before it
+draft_more : (past : List Statement) (s : Statement) → IsSound past → FitsAfter past s → IsWellFormed s
+    → IsBoard (draft_of past) → IsBoard (draft_of (s ∷ past))
+draft_more past (statements.Board version) sound fits formed board = board
+draft_more past (statements.Cpus cpus) sound fits formed board =
+    cpus_kept (draft_of past) cpus (no_rows past sound (omega (arith, fits.section))) board formed
+draft_more past (statements.Spurious window limit) sound fits formed board = spurious_kept (draft_of past) window limit board formed
+draft_more past (statements.Log log) sound fits formed board = board
+draft_more past (statements.Domain d) sound fits formed board =
+    let b = draft_of past in
+    grows_domain b (domain_row b.domains d) board (leb-false 32 (length b.domains) fits.room) (domain_after b d formed fits.once fits.parent)
+draft_more past (statements.Line l) sound fits formed board =
+    let b = draft_of past in
+    let few = leb-false 64 (length b.lines) fits.room in
+    grows_line b (line_row b l) board few (omega (arith, few))
+    (line_after b l formed board.some_cpu board.lines fits.placed fits.there fits.unlazy fits.mask)
+draft_more past (statements.Device dev line kind) sound fits formed board =
+    let b = draft_of past in
+    grows_device b (record { dev = dev; line = line; kind = kind }) board (leb-false 256 (length b.devices) fits.room)
+    (device_after b dev line kind formed board.devices fits.placed fits.there)
+draft_more past (statements.Driver driver) sound fits formed board =
+    let b = draft_of past in
+    grows_driver b driver board (leb-false 64 (length b.drivers) fits.room) (driver_after b driver formed board.drivers fits.placed)
+draft_more past (statements.Call c) sound fits formed board =
+    let b = draft_of past in
+    grows_call b (script_call b c) board (leb-false 16384 (length b.calls) fits.room) (call_after b c board fits.placed fits.there fits.owner)
+draft_more past (statements.Picks picks) sound fits formed board = picks_kept (draft_of past) picks board fits.there fits.room
 
 pub draft_is_board : (past : List Statement) → IsSound past → IsBoard (draft_of past)
 draft_is_board [] sound = first_draft
-draft_is_board (s ∷ past) sound =
-    draft_more past s (fits_after past s sound.2) sound.1 (none_drafted (section_reached past) past (none_later past sound.0)) (draft_is_board past sound.0)
+draft_is_board (s ∷ past) sound = draft_more past s sound.0 (fits_after past s sound.2) sound.1 (draft_is_board past sound.0)
 
 -- ---- text lines without a fault make statements without one
 

@@ -1,25 +1,23 @@
 -- More picks keep the rules of boards.
-use Rattle.std.proofs.Common.{◌≡◌, ◌+◌, ◌≤◌, ◌==◌, true, false, Option, Some, None, List, [], ◌∷◌, ◌++◌, length, refl, arith}
+use Rattle.std.proofs.Common.{◌≡◌, ◌+◌, ◌≤◌, ◌==◌, true, false, Option, Some, None, List, [], ◌∷◌, ◌++◌, length, refl, sym, subst, arith}
 use Rattle.std.specs.List.{All, list_any, flat_map}
 use Rattle.std.proofs.Math.ListN.{length-append, length-replicate}
 use Rattle.std.proofs.lemmas.Bool.{ltb-false, leb-false, eq-eqb, not-false, and_from, or_parts}
-use Rattle.std.proofs.lemmas.List.Elements.{All-nil, All-append, All-replicate, All-weaker}
+use Rattle.std.proofs.lemmas.List.{append-nil, append_assoc}
+use Rattle.std.proofs.lemmas.List.Elements.{All-nil, All-head, All-tail, All-append, All-replicate, All-weaker}
 use Rattle.irq_base.specs.Handlers.{has_thread}
 use Rattle.irq_base.specs.declared.devices.DeviceDef.{DeviceDef}
 use Rattle.irq_base.specs.declared.entries.Actor.{Actor}
 use Rattle.irq_base.specs.declared.entries.Actor.TheVariants as actors
-use Rattle.board_def.specs.Rules.{find_device, has_driver, is_threaded_on, IsCallAfter, IsActorOf, IsBoard}
+use Rattle.board_def.specs.Rules.{find_device, has_driver, is_threaded_on, IsActorOf, IsBoard}
 use Rattle.board_def.specs.Seen.{BoardSeen}
-use Rattle.board_def.specs.declared.rows.ScriptCall.{ScriptCall}
+use Rattle.board_def.proofs.Grows.{grows_pick}
 use Rattle.board_words.specs.declared.statements.Picked.{Picked}
 use Rattle.board_words.specs.declared.statements.Picked.TheVariants as picked
 use Rattle.board_words.specs.declared.statements.PickWord.{PickWord}
 use Rattle.board_words.specs.declared.statements.Statement.TheVariants as statements
 use Rattle.board_stated.specs.FaultsAfter.{has_no_thread, picks_nothing, is_not_there, count_of_picks, is_one_too_many}
 use Rattle.board_stated.specs.Stated.{line_or_none, actor_picked, actors_picked, with_statement}
-use Rattle.board_stated.proofs.Ascending.{each_weaker}
-use Rattle.board_stated.proofs.Devices.{devices_kept}
-use Rattle.board_stated.proofs.Lines.{lines_kept}
 
 -- ---- each pick is of the board
 
@@ -56,41 +54,25 @@ few_after b picks h =
     let told = count_told b.devices picks in
     omega (arith, length-append b.picks (flat_map (actors_picked b.devices) picks))
 
--- ---- more
+-- ---- more, one after another
 
-same_actor : (b : BoardSeen) (picks : List PickWord) (a : Actor) → IsActorOf b a → IsActorOf (with_statement (statements.Picks picks) b) a
+same_actor : (b : BoardSeen) (picks : List Actor) (a : Actor) → IsActorOf b a → IsActorOf (record b { picks = picks }) a
 same_actor b picks (actors.Thread line dev) h = h
 same_actor b picks (actors.Cpu cpu) h = h
 same_actor b picks (actors.Driver driver) h = h
 
-more_picks : (b : BoardSeen) (picks : List PickWord) (earlier : List ScriptCall) (e : ScriptCall)
-    → IsCallAfter b earlier e → IsCallAfter (with_statement (statements.Picks picks) b) earlier e
-more_picks b picks earlier e p = record { driver = p.driver; in_order = p.in_order; line = p.line; device = p.device; owner = p.owner }
+grows_picks : (b : BoardSeen) (more : List Actor) → IsBoard b → length (b.picks ++ more) ≤ 65536 → All (IsActorOf b) more
+    → IsBoard (record b { picks = b.picks ++ more })
+grows_picks b [] board few there = subst (λ (xs : List Actor). IsBoard (record b { picks = xs })) (sym (append-nil b.picks)) board
+grows_picks b (a ∷ more) board few there =
+    let next : BoardSeen = record b { picks = b.picks ++ a ∷ [] } in
+    let first = grows_pick b a board (omega (arith, few, length-append b.picks (a ∷ more))) (All-head (IsActorOf b) a more there) in
+    let rest = All-weaker (IsActorOf b) (IsActorOf next) (same_actor b next.picks) more (All-tail (IsActorOf b) a more there) in
+    let same : next.picks ++ more ≡ b.picks ++ a ∷ more = append_assoc b.picks (a ∷ []) more in
+    subst (λ (xs : List Actor). IsBoard (record b { picks = xs })) same
+    (grows_picks next more first (subst (λ (xs : List Actor). length xs ≤ 65536) (sym same) few) rest)
 
 pub picks_kept : (b : BoardSeen) (picks : List PickWord) → IsBoard b → is_not_there b (statements.Picks picks) ≡ false
     → is_one_too_many b (statements.Picks picks) ≡ false
     → IsBoard (with_statement (statements.Picks picks) b)
-picks_kept b picks board there room =
-    let next = with_statement (statements.Picks picks) b in
-    record {
-      some_cpu = board.some_cpu;
-      few_cpus = board.few_cpus;
-      small_window = board.small_window;
-      limit = board.limit;
-      some_log = board.some_log;
-      small_log = board.small_log;
-      few_domains = board.few_domains;
-      few_lines = board.few_lines;
-      few_devices = board.few_devices;
-      few_drivers = board.few_drivers;
-      few_calls = board.few_calls;
-      few_picks = few_after b picks room;
-      entries = board.entries;
-      domains = board.domains;
-      lines = lines_kept b next refl refl board.lines;
-      devices = devices_kept b next refl board.devices;
-      drivers = board.drivers;
-      calls = each_weaker (IsCallAfter b) (IsCallAfter next) b.calls (more_picks b picks) board.calls;
-      picks = All-weaker (IsActorOf b) (IsActorOf next) (same_actor b picks) (b.picks ++ flat_map (actors_picked b.devices) picks)
-          (All-append (IsActorOf b) b.picks (flat_map (actors_picked b.devices) picks) board.picks (actors_there b picks there));
-    }
+picks_kept b picks board there room = grows_picks b (flat_map (actors_picked b.devices) picks) board (few_after b picks room) (actors_there b picks there)

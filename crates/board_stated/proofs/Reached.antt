@@ -1,6 +1,5 @@
--- What has no fault after the statements before it; and that nothing is declared yet that a later
--- section declares.
-use Rattle.std.proofs.Common.{◌≡◌, ℕ, ◌<◌, ◌≤◌, Bool, true, false, cond, Option, Some, None, List, [], ◌∷◌, nat_lt, refl, arith}
+-- What has no fault after the statements before it; and that a text with nothing but settings states no lines and no picks.
+use Rattle.std.proofs.Common.{◌≡◌, ◌<◌, ◌≤◌, Bool, true, false, cond, Option, Some, None, List, [], ◌∷◌, nat_lt, refl, arith}
 use Rattle.std.proofs.lemmas.Bool.{ltb-false, or_parts}
 use Rattle.board_def.specs.Seen.{BoardSeen}
 use Rattle.board_words.specs.declared.faults.FaultKind.{FaultKind}
@@ -53,123 +52,25 @@ fits_after past s h =
       room = room.0;
     }
 
--- ---- the lists of the later sections are empty
+-- ---- as long as only settings are stated
 
-pub record NoneLater (section : ℕ) (b : BoardSeen) : Type 0 where
-  pub domains : section < 2 → b.domains ≡ []
-  pub lines : section < 3 → b.lines ≡ []
-  pub devices : section < 4 → b.devices ≡ []
-  pub drivers : section < 5 → b.drivers ≡ []
-  pub calls : section < 5 → b.calls ≡ []
-  pub picks : section < 6 → b.picks ≡ []
+-- the rows whose rules look at settings: there is none of them
+abbrev pub NoRows : BoardSeen → Type 0
+NoRows b = (b.lines ≡ []) × (b.picks ≡ [])
 
-none_first : NoneLater 0 (board_of [])
-none_first = record { domains = λ h. refl; lines = λ h. refl; devices = λ h. refl; drivers = λ h. refl; calls = λ h. refl; picks = λ h. refl }
+none_more : (s : Statement) (b : BoardSeen) → section_of s < 2 → NoRows b → NoRows (with_statement s b)
+none_more (statements.Board version) b early none = none
+none_more (statements.Cpus cpus) b early none = none
+none_more (statements.Spurious window limit) b early none = none
+none_more (statements.Log log) b early none = none
+none_more (statements.Domain d) b early none = absurd (omega arith)
+none_more (statements.Line l) b early none = absurd (omega arith)
+none_more (statements.Device dev line kind) b early none = absurd (omega arith)
+none_more (statements.Driver driver) b early none = absurd (omega arith)
+none_more (statements.Call c) b early none = absurd (omega arith)
+none_more (statements.Picks picks) b early none = absurd (omega arith)
 
-none_more : (s : Statement) (section : ℕ) (b : BoardSeen) → section ≤ section_of s → NoneLater section b → NoneLater (section_of s) (with_statement s b)
-none_more (statements.Board version) section b h n = record {
-  domains = λ i. n.domains (omega arith);
-  lines
-      = λ i. n.lines (omega arith);
-  devices = λ i. n.devices (omega arith);
-  drivers = λ i. n.drivers (omega arith);
-  calls
-      = λ i. n.calls (omega arith);
-  picks = λ i. n.picks (omega arith);
-}
-none_more (statements.Cpus cpus) section b h n = record {
-  domains = λ i. n.domains (omega arith);
-  lines
-      = λ i. n.lines (omega arith);
-  devices = λ i. n.devices (omega arith);
-  drivers = λ i. n.drivers (omega arith);
-  calls
-      = λ i. n.calls (omega arith);
-  picks = λ i. n.picks (omega arith);
-}
-none_more (statements.Spurious window limit) section b h n
-    = record {
-      domains = λ i. n.domains (omega arith);
-      lines = λ i. n.lines (omega arith);
-      devices
-          = λ i. n.devices (omega arith);
-      drivers = λ i. n.drivers (omega arith);
-      calls = λ i. n.calls (omega arith);
-      picks
-          = λ i. n.picks (omega arith);
-    }
-none_more (statements.Log log) section b h n = record {
-  domains = λ i. n.domains (omega arith);
-  lines
-      = λ i. n.lines (omega arith);
-  devices = λ i. n.devices (omega arith);
-  drivers = λ i. n.drivers (omega arith);
-  calls
-      = λ i. n.calls (omega arith);
-  picks = λ i. n.picks (omega arith);
-}
-none_more (statements.Domain d) section b h n = record {
-  domains = λ i. absurd (omega arith);
-  lines
-      = λ i. n.lines (omega arith);
-  devices = λ i. n.devices (omega arith);
-  drivers = λ i. n.drivers (omega arith);
-  calls
-      = λ i. n.calls (omega arith);
-  picks = λ i. n.picks (omega arith);
-}
-none_more (statements.Line l) section b h n = record {
-  domains = λ i. absurd (omega arith);
-  lines
-      = λ i. absurd (omega arith);
-  devices = λ i. n.devices (omega arith);
-  drivers = λ i. n.drivers (omega arith);
-  calls
-      = λ i. n.calls (omega arith);
-  picks = λ i. n.picks (omega arith);
-}
-none_more (statements.Device dev line kind) section b h n
-    = record {
-      domains = λ i. absurd (omega arith);
-      lines = λ i. absurd (omega arith);
-      devices
-          = λ i. absurd (omega arith);
-      drivers = λ i. n.drivers (omega arith);
-      calls = λ i. n.calls (omega arith);
-      picks
-          = λ i. n.picks (omega arith);
-    }
-none_more (statements.Driver driver) section b h n = record {
-  domains = λ i. absurd (omega arith);
-  lines
-      = λ i. absurd (omega arith);
-  devices = λ i. absurd (omega arith);
-  drivers = λ i. absurd (omega arith);
-  calls
-      = λ i. absurd (omega arith);
-  picks = λ i. n.picks (omega arith);
-}
-none_more (statements.Call c) section b h n = record {
-  domains = λ i. absurd (omega arith);
-  lines
-      = λ i. absurd (omega arith);
-  devices = λ i. absurd (omega arith);
-  drivers = λ i. absurd (omega arith);
-  calls
-      = λ i. absurd (omega arith);
-  picks = λ i. n.picks (omega arith);
-}
-none_more (statements.Picks picks) section b h n = record {
-  domains = λ i. absurd (omega arith);
-  lines
-      = λ i. absurd (omega arith);
-  devices = λ i. absurd (omega arith);
-  drivers = λ i. absurd (omega arith);
-  calls
-      = λ i. absurd (omega arith);
-  picks = λ i. absurd (omega arith);
-}
-
-pub none_later : (past : List Statement) → IsSound past → NoneLater (section_reached past) (board_of past)
-none_later [] sound = none_first
-none_later (s ∷ past) sound = none_more s (section_reached past) (board_of past) (fits_after past s sound.2).section (none_later past sound.0)
+pub no_rows : (past : List Statement) → IsSound past → section_reached past < 2 → NoRows (board_of past)
+no_rows [] sound early = (refl, refl)
+no_rows (s ∷ past) sound early =
+    none_more s (board_of past) early (no_rows past sound.0 (omega (arith, early, (fits_after past s sound.2).section)))
