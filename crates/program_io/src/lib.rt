@@ -7,11 +7,11 @@
 #![tactic(auto)]
 
 pub mod arguments;
-pub mod ends;
+pub mod buffers;
 pub mod error_rows;
 pub mod inputs;
 
 pub use arguments::{ArgumentsRefused, lend, words_of};
-pub use ends::{with_buffer, without_buffer};
+pub use buffers::{with_buffer, without_buffer};
 pub use error_rows::{push_fault, push_full_log, tell_row};
 pub use inputs::{InputRefused, read_input};

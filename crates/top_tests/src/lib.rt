@@ -4,14 +4,14 @@
 #![tactic(auto)]
 
 #[cfg(test)]
-mod ends;
-#[cfg(test)]
 mod flaky;
 #[cfg(test)]
 mod lines;
 #[cfg(test)]
 mod meeting;
 #[cfg(test)]
-mod std_ends;
+mod small_sinks;
+#[cfg(test)]
+mod std_streams;
 #[cfg(test)]
 mod threads;
