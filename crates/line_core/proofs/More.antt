@@ -184,27 +184,49 @@ module _ (def : LineDef) (h : List Entry) (s : StateSeen) (scripts after : List 
 
 -- ---- what the state's functions ask for
 
-pub line_is_of : (def : LineDef) (h : List Entry) (s : StateSeen) (scripts : List (DriverNo × RowSeen)) → IsLine def h s scripts → IsOf def s
-line_is_of def h s scripts is = subst (λ (x : StateSeen). IsOf def x) (sym is.state) (is_of def (reverse h) is.valid is.legal)
+-- the state and the drivers' places that stand beside a history
+pub record Beside (def : LineDef) (h : List Entry) : Type 0 where
+  pub state : StateSeen
+  pub scripts : List (DriverNo × RowSeen)
+  pub is : IsLine def h state scripts
 
-pub line_aim_of : (def : LineDef) (h : List Entry) (s : StateSeen) (scripts : List (DriverNo × RowSeen)) → IsLine def h s scripts → IsAimOf def s.aim
-line_aim_of def h s scripts is = record { cpus = ap (λ (x : StateSeen). x.aim.cpus) is.state; later = ap (λ (x : StateSeen). x.aim.later) is.state }
+module _ (def : LineDef) (h : List Entry) (b : Beside def h) where
+  pub line_is_of : IsOf def b.state
+  line_is_of = subst (λ (x : StateSeen). IsOf def x) (sym b.is.state) (is_of def (reverse h) b.is.valid b.is.legal)
 
-line_expects : (def : LineDef) (h : List Entry) (s : StateSeen) (scripts : List (DriverNo × RowSeen)) (a : Actor)
-    (e : Entry) → IsLine def h s scripts → next def h a ≡ Some e → IsExpected def e s
-line_expects def h s scripts a e is due =
-    let long : length (reverse h) ≡ length h = length-reverse h in
-    subst (λ (x : StateSeen). IsExpected def e x) (sym is.state)
-    (expected def (reverse h) is.valid is.legal (omega (arith, long, is.room)) e (due_past def h s scripts scripts e is a due))
+  pub line_aim_of : IsAimOf def b.state.aim
+  line_aim_of = record { cpus = ap (λ (x : StateSeen). x.aim.cpus) b.is.state; later = ap (λ (x : StateSeen). x.aim.later) b.is.state }
 
--- the due step's entry, by the state at hand
-pub line_due : (def : LineDef) (h : List Entry) (s : StateSeen) (scripts : List (DriverNo × RowSeen)) (a : Actor) (step : DueStep) → IsLine def h s scripts
-    → next def h a ≡ Some (entry_by def (state_of def (reverse h)) step) → next def h a ≡ Some (entry_by def s step)
-line_due def h s scripts a step is due = due ∙ ap (λ (x : StateSeen). Some (entry_by def x step)) (sym is.state)
+  line_expects : (a : Actor) (e : Entry) → next def h a ≡ Some e → IsExpected def e b.state
+  line_expects a e due =
+      let long : length (reverse h) ≡ length h = length-reverse h in
+      subst (λ (x : StateSeen). IsExpected def e x) (sym b.is.state)
+      (expected def (reverse h) b.is.valid b.is.legal (omega (arith, long, b.is.room)) e (due_past def h b.state b.scripts b.scripts e b.is a due))
 
-pub line_can : (def : LineDef) (h : List Entry) (s : StateSeen) (scripts : List (DriverNo × RowSeen)) (a : Actor) (step : DueStep) → IsLine def h s scripts
-    → next def h a ≡ Some (entry_by def (state_of def (reverse h)) step) → CanMake def step s
-line_can def h s scripts a step is due = can_make def s step (line_expects def h s scripts a (entry_by def s step) is (line_due def h s scripts a step is due))
+  pub line_can : (a : Actor) (step : DueStep) → next def h a ≡ Some (entry_by def b.state step) → CanMake def step b.state
+  line_can a step due = can_make def b.state step (line_expects a (entry_by def b.state step) due)
+
+  pub line_can_move : (a : Actor) (e : Entry) → next def h a ≡ Some e → CanMove a b.scripts
+  line_can_move a e due = can_move def h b.state b.scripts b.scripts e b.is a due
+
+-- ---- an entry that is put at the history's end
+
+-- the entry that is due, and what it leaves
+pub record IsPut (def : LineDef) (h more : List Entry) (after : StateSeen) (moved : List (DriverNo × RowSeen)) (e : Entry) : Type 0 where
+  pub before : Beside def h
+  pub who : Actor
+  pub due : next def h who ≡ Some e
+  pub below : length h < def.log
+  pub moves : Moves who e before.scripts moved
+  pub entries : more ≡ h ++ e ∷ []
+  pub state : after ≡ state_after def e before.state
+
+pub line_after : (def : LineDef) (h more : List Entry) (after : StateSeen) (moved : List (DriverNo × RowSeen)) (e : Entry)
+    → IsPut def h more after moved e → IsLine def more after moved
+line_after def h more after moved e p =
+    subst (λ (x : List Entry). IsLine def x after moved) (sym p.entries)
+    (subst (λ (x : StateSeen). IsLine def (h ++ e ∷ []) x moved) (sym p.state)
+    (line_more def h p.before.state p.before.scripts moved e p.before.is p.who p.due p.below p.moves))
 
 -- ---- a new line
 

@@ -32,8 +32,10 @@ use Rattle.line_marks.specs.Due.{met_in}
 use Rattle.line_marks.specs.Kinds.{kinds_of, kind_at}
 use Rattle.line_marks.specs.State.{StateSeen, state_of}
 use Rattle.line_state.specs.Entries.{entry_by}
+use Rattle.line_state.specs.declared.due.CpuStep.TheVariants as cpus
 use Rattle.line_state.specs.declared.due.DueStep.{DueStep}
 use Rattle.line_state.specs.declared.due.DueStep.TheVariants as steps
+use Rattle.line_state.specs.declared.due.ThreadStep.TheVariants as threads
 use Rattle.line_core.specs.Running.{run_by, device_by}
 
 -- a request ends no run, whatever its answer
@@ -48,7 +50,7 @@ module _ (def : LineDef) (past : List Entry) (valid : IsValid def) (legal : IsLe
 
   pub run_is : (step : DueStep) → IsDue def (entry_by def (state_of def past) step) past
       → run_ended def past (entry_by def (state_of def past) step) ≡ run_by def (state_of def past) step
-  run_is (steps.Return c d) due =
+  run_is (steps.Cpu c (cpus.Return d)) due =
       let k = kept def past valid legal in
       let n = met_by (at (asks_of def past) d) in
       let kind = kind_at (kinds_of def) d in
@@ -58,8 +60,8 @@ module _ (def : LineDef) (past : List Entry) (valid : IsValid def) (legal : IsLe
       told (ap met_by (sym (row_is d there)))
     where
       told : (ask_row def past d).met_by_handler ≡ met_by (at (asks_of def past) d)
-          → run_ended def past (entry_by def (state_of def past) (steps.Return c d))
-          ≡ run_by def (state_of def past) (steps.Return c d)
+          → run_ended def past (entry_by def (state_of def past) (steps.Cpu c (cpus.Return d)))
+          ≡ run_by def (state_of def past) (steps.Cpu c (cpus.Return d))
       told met =
           ap (λ (x : Kind). Some (record {
             def = record { dev = d; line = def.line; kind = x };
@@ -68,14 +70,14 @@ module _ (def : LineDef) (past : List Entry) (valid : IsValid def) (legal : IsLe
             unserved = (ask_row def past d).met_by_handler;
           })) (sym (kind_is def d))
           ∙ ap (λ (n : ℕ). Some (record { def = device_by def (state_of def past) d; part = parts.Primary; unserved = n })) met
-  run_is (steps.ThreadReturn d) due =
+  run_is (steps.Thread d threads.Return) due =
       let k = kept def past valid legal in
       let there = there_named def past k d (running_there def past k d (thread_return_due def d (met_in (at (asks_of def past) d)) past due).running) in
       told (ap met_in (sym (row_is d there)))
     where
       told : (ask_row def past d).met_by_thread ≡ met_in (at (asks_of def past) d)
-          → run_ended def past (entry_by def (state_of def past) (steps.ThreadReturn d))
-          ≡ run_by def (state_of def past) (steps.ThreadReturn d)
+          → run_ended def past (entry_by def (state_of def past) (steps.Thread d threads.Return))
+          ≡ run_by def (state_of def past) (steps.Thread d threads.Return)
       told met =
           ap (λ (x : Kind). Some (record {
             def = record { dev = d; line = def.line; kind = x };

@@ -3,6 +3,7 @@ use Rattle.std.proofs.Common.{◌≡◌, ◌+◌, ◌<◌, ◌≤◌, Bool, fals
 use Rattle.std.proofs.Common.{Some, None, option_map, length, true, reverse, refl, sym, ap, subst, ◌∙◌}
 use Rattle.std.proofs.lemmas.Bool.{false≢true}
 use Rattle.std.specs.Prelude.{ℕ, IfSome, IsOk, is_ok}
+use Rattle.irq_base.specs.Seen.{HistorySeen}
 use Rattle.irq_base.specs.declared.devices.Run.{Run}
 use Rattle.irq_base.specs.declared.entries.Actor.{Actor}
 use Rattle.irq_base.specs.declared.entries.Entry.{Entry}
@@ -27,9 +28,8 @@ use Rattle.line_marks.specs.Aim.{number_of}
 use Rattle.line_marks.specs.Line.{IsLine}
 use Rattle.line_marks.specs.Next.{due_by}
 use Rattle.line_marks.specs.State.{StateSeen, state_after}
-use Rattle.line_core.proofs.More.{due_past, line_more}
+use Rattle.line_core.proofs.More.{Beside, due_past}
 use Rattle.line_core.proofs.Runs.{run_is}
-use Rattle.line_core.specs.Moves.{Moves}
 use Rattle.line_state.specs.Entries.{entry_by}
 use Rattle.line_state.specs.declared.due.DueStep.{DueStep}
 use Rattle.line_core.specs.Entries.{entry_at}
@@ -42,66 +42,68 @@ numbered : (o : Option CpuNo) → is_some o ≡ true → o ≡ Some (record { 0 
 numbered None h = absurd (false≢true h)
 numbered (Some c) h = refl
 
-pub aimed_at : (line : LineSeen) (s : StateSeen) (scripts : List (DriverNo × RowSeen)) (n : ℕ)
-    → IsLine line.def line.entries s scripts → n ≡ s.aimed
+-- a line as its parts keep it
+abbrev pub line_of : LineDef → HistorySeen → LineSeen
+line_of def h = record { def = def; entries = h.entries; spare = h.spare }
+
+pub aimed_at : (line : LineSeen) (b : Beside line.def line.entries) (n : ℕ) → n ≡ b.state.aimed
     → target line.def (reverse line.entries) ≡ Some (record { 0 = n })
-aimed_at line s scripts n is same =
-    let told : n ≡ number_of (target line.def (reverse line.entries)) = same ∙ ap (λ (x : StateSeen). x.aimed) is.state in
+aimed_at line b n same =
+    let told : n ≡ number_of (target line.def (reverse line.entries)) = same ∙ ap (λ (x : StateSeen). x.aimed) b.is.state in
     let num : ℕ → Option CpuNo = λ k. Some (record { 0 = k }) in
-    numbered (target line.def (reverse line.entries)) (has_target line.def (reverse line.entries) is.valid is.legal) ∙ ap num (sym told)
+    numbered (target line.def (reverse line.entries)) (has_target line.def (reverse line.entries) b.is.valid b.is.legal) ∙ ap num (sym told)
 
 -- ---- a step
 
-pub due_told : (line : LineSeen) (s : StateSeen) (scripts : List (DriverNo × RowSeen)) (a : Actor) (o : Option DueStep) → IsLine line.def line.entries s scripts
-    → option_map (entry_by line.def s) o ≡ due_by line.def s scripts a → option_map (entry_at line) o ≡ next line.def line.entries a
-due_told line s scripts a o is told =
-    ap (λ (x : StateSeen). option_map (entry_by line.def x) o) (sym is.state) ∙ (told ∙ sym (due_on line.def line.entries s scripts a is))
+-- the step is due of the actor
+abbrev pub IsDueStep : LineSeen → Actor → DueStep → Type 0
+IsDueStep line who step = next line.def line.entries who ≡ Some (entry_at line step)
 
-pub added : (def : LineDef) (h more : List Entry) (s after : StateSeen) (scripts moved : List (DriverNo × RowSeen)) (a : Actor) (e : Entry)
-    → IsLine def h s scripts → next def h a ≡ Some e → length h < def.log → Moves a e scripts moved → more ≡ h ++ e ∷ []
-    → after ≡ state_after def e s → IsLine def more after moved
-added def h more s after scripts moved a e is due below m entries state =
-    subst (λ (x : List Entry). IsLine def x after moved) (sym entries)
-    (subst (λ (x : StateSeen). IsLine def (h ++ e ∷ []) x moved) (sym state)
-    (line_more def h s scripts moved e is a due below m))
+pub due_told : (line : LineSeen) (b : Beside line.def line.entries) (a : Actor) (o : Option DueStep)
+    → option_map (entry_by line.def b.state) o ≡ due_by line.def b.state b.scripts a → option_map (entry_at line) o ≡ next line.def line.entries a
+due_told line b a o told =
+    ap (λ (x : StateSeen). option_map (entry_by line.def x) o) (sym b.is.state) ∙ (told ∙ sym (due_on line.def line.entries b.state b.scripts a b.is))
 
-module _ (line : LineSeen) (s : StateSeen) (scripts : List (DriverNo × RowSeen)) (who : Actor) (said : Option SaidSeen)
-    (step : DueStep) (is : IsLine line.def line.entries s scripts)
-    (due : next line.def line.entries who ≡ Some (entry_at line step)) where
+-- what is added: the entry of the step, at the history's end
+pub record IsAdded (line : LineSeen) (step : DueStep) (e : Entry) (new : LineSeen) : Type 0 where
+  pub made : e ≡ entry_at line step
+  pub below : length line.entries < line.def.log
+  pub def : new.def ≡ line.def
+  pub entries : new.entries ≡ line.entries ++ e ∷ []
+  pub spare : line.spare ≤ new.spare + 1
+
+module _ (line : LineSeen) (b : Beside line.def line.entries) (who : Actor) (step : DueStep) (due : IsDueStep line who step) where
+  -- by the state at hand
+  pub due_here : next line.def line.entries who ≡ Some (entry_by line.def b.state step)
+  due_here = due ∙ ap (λ (x : StateSeen). Some (entry_by line.def x step)) (sym b.is.state)
+
+  pub made_here : (e : Entry) → e ≡ entry_by line.def b.state step → e ≡ entry_at line step
+  made_here e made = made ∙ ap (λ (x : StateSeen). entry_by line.def x step) b.is.state
+
   -- the run that the due step ends
-  ends : run_ended line.def (reverse line.entries) (entry_at line step) ≡ run_by line.def s step
+  ends : run_ended line.def (reverse line.entries) (entry_at line step) ≡ run_by line.def b.state step
   ends =
-      run_is line.def (reverse line.entries) is.valid is.legal step (due_past line.def line.entries s scripts scripts (entry_at line step) is who due)
-      ∙ ap (λ (x : StateSeen). run_by line.def x step) (sym is.state)
+      run_is line.def (reverse line.entries) b.is.valid b.is.legal step (due_past line.def line.entries b.state b.scripts b.scripts (entry_at line step) b.is who due)
+      ∙ ap (λ (x : StateSeen). run_by line.def x step) (sym b.is.state)
 
-  run_told : run_of line.def line.entries who ≡ run_by line.def s step
+  run_told : run_of line.def line.entries who ≡ run_by line.def b.state step
   run_told = ap (run_of_entry line.def (reverse line.entries)) due ∙ ends
 
-  pub wants : (run : Run) → run_by line.def s step ≡ Some run → (IsSaidFor said run → ⊥) → length line.entries < line.def.log → WantsRun line who said run
-  wants run ended unheard below = record { due = run_told ∙ ended; unheard = unheard; below = below }
+  pub wants : (said : Option SaidSeen) (run : Run) → (run_by line.def b.state step ≡ Some run) × (IsSaidFor said run → ⊥)
+      → length line.entries < line.def.log → WantsRun line who said run
+  wants said run found below = record { due = run_told ∙ found.0; unheard = found.1; below = below }
 
-  pub adds : (e : Entry) (new : LineSeen) → e ≡ entry_at line step → IfSome (run_by line.def s step) (IsSaidFor said) → length line.entries < line.def.log
-      → new.def ≡ line.def → new.entries ≡ line.entries ++ e ∷ [] → line.spare ≤ new.spare + 1 → AddsEntry line who said e new
-  adds e new made heard below def entries spare = record {
-    due = due ∙ ap Some (sym made);
-    actor = due_is_own line.def line.entries who e (due ∙ ap Some (sym made));
+  pub adds : (said : Option SaidSeen) (e : Entry) (new : LineSeen) → IfSome (run_by line.def b.state step) (IsSaidFor said)
+      → IsAdded line step e new → AddsEntry line who said e new
+  adds said e new heard added = record {
+    due = due ∙ ap Some (sym added.made);
+    actor = due_is_own line.def line.entries who e (due ∙ ap Some (sym added.made));
     heard = subst (λ (o : Option Run). IfSome o (IsSaidFor said)) (sym run_told) heard;
-    below = below;
-    def = def;
-    entries = entries;
-    spare = spare;
+    below = added.below;
+    def = added.def;
+    entries = added.entries;
+    spare = added.spare;
   }
-
--- ---- the step that is made, given the state once there is room
-
-module _ (line : LineSeen) (s room : StateSeen) (scripts : List (DriverNo × RowSeen)) (who : Actor) (step : DueStep)
-    (e : Entry) (is : IsLine line.def line.entries s scripts) (same : room ≡ s) (made : e ≡ entry_by line.def room step)
-  where
-    pub made_at : e ≡ entry_at line step
-    made_at = made ∙ ap (λ (x : StateSeen). entry_by line.def x step) (same ∙ is.state)
-
-    pub made_due : next line.def line.entries who ≡ Some (entry_at line step) → next line.def line.entries who ≡ Some e
-    made_due due = due ∙ ap Some (sym made_at)
 
 -- ---- a step that was refused memory
 

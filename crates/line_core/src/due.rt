@@ -5,11 +5,11 @@ ghost use Rattle.irq_model.specs.Kinds.{same_line};
 ghost use Rattle.line_marks.specs.DriversDue.{driver_due};
 ghost use Rattle.line_marks.specs.Due.{thread_due};
 ghost use Rattle.line_marks.specs.Next.{due_by, due_call_in};
-ghost use Rattle.line_state.specs.Entries.{entry_by};
+ghost use Rattle.line_state.specs.Entries.{entry_by, thread_entry, call_entry};
 
 use irq_base::{Actor, Chip, DevNo, DriverNo, LineDef, LineNo};
 use line_scripts::Scripts;
-use line_state::{DueStep, LineState};
+use line_state::{CallStep, DueStep, LineState, ThreadStep};
 
 /// The step that is due by the state, and for a driver by its place in its script.
 #[inline(always)]
@@ -23,21 +23,30 @@ pub fn due_by<C: Chip>(
         ≡ due_by def.now state.now.state scripts.now actor }
 {
     match actor {
-        Actor::Thread(line, dev) => due_of_thread(def, state, line, dev),
-        Actor::Cpu(cpu) => state.due_of_cpu(cpu),
-        Actor::Driver(driver) => due_of_driver(state, scripts, driver),
+        Actor::Thread(line, dev) => {
+            let step = due_of_thread(def, state, line, dev)?;
+            Some(DueStep::Thread { dev, step })
+        }
+        Actor::Cpu(cpu) => {
+            let step = state.due_of_cpu(cpu)?;
+            Some(DueStep::Cpu { cpu, step })
+        }
+        Actor::Driver(driver) => {
+            let step = due_of_driver(state, scripts, driver)?;
+            Some(DueStep::Call { driver, step })
+        }
     }
 }
 
 /// The step that is due of a thread; none for a thread of another line.
 #[inline(always)]
-fn due_of_thread<C: Chip>(
+pub(crate) fn due_of_thread<C: Chip>(
     def: &LineDef,
     state: &LineState<C>,
     line: LineNo,
     dev: DevNo,
-) -> Option<DueStep>
-    ensures { option_map (entry_by def.now state.now.state) result
+) -> Option<ThreadStep>
+    ensures { option_map (thread_entry state.now.state dev) result
         ≡ (if same_line line def.now.line then thread_due state.now.state dev else None) }
 {
     if line != def.line {
@@ -48,12 +57,12 @@ fn due_of_thread<C: Chip>(
 
 /// The step that is due of a driver; none if its calls are complete.
 #[inline(always)]
-fn due_of_driver<C: Chip>(
+pub(crate) fn due_of_driver<C: Chip>(
     state: &LineState<C>,
     scripts: &Scripts,
     driver: DriverNo,
-) -> Option<DueStep>
-    ensures { (def : LineDef) → option_map (entry_by def state.now.state) result
+) -> Option<CallStep>
+    ensures { (def : LineDef) → option_map (call_entry def state.now.state driver) result
         ≡ driver_due def state.now.state driver (due_call_in scripts.now driver) }
 {
     let (call, within) = scripts.due(driver)?;

@@ -14,6 +14,7 @@ pub mod due;
 mod line;
 mod making;
 pub mod moving;
+mod putting;
 mod room;
 mod running;
 

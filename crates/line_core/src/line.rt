@@ -1,7 +1,8 @@
 //! The line.
 ghost use Rattle.std.specs.Prelude.{◌≡◌, ◌+◌, ◌<◌, ◌≤◌, [], ◌∷◌, ◌++◌, length, IfOk, IsOk, OnOk};
-ghost use Rattle.std.specs.Prelude.{OnErr, IsTrue, Some, option_map, true, false, reverse};
+ghost use Rattle.std.specs.Prelude.{Ok, OnErr, IsTrue, Some, option_map, true, false, reverse};
 ghost use Rattle.irq_base.specs.Cell.{fresh_cell};
+ghost use Rattle.irq_base.specs.declared.entries.Actor.TheVariants as actors;
 ghost use Rattle.irq_model.specs.Kinds.{is_linked_request};
 ghost use Rattle.irq_model.specs.Lines.{serves};
 ghost use Rattle.irq_model.specs.Next.{next};
@@ -11,18 +12,22 @@ ghost use Rattle.irq_model.specs.Valid.{IsValid};
 ghost use Rattle.irq_laws.specs.Driven.{cell_after};
 ghost use Rattle.irq_line.specs.Answers.{Answers};
 ghost use Rattle.irq_line.specs.Memory.{WantsMemory};
-ghost use Rattle.line_core.specs.Room.{links_next};
+ghost use Rattle.line_marks.specs.State.{StateSeen};
+ghost use Rattle.line_state.specs.Entries.{links_by};
+ghost use Rattle.line_core.specs.Room.{HasRoom, links_next};
 ghost use Rattle.line_core.specs.Entries.{entry_at};
 ghost use Rattle.line_core.specs.Blocking.{freed_in, blocks_by};
 
-use crate::due::due_by;
-use crate::moving::advance;
+use crate::due::{due_by, due_of_thread};
+use crate::putting::put;
 use crate::room::make_room;
 use crate::running::unanswered;
 use callbacks::Said;
-use irq_base::{Actor, Blocks, Chip, CpuNo, DevNo, DriverNo, Entry, History, LineDef, NoMemory};
+use irq_base::{
+    Actor, Blocks, Call, Chip, CpuNo, DevNo, DriverNo, Entry, History, LineDef, LineNo, NoMemory,
+};
 use irq_line::{IrqLine, StepRefused, Stepped};
-use line_scripts::Scripts;
+use line_scripts::{Scripts, completes};
 use line_state::{DueStep, LineState};
 use std::alloc::Global;
 use std::marker::Model;
@@ -106,6 +111,14 @@ impl<C: Chip> Line<C> {
         due_by(&self.def, &self.state, &self.scripts, actor)
     }
 
+    /// Whether the history has room for one more entry, and isn't as long as it may be.
+    #[inline(always)]
+    fn has_room(&self) -> bool
+        ensures { IsTrue result → HasRoom self.now.line }
+    {
+        self.history.len() < self.def.log as usize && self.history.spare() > 0
+    }
+
     /// Makes the step, which is due of the actor, and adds its entry. If it links no action and the
     /// history has room, it takes no memory.
     #[inline(always)]
@@ -124,10 +137,102 @@ impl<C: Chip> Line<C> {
         ensures wiring { self.new.wiring ≡ self.old.wiring }
     {
         make_room(&mut self.state, &mut self.history, step)?;
-        let entry = self.state.make(&self.def, step);
-        advance(&mut self.scripts, actor, &entry);
+        Ok(put(
+            &self.def,
+            &mut self.history,
+            &mut self.state,
+            &mut self.scripts,
+            actor,
+            step,
+        ))
+    }
+
+    /// A step of a processor.
+    #[inline(always)]
+    fn step_cpu(&mut self, cpu: CpuNo, said: Option<Said>) -> Result<Stepped, StepRefused> {
+        if !self.has_room() {
+            self.make_room_for(Actor::Cpu(cpu), &said)?;
+        }
+        let Some(step) = self.state.due_of_cpu(cpu) else {
+            return Ok(Stepped::NotYet);
+        };
+        if let Some(run) = unanswered(&self.def, &self.state, DueStep::Cpu { cpu, step }, &said) {
+            return Ok(Stepped::Run(run));
+        }
+        let entry = self.state.make_of_cpu(&self.def, cpu, step);
         self.history.push(entry);
-        Ok(entry)
+        Ok(Stepped::Added(entry))
+    }
+
+    #[inline(never)]
+    fn step_thread(
+        &mut self,
+        line: LineNo,
+        dev: DevNo,
+        said: Option<Said>,
+    ) -> Result<Stepped, StepRefused> {
+        if !self.has_room() {
+            self.make_room_for(Actor::Thread(line, dev), &said)?;
+        }
+        let Some(step) = due_of_thread(&self.def, &self.state, line, dev) else {
+            return Ok(Stepped::NotYet);
+        };
+        if let Some(run) = unanswered(&self.def, &self.state, DueStep::Thread { dev, step }, &said) {
+            return Ok(Stepped::Run(run));
+        }
+        let entry = self.state.make_of_thread(&self.def, dev, step);
+        self.history.push(entry);
+        Ok(Stepped::Added(entry))
+    }
+
+    /// A step of a driver.
+    #[inline(never)]
+    fn step_driver(&mut self, driver: DriverNo) -> Result<Stepped, StepRefused> {
+        let Some((call, within)) = self.scripts.due(driver) else {
+            return Ok(Stepped::NotYet);
+        };
+        if let Call::Ask { dev } = call {
+            if self.has_room() {
+                let entry = self.state.ask(&self.def, driver, dev);
+                self.scripts.advance(driver, true);
+                self.history.push(entry);
+                return Ok(Stepped::Added(entry));
+            }
+        }
+        self.step_call(driver, call, within)
+    }
+
+    #[inline(never)]
+    fn step_call(&mut self, driver: DriverNo, call: Call, within: u32) -> Result<Stepped, StepRefused> {
+        let Some(step) = self.state.due_of_call(driver, call, within) else {
+            return Ok(Stepped::NotYet);
+        };
+        let len = self.history.len();
+        if len >= self.def.log as usize {
+            return Err(StepRefused::Full { len: len as u32 });
+        }
+        make_room(&mut self.state, &mut self.history, DueStep::Call { driver, step })?;
+        let entry = self.state.make_of_call(&self.def, driver, step);
+        self.scripts.advance(driver, completes(call, &entry));
+        self.history.push(entry);
+        Ok(Stepped::Added(entry))
+    }
+
+    /// Makes room for the entry that is due of the actor, if there is one, and if what it needs
+    /// besides is at hand.
+    #[inline(never)]
+    fn make_room_for(&mut self, actor: Actor, said: &Option<Said>) -> Result<(), StepRefused> {
+        let Some(step) = self.due(actor) else {
+            return Ok(());
+        };
+        let len = self.history.len();
+        if len >= self.def.log as usize {
+            return Err(StepRefused::Full { len: len as u32 });
+        }
+        if unanswered(&self.def, &self.state, step, said).is_none() {
+            make_room(&mut self.state, &mut self.history, step)?;
+        }
+        Ok(())
     }
 }
 
@@ -178,18 +283,11 @@ impl<C: Chip + Drop> IrqLine for Line<C> {
         ensures memory { WantsMemory (λ due. links_next due ≡ true) self.old.line actor result }
         ensures wiring { self.new.wiring ≡ self.old.wiring }
     {
-        let Some(step) = self.due(actor) else {
-            return Ok(Stepped::NotYet);
-        };
-        let len = self.history.len();
-        if len >= self.def.log as usize {
-            return Err(StepRefused::Full { len: len as u32 });
+        match actor {
+            Actor::Cpu(cpu) => self.step_cpu(cpu, said),
+            Actor::Thread(line, dev) => self.step_thread(line, dev, said),
+            Actor::Driver(driver) => self.step_driver(driver),
         }
-        if let Some(run) = unanswered(&self.def, &self.state, step, &said) {
-            return Ok(Stepped::Run(run));
-        }
-        let entry = self.add(actor, step)?;
-        Ok(Stepped::Added(entry))
     }
 
     fn reserve(&mut self) -> Result<(), NoMemory>

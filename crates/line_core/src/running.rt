@@ -5,7 +5,7 @@ ghost use Rattle.line_core.specs.Running.{device_by, run_by};
 
 use callbacks::Said;
 use irq_base::{Chip, DevNo, DeviceDef, LineDef, Part, Run};
-use line_state::{DueStep, LineState};
+use line_state::{CpuStep, DueStep, LineState, ThreadStep};
 
 /// Whether the answer that was handed in is this run's answer.
 #[inline(always)]
@@ -57,12 +57,18 @@ fn run_by<C: Chip>(def: &LineDef, state: &LineState<C>, step: DueStep) -> Option
     ensures { result ≡ run_by def.now state.now.state step }
 {
     match step {
-        DueStep::Return { dev, .. } => Some(Run {
+        DueStep::Cpu {
+            step: CpuStep::Return { dev },
+            ..
+        } => Some(Run {
             def: device(def, state, dev),
             part: Part::Primary,
             unserved: state.met_by_handler(dev),
         }),
-        DueStep::ThreadReturn { dev } => Some(Run {
+        DueStep::Thread {
+            dev,
+            step: ThreadStep::Return,
+        } => Some(Run {
             def: device(def, state, dev),
             part: Part::Thread,
             unserved: state.met_by_thread(dev),

@@ -4,6 +4,7 @@ use Rattle.irq_base.specs.declared.calls.Flags.{Flags}
 use Rattle.irq_base.specs.declared.entries.LinkAnswer.{LinkAnswer}
 use Rattle.irq_base.specs.declared.entries.LinkAnswer.TheVariants as links
 use Rattle.irq_base.specs.declared.lines.LineDef.{LineDef}
+use Rattle.irq_base.specs.declared.numbers.CpuNo.{CpuNo}
 use Rattle.irq_base.specs.declared.numbers.DevNo.{DevNo}
 use Rattle.irq_base.specs.declared.numbers.DriverNo.{DriverNo}
 use Rattle.irq_model.specs.Kinds.{is_linked_request, is_linked_answer}
@@ -12,21 +13,33 @@ use Rattle.line_marks.specs.DriversDue.{request_to}
 use Rattle.line_marks.specs.Expected.{IsExpected}
 use Rattle.line_marks.specs.Kinds.{kind_at}
 use Rattle.line_marks.specs.State.{StateSeen}
-use Rattle.line_state.specs.Entries.{entry_by, links_by, CanMake}
+use Rattle.line_state.specs.Entries.{entry_by, cpu_entry, thread_entry, links_by, CanMake, CanMakeOfCpu, CanMakeOfThread}
+use Rattle.line_state.specs.declared.due.CpuStep.{CpuStep}
+use Rattle.line_state.specs.declared.due.CpuStep.TheVariants as cpus
 use Rattle.line_state.specs.declared.due.DueStep.{DueStep}
 use Rattle.line_state.specs.declared.due.DueStep.TheVariants as steps
+use Rattle.line_state.specs.declared.due.ThreadStep.{ThreadStep}
+use Rattle.line_state.specs.declared.due.ThreadStep.TheVariants as threads
 
 module _ (def : LineDef) (s : StateSeen) where
   requested : (r : DriverNo) (d : DevNo) (flags : Flags) (a : LinkAnswer) → IsExpected def (request_to def r d flags s a) s → has d s.list.actions ≡ false
   requested r d flags links.Linked h = h.0
   requested r d flags (links.Refused error) h = h.0
 
+  of_cpu : (c : CpuNo) (step : CpuStep) → IsExpected def (cpu_entry def s c step) s → CanMakeOfCpu def step s
+  of_cpu c (cpus.Take way) h = h.1
+  of_cpu c cpus.End h = (h.1, h.2, h.3)
+  of_cpu c _ h = tt
+
+  of_thread : (d : DevNo) (step : ThreadStep) → IsExpected def (thread_entry s d step) s → CanMakeOfThread step s
+  of_thread d threads.Return h = h
+  of_thread d _ h = tt
+
   -- what is expected of its entry is what the step asks for
   pub can_make : (step : DueStep) → IsExpected def (entry_by def s step) s → CanMake def step s
+  can_make (steps.Cpu cpu step) h = of_cpu cpu step h
+  can_make (steps.Thread dev step) h = of_thread dev step h
   can_make (steps.Ask driver dev) h = h
-  can_make (steps.Take cpu way) h = h.1
-  can_make (steps.End cpu) h = (h.1, h.2, h.3)
-  can_make (steps.ThreadReturn dev) h = h
   can_make (steps.Disable driver) h = h
   can_make (steps.Request driver dev flags) h = requested driver dev flags (answer_by (kind_at s.kinds dev) flags s.list.actions) h
   can_make _ h = tt
@@ -35,6 +48,20 @@ module _ (def : LineDef) (s : StateSeen) where
   linked_by r d flags links.Linked = refl
   linked_by r d flags (links.Refused error) = refl
 
+  unlinked_of_cpu : (c : CpuNo) (step : CpuStep) → is_linked_request (cpu_entry def s c step) ≡ false
+  unlinked_of_cpu c (cpus.Take way) = refl
+  unlinked_of_cpu c (cpus.Begin dev) = refl
+  unlinked_of_cpu c (cpus.Return dev) = refl
+  unlinked_of_cpu c cpus.End = refl
+
+  unlinked_of_thread : (d : DevNo) (step : ThreadStep) → is_linked_request (thread_entry s d step) ≡ false
+  unlinked_of_thread d threads.Begin = refl
+  unlinked_of_thread d threads.Return = refl
+  unlinked_of_thread d threads.Finish = refl
+  unlinked_of_thread d threads.Done = refl
+
   pub linked_is : (step : DueStep) → is_linked_request (entry_by def s step) ≡ links_by s step
+  linked_is (steps.Cpu cpu step) = unlinked_of_cpu cpu step
+  linked_is (steps.Thread dev step) = unlinked_of_thread dev step
   linked_is (steps.Request driver dev flags) = linked_by driver dev flags (answer_by (kind_at s.kinds dev) flags s.list.actions)
   linked_is _ = refl

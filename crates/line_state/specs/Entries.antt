@@ -4,7 +4,9 @@ use Rattle.irq_base.specs.declared.calls.Flags.{Flags}
 use Rattle.irq_base.specs.declared.entries.Entry.{Entry}
 use Rattle.irq_base.specs.declared.entries.Entry.TheVariants as entries
 use Rattle.irq_base.specs.declared.lines.LineDef.{LineDef}
+use Rattle.irq_base.specs.declared.numbers.CpuNo.{CpuNo}
 use Rattle.irq_base.specs.declared.numbers.DevNo.{DevNo}
+use Rattle.irq_base.specs.declared.numbers.DriverNo.{DriverNo}
 use Rattle.irq_model.specs.Kinds.{is_linked_answer}
 use Rattle.device_table.specs.Rows.{at, change}
 use Rattle.act_list.specs.Actions.{has, is_bare, answer_by}
@@ -24,8 +26,14 @@ use Rattle.line_marks.specs.Expected.{HasRounds, HasDepth, IsOpen}
 use Rattle.line_marks.specs.Kinds.{kind_at}
 use Rattle.line_marks.specs.State.{StateSeen}
 use Rattle.spurious.specs.Seen.{after_reset}
+use Rattle.line_state.specs.declared.due.CallStep.{CallStep}
+use Rattle.line_state.specs.declared.due.CallStep.TheVariants as calls
+use Rattle.line_state.specs.declared.due.CpuStep.{CpuStep}
+use Rattle.line_state.specs.declared.due.CpuStep.TheVariants as cpus
 use Rattle.line_state.specs.declared.due.DueStep.{DueStep}
 use Rattle.line_state.specs.declared.due.DueStep.TheVariants as steps
+use Rattle.line_state.specs.declared.due.ThreadStep.{ThreadStep}
+use Rattle.line_state.specs.declared.due.ThreadStep.TheVariants as threads
 
 -- the thread is to run again, or gives its bit up (`irq_finalize_oneshot`)
 abbrev pub is_kept : Finished → Bool
@@ -44,34 +52,50 @@ opens_by s d = is_cleared (finishes_at s.threads d) && may_open
 abbrev pub finish_by : StateSeen → DevNo → Entry
 finish_by s d = entries.Finish d (is_kept (finishes_at s.threads d)) (opens_by s d)
 
--- the entry that the step makes in that state
-abbrev pub entry_by : LineDef → StateSeen → DueStep → Entry
-entry_by def s (steps.Ask driver dev) = entries.Ask driver dev
-entry_by def s (steps.Take cpu way) = entries.Take cpu way (take_by s)
-entry_by def s (steps.Begin cpu dev) = entries.Begin cpu dev
-entry_by def s (steps.Return cpu dev) = return_by s cpu dev (met_by (at s.asks dev))
-entry_by def s (steps.End cpu) = end_by def s cpu
-entry_by def s (steps.ThreadBegin dev) = entries.ThreadBegin dev
-entry_by def s (steps.ThreadReturn dev) = entries.ThreadReturn dev (met_in (at s.asks dev))
-entry_by def s (steps.Finish dev) = finish_by s dev
-entry_by def s (steps.Done dev) = entries.Done dev
-entry_by def s (steps.Disable driver) = entries.Disable driver
-entry_by def s (steps.HardClear driver) = entries.HardClear driver
-entry_by def s (steps.Synced driver) = entries.Synced driver
-entry_by def s (steps.Enable driver) =
+-- the entry that a step of a processor makes in that state
+abbrev pub cpu_entry : LineDef → StateSeen → CpuNo → CpuStep → Entry
+cpu_entry def s cpu (cpus.Take way) = entries.Take cpu way (take_by s)
+cpu_entry def s cpu (cpus.Begin dev) = entries.Begin cpu dev
+cpu_entry def s cpu (cpus.Return dev) = return_by s cpu dev (met_by (at s.asks dev))
+cpu_entry def s cpu cpus.End = end_by def s cpu
+
+-- that a step of a device's thread makes
+abbrev pub thread_entry : StateSeen → DevNo → ThreadStep → Entry
+thread_entry s dev threads.Begin = entries.ThreadBegin dev
+thread_entry s dev threads.Return = entries.ThreadReturn dev (met_in (at s.asks dev))
+thread_entry s dev threads.Finish = finish_by s dev
+thread_entry s dev threads.Done = entries.Done dev
+
+-- that a step of a driver's call makes
+abbrev pub call_entry : LineDef → StateSeen → DriverNo → CallStep → Entry
+call_entry def s driver (calls.Ask dev) = entries.Ask driver dev
+call_entry def s driver calls.Disable = entries.Disable driver
+call_entry def s driver calls.HardClear = entries.HardClear driver
+call_entry def s driver calls.Synced = entries.Synced driver
+call_entry def s driver calls.Enable =
     entries.Enable driver (enable_by (not (is_bare s.list.actions)) def.trigger s.desc s.cell)
-entry_by def s (steps.Request driver dev flags)
+call_entry def s driver (calls.Request dev flags)
     = request_to def driver dev flags s (answer_by (kind_at s.kinds dev) flags s.list.actions)
-entry_by def s (steps.Unlink driver dev) =
+call_entry def s driver (calls.Unlink dev) =
     entries.Unlink driver dev (unlink_by dev s.list.actions)
-entry_by def s (steps.Freed driver dev) = entries.Freed driver dev
-entry_by def s (steps.Affinity driver mask) = entries.Affinity driver mask (set_answer s.aim mask)
-entry_by def s (steps.Moment driver at) = entries.Moment driver at
+call_entry def s driver (calls.Freed dev) = entries.Freed driver dev
+call_entry def s driver (calls.Affinity mask) = entries.Affinity driver mask (set_answer s.aim mask)
+call_entry def s driver (calls.Moment at) = entries.Moment driver at
+
+-- that a step makes
+abbrev pub entry_by : LineDef → StateSeen → DueStep → Entry
+entry_by def s (steps.Cpu cpu step) = cpu_entry def s cpu step
+entry_by def s (steps.Thread dev step) = thread_entry s dev step
+entry_by def s (steps.Call driver step) = call_entry def s driver step
 
 -- the step links an action
-abbrev pub links_by : StateSeen → DueStep → Bool
-links_by s (steps.Request driver dev flags) =
+abbrev pub links_by_call : StateSeen → CallStep → Bool
+links_by_call s (calls.Request dev flags) =
     is_linked_answer (answer_by (kind_at s.kinds dev) flags s.list.actions)
+links_by_call s _ = false
+
+abbrev pub links_by : StateSeen → DueStep → Bool
+links_by s (steps.Call driver step) = links_by_call s step
 links_by s _ = false
 
 -- what a line takes over of an action that is linked (`__setup_irq`, `kernel/irq/manage.c`)
@@ -81,13 +105,25 @@ taken_over flags s = record s {
   counts = after_reset s.counts;
 }
 
--- what the step asks for: each count that it raises has room for one more, and a device that is
--- requested isn't linked
+-- what a step of a processor asks for: each count that it raises has room for one more
+abbrev pub CanMakeOfCpu : LineDef → CpuStep → StateSeen → Type 0
+CanMakeOfCpu def (cpus.Take way) s = HasRounds s
+CanMakeOfCpu def cpus.End s = HasRounds s × HasDepth s × IsOpen def s
+CanMakeOfCpu def _ s = Unit {0}
+
+-- a step of a thread
+abbrev pub CanMakeOfThread : ThreadStep → StateSeen → Type 0
+CanMakeOfThread threads.Return s = s.counts.counts.threads_handled < 2 ^ 32 - 1
+CanMakeOfThread _ s = Unit {0}
+
+-- a step of a driver's call: besides, a device that is requested isn't linked
+abbrev pub CanMakeOfCall : CallStep → StateSeen → Type 0
+CanMakeOfCall (calls.Ask dev) s = HasRoom (at s.asks dev)
+CanMakeOfCall calls.Disable s = HasDepth s
+CanMakeOfCall (calls.Request dev flags) s = has dev s.list.actions ≡ false
+CanMakeOfCall _ s = Unit {0}
+
 abbrev pub CanMake : LineDef → DueStep → StateSeen → Type 0
-CanMake def (steps.Ask driver dev) s = HasRoom (at s.asks dev)
-CanMake def (steps.Take cpu way) s = HasRounds s
-CanMake def (steps.End cpu) s = HasRounds s × HasDepth s × IsOpen def s
-CanMake def (steps.ThreadReturn dev) s = s.counts.counts.threads_handled < 2 ^ 32 - 1
-CanMake def (steps.Disable driver) s = HasDepth s
-CanMake def (steps.Request driver dev flags) s = has dev s.list.actions ≡ false
-CanMake def _ s = Unit {0}
+CanMake def (steps.Cpu cpu step) s = CanMakeOfCpu def step s
+CanMake def (steps.Thread dev step) s = CanMakeOfThread step s
+CanMake def (steps.Call driver step) s = CanMakeOfCall step s

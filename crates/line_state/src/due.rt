@@ -5,86 +5,83 @@ use irq_base::{CpuNo, DevNo, DriverNo, Flags, Way};
 /// made.
 #[derive(Clone, Copy)]
 pub enum DueStep {
+    /// A step of a processor.
+    Cpu {
+        cpu: CpuNo,
+        step: CpuStep,
+    },
+    /// A step of a device's thread.
+    Thread {
+        dev: DevNo,
+        step: ThreadStep,
+    },
+    /// A step of a driver's call.
+    Call {
+        driver: DriverNo,
+        step: CallStep,
+    },
+}
+
+/// A step of a processor.
+#[derive(Clone, Copy)]
+pub enum CpuStep {
+    /// It takes an interrupt.
+    Take { way: Way },
+    /// The device's handler is called.
+    Begin { dev: DevNo },
+    /// The device's handler returns.
+    Return { dev: DevNo },
+    /// The round ends.
+    End,
+}
+
+/// A step of a device's thread.
+#[derive(Clone, Copy)]
+pub enum ThreadStep {
+    /// A run begins.
+    Begin,
+    /// The handler of the run returns.
+    Return,
+    /// The run is finalized.
+    Finish,
+    /// The run is over.
+    Done,
+}
+
+/// A step of a driver's call.
+#[derive(Clone, Copy)]
+pub enum CallStep {
     /// A device asks for service.
     Ask {
-        driver: DriverNo,
-        dev: DevNo,
-    },
-    /// A processor takes an interrupt.
-    Take {
-        cpu: CpuNo,
-        way: Way,
-    },
-    /// The device's handler is called.
-    Begin {
-        cpu: CpuNo,
-        dev: DevNo,
-    },
-    /// The device's handler returns.
-    Return {
-        cpu: CpuNo,
-        dev: DevNo,
-    },
-    /// The round ends.
-    End {
-        cpu: CpuNo,
-    },
-    /// The device's thread begins a run.
-    ThreadBegin {
-        dev: DevNo,
-    },
-    /// Its handler returns.
-    ThreadReturn {
-        dev: DevNo,
-    },
-    /// Its run is finalized.
-    Finish {
-        dev: DevNo,
-    },
-    /// Its run is over.
-    Done {
         dev: DevNo,
     },
     /// `__disable_irq`.
-    Disable {
-        driver: DriverNo,
-    },
+    Disable,
     /// `__synchronize_hardirq`.
-    HardClear {
-        driver: DriverNo,
-    },
+    HardClear,
     /// The end of `synchronize_irq`.
-    Synced {
-        driver: DriverNo,
-    },
+    Synced,
     /// `enable_irq`.
-    Enable {
-        driver: DriverNo,
-    },
+    Enable,
     /// `__setup_irq`.
     Request {
-        driver: DriverNo,
         dev: DevNo,
         flags: Flags,
     },
     /// The first step of `__free_irq`.
     Unlink {
-        driver: DriverNo,
         dev: DevNo,
     },
     /// Its last step.
     Freed {
-        driver: DriverNo,
         dev: DevNo,
     },
     /// `irq_set_affinity`.
     Affinity {
-        driver: DriverNo,
         mask: u32,
     },
     /// The time in milliseconds is handed in.
     Moment {
-        driver: DriverNo,
         at: u32,
     },
 }

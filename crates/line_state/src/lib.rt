@@ -23,6 +23,6 @@ pub mod runs;
 pub mod state;
 pub mod thread_due;
 
-pub use due::DueStep;
+pub use due::{CallStep, CpuStep, DueStep, ThreadStep};
 pub use round::Round;
 pub use state::LineState;

@@ -2,12 +2,14 @@
 ghost use Rattle.std.specs.Prelude.{◌≡◌, ◌≤◌, true};
 ghost use Rattle.irq_model.specs.Valid.{IsValid};
 ghost use Rattle.line_marks.specs.State.{state_after, IsOf};
-ghost use Rattle.line_state.specs.Entries.{entry_by, links_by, CanMake};
+ghost use Rattle.line_state.specs.Entries.{entry_by, cpu_entry, thread_entry, call_entry};
+ghost use Rattle.line_state.specs.Entries.{links_by, links_by_call, CanMake, CanMakeOfCpu};
+ghost use Rattle.line_state.specs.Entries.{CanMakeOfThread, CanMakeOfCall};
 ghost use Rattle.line_state.specs.Seen.{IsAimOf};
 
-use crate::due::DueStep;
+use crate::due::{CallStep, CpuStep, DueStep, ThreadStep};
 use crate::state::LineState;
-use irq_base::{Chip, Entry, LineDef, LinkAnswer};
+use irq_base::{Chip, CpuNo, DevNo, DriverNo, Entry, LineDef, LinkAnswer};
 
 impl<C: Chip> LineState<C> {
     /// Whether the step links an action.
@@ -15,9 +17,10 @@ impl<C: Chip> LineState<C> {
         ensures { result ≡ links_by self.now.state step }
     {
         match step {
-            DueStep::Request { dev, flags, .. } => {
-                self.actions.answer(self.kind(dev), flags) == LinkAnswer::Linked
-            }
+            DueStep::Call {
+                step: CallStep::Request { dev, flags },
+                ..
+            } => self.actions.answer(self.kind(dev), flags) == LinkAnswer::Linked,
             _ => false,
         }
     }
@@ -37,24 +40,71 @@ impl<C: Chip> LineState<C> {
         ensures wiring { self.new.wiring ≡ self.old.wiring }
     {
         match step {
-            DueStep::Ask { driver, dev } => self.ask(def, driver, dev),
-            DueStep::Take { cpu, way } => self.take(def, cpu, way),
-            DueStep::Begin { cpu, dev } => self.begin(cpu, dev),
-            DueStep::Return { cpu, dev } => self.returned(def, cpu, dev),
-            DueStep::End { cpu } => self.end(def, cpu),
-            DueStep::ThreadBegin { dev } => self.thread_begin(dev),
-            DueStep::ThreadReturn { dev } => self.thread_returned(def, dev),
-            DueStep::Finish { dev } => self.finish(dev),
-            DueStep::Done { dev } => self.done(dev),
-            DueStep::Disable { driver } => self.disable(driver),
-            DueStep::HardClear { driver } => Entry::HardClear { driver },
-            DueStep::Synced { driver } => Entry::Synced { driver },
-            DueStep::Enable { driver } => self.enable(def, driver),
-            DueStep::Request { driver, dev, flags } => self.request(def, driver, dev, flags),
-            DueStep::Unlink { driver, dev } => self.unlink(driver, dev),
-            DueStep::Freed { driver, dev } => self.freed(driver, dev),
-            DueStep::Affinity { driver, mask } => self.affinity(driver, mask),
-            DueStep::Moment { driver, at } => self.moment(driver, at),
+            DueStep::Cpu { cpu, step } => self.make_of_cpu(def, cpu, step),
+            DueStep::Thread { dev, step } => self.make_of_thread(def, dev, step),
+            DueStep::Call { driver, step } => self.make_of_call(def, driver, step),
+        }
+    }
+
+    /// The same for a step of a processor.
+    #[inline(always)]
+    pub fn make_of_cpu(&mut self, def: &LineDef, cpu: CpuNo, step: CpuStep) -> Entry
+        requires valid { IsValid def.now }
+        requires is_of { IsOf def.now self.old.state }
+        requires few { self.old.state.aim.cpus ≤ 32 }
+        requires can { CanMakeOfCpu def.now step self.old.state }
+        ensures entry { result ≡ cpu_entry def.now self.old.state cpu step }
+        ensures state { self.new.state ≡ state_after def.now result self.old.state }
+        ensures wiring { self.new.wiring ≡ self.old.wiring }
+    {
+        match step {
+            CpuStep::Take { way } => self.take(def, cpu, way),
+            CpuStep::Begin { dev } => self.begin(cpu, dev),
+            CpuStep::Return { dev } => self.returned(def, cpu, dev),
+            CpuStep::End => self.end(def, cpu),
+        }
+    }
+
+    /// The same for a step of a device's thread.
+    #[inline(always)]
+    pub fn make_of_thread(&mut self, def: &LineDef, dev: DevNo, step: ThreadStep) -> Entry
+        requires is_of { IsOf def.now self.old.state }
+        requires can { CanMakeOfThread step self.old.state }
+        ensures entry { result ≡ thread_entry self.old.state dev step }
+        ensures state { self.new.state ≡ state_after def.now result self.old.state }
+        ensures wiring { self.new.wiring ≡ self.old.wiring }
+    {
+        match step {
+            ThreadStep::Begin => self.thread_begin(dev),
+            ThreadStep::Return => self.thread_returned(def, dev),
+            ThreadStep::Finish => self.finish(dev),
+            ThreadStep::Done => self.done(dev),
+        }
+    }
+
+    /// The same for a step of a driver's call.
+    #[inline(always)]
+    pub fn make_of_call(&mut self, def: &LineDef, driver: DriverNo, step: CallStep) -> Entry
+        requires valid { IsValid def.now }
+        requires is_of { IsOf def.now self.old.state }
+        requires few { self.old.state.aim.cpus ≤ 32 }
+        requires can { CanMakeOfCall step self.old.state }
+        requires room { links_by_call self.old.state step ≡ true → 1 ≤ self.old.spare }
+        ensures entry { result ≡ call_entry def.now self.old.state driver step }
+        ensures state { self.new.state ≡ state_after def.now result self.old.state }
+        ensures wiring { self.new.wiring ≡ self.old.wiring }
+    {
+        match step {
+            CallStep::Ask { dev } => self.ask(def, driver, dev),
+            CallStep::Disable => self.disable(driver),
+            CallStep::HardClear => Entry::HardClear { driver },
+            CallStep::Synced => Entry::Synced { driver },
+            CallStep::Enable => self.enable(def, driver),
+            CallStep::Request { dev, flags } => self.request(def, driver, dev, flags),
+            CallStep::Unlink { dev } => self.unlink(driver, dev),
+            CallStep::Freed { dev } => self.freed(driver, dev),
+            CallStep::Affinity { mask } => self.affinity(driver, mask),
+            CallStep::Moment { at } => self.moment(driver, at),
         }
     }
 }

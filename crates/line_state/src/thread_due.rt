@@ -1,13 +1,12 @@
 //! The step that is due of a thread.
 ghost use Rattle.std.specs.Prelude.{◌≡◌, Some, option_map};
-ghost use Rattle.irq_base.specs.declared.lines.LineDef.{LineDef};
 ghost use Rattle.act_thread.specs.declared.rows.Stage.TheVariants as stages;
 ghost use Rattle.act_thread.specs.declared.rows.ThreadRow.{ThreadRow};
 ghost use Rattle.device_table.specs.Rows.{at};
 ghost use Rattle.line_marks.specs.Due.{thread_due, after_return};
-ghost use Rattle.line_state.specs.Entries.{entry_by};
+ghost use Rattle.line_state.specs.Entries.{thread_entry};
 
-use crate::due::DueStep;
+use crate::due::ThreadStep;
 use crate::state::LineState;
 use act_thread::Stage;
 use irq_base::{Chip, DevNo};
@@ -16,17 +15,17 @@ impl<C: Chip> LineState<C> {
     /// The step that is due of the device's thread, if there is one (`irq_thread`,
     /// `kernel/irq/manage.c`).
     #[inline(always)]
-    pub fn due_of_thread(&self, dev: DevNo) -> Option<DueStep>
-        ensures { (def : LineDef)
-            → option_map (entry_by def self.now.state) result ≡ thread_due self.now.state dev }
+    pub fn due_of_thread(&self, dev: DevNo) -> Option<ThreadStep>
+        ensures { option_map (thread_entry self.now.state dev) result
+            ≡ thread_due self.now.state dev }
     {
         let row = self.threads.get(dev)?;
         match row.stage {
-            Stage::Idle if row.woken => Some(DueStep::ThreadBegin { dev }),
+            Stage::Idle if row.woken => Some(ThreadStep::Begin),
             Stage::Idle => None,
-            Stage::Begun => Some(DueStep::ThreadReturn { dev }),
+            Stage::Begun => Some(ThreadStep::Return),
             Stage::Returned => self.due_after_return(dev),
-            Stage::Finished => Some(DueStep::Done { dev }),
+            Stage::Finished => Some(ThreadStep::Done),
         }
     }
 
@@ -34,18 +33,18 @@ impl<C: Chip> LineState<C> {
     /// over.
     #[inline(always)]
     #[tactic(auto, using(crate::proofs::Finishing::finish_is))]
-    fn due_after_return(&self, dev: DevNo) -> Option<DueStep>
-        ensures { (def : LineDef) (row : ThreadRow) → at self.now.state.threads dev ≡ Some row
+    fn due_after_return(&self, dev: DevNo) -> Option<ThreadStep>
+        ensures { (row : ThreadRow) → at self.now.state.threads dev ≡ Some row
             → row.stage ≡ stages.Returned
-            → option_map (entry_by def self.now.state) result
+            → option_map (thread_entry self.now.state dev) result
             ≡ after_return self.now.state dev row }
     {
         if !self.desc.oneshot() {
-            return Some(DueStep::Done { dev });
+            return Some(ThreadStep::Done);
         }
         if self.desc.flow().is_some() {
             return None;
         }
-        Some(DueStep::Finish { dev })
+        Some(ThreadStep::Finish)
     }
 }

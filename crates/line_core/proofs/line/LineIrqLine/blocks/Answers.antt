@@ -1,16 +1,12 @@
 use Rattle.std.proofs.Common.{◌≡◌, subst, ◌∙◌}
 use Rattle.irq_line.specs.Queries.{blocks_of}
-use Rattle.irq_line.specs.Seen.{LineSeen}
 use Rattle.line_core.proofs.Asked.{blocks_told}
+use Rattle.line_core.proofs.Stepping.{line_of}
 use Rattle.line_core.specs.Seen.{WiredSeen}
 use Rattle.line_core.proofs.line.LineIrqLine.blocks.Goals as goal
 
 pub returns : goal.returns
 returns g c =
     subst (λ (w : WiredSeen). c.blocks_by.result ≡ blocks_of w.line) c.self.view_is
-    (c.blocks_by.ensures ∙ blocks_told (record {
-      def = c.self.inside.def;
-      entries = c.self.inside.history.entries;
-      spare
-          = c.self.inside.history.spare;
-    }) c.self.inside.state.state c.self.inside.scripts c.self.invariant)
+    (c.blocks_by.ensures
+    ∙ blocks_told (line_of c.self.inside.def c.self.inside.history) c.self.inside.state.state c.self.inside.scripts c.self.invariant)
