@@ -70,8 +70,8 @@ impl Threads {
         self.rows.get(dev)
     }
 
-    /// Whether the device's thread is neither to run nor in a run; a device that the line lacks is
-    /// so.
+    /// Whether the device's thread is neither to run nor in a run; true for a device that the line
+    /// lacks.
     pub fn idle(&self, dev: DevNo) -> bool
         ensures { result ≡ is_idle_at self.now dev }
     {

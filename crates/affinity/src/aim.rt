@@ -45,8 +45,8 @@ impl Aim {
         }
     }
 
-    /// The aim with this mask in force, and this one that waits. Each has a processor of the
-    /// machine.
+    /// The aim with `mask` in force, and `waiting` waiting for the next take. Each has a processor
+    /// of the machine.
     pub fn of(cpus: u32, later: bool, mask: u32, waiting: Option<u32>) -> Aim
         requires few { cpus ≤ 32 }
         requires some { IsSome (lowest_in cpus mask) }

@@ -1,9 +1,12 @@
 -- A board with one more row is a board, if the row meets its rule after the rows before it.
-use Rattle.std.proofs.Common.{◌≡◌, ℕ, zero, suc, ◌+◌, ◌*◌, ◌<◌, ◌≤◌, ◌==◌, Bool, true, false, cond, ◌||◌, ◌&&◌, not}
-use Rattle.std.proofs.Common.{Option, Some, None, List, [], ◌∷◌, ◌++◌, length, take, All, refl, sym, ap, subst, ◌∙◌}
+use Rattle.std.proofs.Common.{◌≡◌, ℕ, ◌+◌, ◌*◌, ◌<◌, ◌≤◌, ◌==◌, Bool, true, false, cond, ◌&&◌, not}
+use Rattle.std.proofs.Common.{IfSome, Option, Some, None, List, [], ◌∷◌, ◌++◌, length, take, All, refl, sym, ap, subst, ◌∙◌}
 use Rattle.std.proofs.Common.{arith}
 use Rattle.std.specs.List.{list_any}
+use Rattle.std.proofs.lemmas.Bool.{or_left}
 use Rattle.std.proofs.lemmas.List.{length_push}
+use Rattle.std.proofs.lemmas.List.Elements.{All-nil, All-cons, All-append}
+use Rattle.std.proofs.lemmas.List.Folds.{list_any-append}
 use Rattle.irq_base.specs.Cell.{is_edge_trigger}
 use Rattle.irq_base.specs.declared.calls.Call.{Call}
 use Rattle.irq_base.specs.declared.calls.Call.TheVariants as calls
@@ -17,7 +20,7 @@ use Rattle.irq_model.specs.Kinds.{same_dev}
 use Rattle.domain_rules.specs.Levels.{root_kind, trigger_of_root, keeps}
 use Rattle.domain_rules.specs.Domains.{EachAfter, IsDomainAfter}
 use Rattle.board_def.specs.Rules.{IsBoard, IsDomainRowAfter, IsLineAfter, IsDeviceAfter, IsDriverAfter, IsCallAfter}
-use Rattle.board_def.specs.Rules.{IsActorOf, has_driver, find_device, fits_line, is_on_line, is_threaded_on}
+use Rattle.board_def.specs.Rules.{IsActorOf, has_line, has_driver, find_device, fits_line, is_on_line, is_threaded_on}
 use Rattle.board_def.specs.Rules.{is_bad_unlazy}
 use Rattle.board_def.specs.Seen.{BoardSeen}
 use Rattle.board_def.specs.Unnamed.{def_of, defs_of}
@@ -37,40 +40,22 @@ each_from P Q from xs each i x at = from (take i xs) x (each i x at)
 pub all_from : {A : Type 0} (P Q : A → Type 0) → ((x : A) → P x → Q x) → (xs : List A) → All P xs → All Q xs
 all_from P Q from xs all k d h = from _ (all k d h)
 
-all_more : {A : Type 0} (P : A → Type 0) (xs : List A) (x : A) → All P xs → P x → All P (xs ++ x ∷ [])
-all_more P [] x all p zero d h = p
-all_more P [] x all p (suc k) d h = absurd (omega arith)
-all_more P (y ∷ ys) x all p zero d h = all zero d (omega arith)
-all_more P (y ∷ ys) x all p (suc k) d h = all_more P ys x (λ j e l. all (suc j) e (omega arith)) p k d (omega arith)
-
--- what is declared stays so
+-- ---- what is declared stays so
 
 any_stays : {A : Type 0} (test : A → Bool) (xs : List A) (x : A) → list_any test xs ≡ true → list_any test (xs ++ x ∷ []) ≡ true
-any_stays test [] x h = absurd cc
-any_stays test (y ∷ ys) x h = by (test y) h (any_stays test ys x)
-  where
-    by : (b : Bool) → (b || list_any test ys) ≡ true → (list_any test ys ≡ true → list_any test (ys ++ x ∷ []) ≡ true)
-        → (b || list_any test (ys ++ x ∷ [])) ≡ true
-    by true h rest = refl
-    by false h rest = rest h
+any_stays test xs x h = list_any-append test xs (x ∷ []) ∙ or_left (list_any test xs) (list_any test (x ∷ [])) h
 
-device_stays : (dev : DevNo) (xs : List DeviceDef) (x d : DeviceDef) → find_device xs dev ≡ Some d → find_device (xs ++ x ∷ []) dev ≡ Some d
-device_stays dev [] x d h = absurd cc
-device_stays dev (y ∷ ys) x d h = by (same_dev dev y.dev) h (device_stays dev ys x d)
-  where
-    by : (b : Bool) → cond b (Some y) (find_device ys dev) ≡ Some d
-        → (find_device ys dev ≡ Some d → find_device (ys ++ x ∷ []) dev ≡ Some d)
-        → cond b (Some y) (find_device (ys ++ x ∷ []) dev) ≡ Some d
-    by true h rest = h
-    by false h rest = rest h
-
+-- what is told of the device of a number
 test_stays : (test : Option DeviceDef → Bool) → test None ≡ false → (dev : DevNo) (xs : List DeviceDef) (x : DeviceDef)
     → test (find_device xs dev) ≡ true → test (find_device (xs ++ x ∷ []) dev) ≡ true
-test_stays test none dev xs x h = by (find_device xs dev) refl h
+test_stays test none dev [] x h = absurd cc
+test_stays test none dev (y ∷ ys) x h = by (same_dev dev y.dev) h (test_stays test none dev ys x)
   where
-    by : (r : Option DeviceDef) → find_device xs dev ≡ r → test r ≡ true → test (find_device (xs ++ x ∷ []) dev) ≡ true
-    by None is h = absurd cc
-    by (Some d) is h = ap test (device_stays dev xs x d is) ∙ h
+    by : (t : Bool) → test (cond t (Some y) (find_device ys dev)) ≡ true
+        → (test (find_device ys dev) ≡ true → test (find_device (ys ++ x ∷ []) dev) ≡ true)
+        → test (cond t (Some y) (find_device (ys ++ x ∷ []) dev)) ≡ true
+    by true h rest = h
+    by false h rest = rest h
 
 fits_stays : (line : LineNo) (xs : List DeviceDef) (x : DeviceDef) (call : Call) → fits_line xs line call ≡ true → fits_line (xs ++ x ∷ []) line call ≡ true
 fits_stays line xs x (calls.Ask dev) h = test_stays (is_on_line line) refl dev xs x h
@@ -96,268 +81,140 @@ module _ (xs : List DomainRow) (x : DomainRow) where
       ap (λ defs. is_bad_unlazy defs place unlazy) defs_more
       ∙ ap (λ ks. unlazy && (is_edge_trigger (trigger_of_root (root_kind ks)) && not (keeps ks))) (kinds_stay (defs_of xs) (def_of x) place each declared)
 
--- an actor of one board is an actor of another with the same devices, processors and drivers
-same_actors : (b c : BoardSeen) → b.devices ≡ c.devices → b.cpus ≡ c.cpus → b.drivers ≡ c.drivers → (a : Actor) → IsActorOf b a → IsActorOf c a
-same_actors b c d n r (actors.Thread line dev) p = subst (λ xs. is_threaded_on line (find_device xs dev) ≡ true) d p
-same_actors b c d n r (actors.Cpu cpu) p = subst (λ m. cpu.0 < m) n p
-same_actors b c d n r (actors.Driver driver) p = subst (λ xs. has_driver xs driver ≡ true) r p
+-- ---- a list that got one more row, or none
 
--- one more of each
+abbrev grown : {A : Type 0} → List A → Option A → List A
+grown xs (Some x) = xs ++ x ∷ []
+grown xs None = xs
+
+-- what holds of a list, and still does with one more, holds of the list that grew
+still : {A : Type 0} (P : List A → Type 0) (xs : List A) (more : Option A) → ((x : A) → P xs → P (xs ++ x ∷ [])) → P xs → P (grown xs more)
+still P xs (Some x) one p = one x p
+still P xs None one p = p
+
+-- there is room for the row, and it meets its rule after the rows before it
+abbrev Fits : {A : Type 0} → ℕ → (List A → A → Type 0) → List A → Option A → Type 0
+Fits most P xs more = IfSome more (λ x. (length xs < most) × P xs x)
+
+module _ {A : Type 0} (most : ℕ) (P : List A → A → Type 0) (xs : List A) where
+  few_grown : (more : Option A) → length xs ≤ most → Fits most P xs more → length (grown xs more) ≤ most
+  few_grown (Some x) few fits = omega (arith, length_push xs x, fits.0)
+  few_grown None few fits = few
+
+  each_grown : (Q : List A → A → Type 0) (more : Option A) → ((earlier : List A) (x : A) → P earlier x → Q earlier x)
+      → EachAfter P xs → Fits most P xs more → EachAfter Q (grown xs more)
+  each_grown Q (Some x) from each fits = each_more Q xs x (each_from P Q from xs each) (from xs x fits.1)
+  each_grown Q None from each fits = each_from P Q from xs each
+
+-- ---- a board whose lists grew so, with other picks
+
+module _ (b : BoardSeen) (h : IsBoard b) (domain : Option DomainRow) (line : Option LineRow) (device : Option DeviceDef)
+    (driver : Option DriverNo) (call : Option ScriptCall) (picks : List Actor) where
+  abbrev after : BoardSeen
+  after = record b {
+    domains = grown b.domains domain;
+    lines = grown b.lines line;
+    devices = grown b.devices device;
+    drivers = grown b.drivers driver;
+    calls = grown b.calls call;
+    picks = picks;
+  }
+
+  -- what the rules look at stays declared
+
+  line_declared : (l : LineNo) → has_line b.lines l ≡ true → has_line after.lines l ≡ true
+  line_declared l = still (λ rows. has_line rows l ≡ true) b.lines line (any_stays (λ (row : LineRow). row.line.0 == l.0) b.lines)
+
+  driver_declared : (r : DriverNo) → has_driver b.drivers r ≡ true → has_driver after.drivers r ≡ true
+  driver_declared r = still (λ rs. has_driver rs r ≡ true) b.drivers driver (any_stays (λ (d : DriverNo). d.0 == r.0) b.drivers)
+
+  -- so the rows before keep theirs
+
+  line_kept : (earlier : List LineRow) (x : LineRow) → IsLineAfter b earlier x → IsLineAfter after earlier x
+  line_kept earlier x l = record {
+    number = l.number;
+    rises = l.rises;
+    domain = still (λ rows. x.domain < length rows) b.domains domain (λ row within. omega (arith, within, length_push b.domains row)) l.domain;
+    unlazy = still (λ rows. is_bad_unlazy (defs_of rows) x.domain x.unlazy ≡ false) b.domains domain
+        (λ row good. unlazy_stays b.domains row x.domain x.unlazy (defs_allowed b.domains h.domains) l.domain ∙ good) l.unlazy;
+    mask = l.mask;
+  }
+
+  device_kept : (earlier : List DeviceDef) (x : DeviceDef) → IsDeviceAfter b earlier x → IsDeviceAfter after earlier x
+  device_kept earlier x d = record { number = d.number; rises = d.rises; line = line_declared x.line d.line }
+
+  call_kept : (earlier : List ScriptCall) (x : ScriptCall) → IsCallAfter b earlier x → IsCallAfter after earlier x
+  call_kept earlier x k = record {
+    driver = driver_declared x.driver k.driver;
+    in_order = k.in_order;
+    line = line_declared x.line k.line;
+    device = still (λ ds. fits_line ds x.line x.call ≡ true) b.devices device (λ d. fits_stays x.line b.devices d x.call) k.device;
+    owner = k.owner;
+  }
+
+  actor_kept : (a : Actor) → IsActorOf b a → IsActorOf after a
+  actor_kept (actors.Thread l dev) p =
+      still (λ ds. is_threaded_on l (find_device ds dev) ≡ true) b.devices device (test_stays (is_threaded_on l) refl dev b.devices) p
+  actor_kept (actors.Cpu cpu) p = p
+  actor_kept (actors.Driver r) p = driver_declared r p
+
+  -- the board keeps its rules, if each new row meets its own
+  grows : Fits 32 IsDomainRowAfter b.domains domain → Fits 64 (IsLineAfter b) b.lines line → b.log * length after.lines ≤ 4000000
+      → Fits 256 (IsDeviceAfter b) b.devices device → Fits 64 IsDriverAfter b.drivers driver → Fits 16384 (IsCallAfter b) b.calls call
+      → length picks ≤ 65536 → All (IsActorOf b) picks → IsBoard after
+  grows domain_fits line_fits entries device_fits driver_fits call_fits few_picks all_picks = record {
+    some_cpu = h.some_cpu;
+    few_cpus = h.few_cpus;
+    small_window = h.small_window;
+    limit = h.limit;
+    some_log = h.some_log;
+    small_log = h.small_log;
+    few_domains = few_grown 32 IsDomainRowAfter b.domains domain h.few_domains domain_fits;
+    few_lines = few_grown 64 (IsLineAfter b) b.lines line h.few_lines line_fits;
+    few_devices = few_grown 256 (IsDeviceAfter b) b.devices device h.few_devices device_fits;
+    few_drivers = few_grown 64 IsDriverAfter b.drivers driver h.few_drivers driver_fits;
+    few_calls = few_grown 16384 (IsCallAfter b) b.calls call h.few_calls call_fits;
+    few_picks = few_picks;
+    entries = entries;
+    domains = each_grown 32 IsDomainRowAfter b.domains IsDomainRowAfter domain (λ earlier x p. p) h.domains domain_fits;
+    lines = each_grown 64 (IsLineAfter b) b.lines (IsLineAfter after) line line_kept h.lines line_fits;
+    devices = each_grown 256 (IsDeviceAfter b) b.devices (IsDeviceAfter after) device device_kept h.devices device_fits;
+    drivers = each_grown 64 IsDriverAfter b.drivers IsDriverAfter driver (λ earlier x p. p) h.drivers driver_fits;
+    calls = each_grown 16384 (IsCallAfter b) b.calls (IsCallAfter after) call call_kept h.calls call_fits;
+    picks = all_from (IsActorOf b) (IsActorOf after) actor_kept picks all_picks;
+  }
+
+-- ---- one more of each kind, and none of the others
 
 pub grows_domain : (b : BoardSeen) (row : DomainRow) → IsBoard b → length b.domains < 32
     → IsDomainRowAfter b.domains row → IsBoard (record b { domains = b.domains ++ row ∷ [] })
-grows_domain b row h few here =
-    let c = record b { domains = b.domains ++ row ∷ [] } in
-    record {
-      some_cpu = h.some_cpu;
-      few_cpus = h.few_cpus;
-      small_window = h.small_window;
-      limit = h.limit;
-      some_log = h.some_log;
-      small_log = h.small_log;
-      few_domains = omega (arith, length_push b.domains row);
-      few_lines = h.few_lines;
-      few_devices = h.few_devices;
-      few_drivers = h.few_drivers;
-      few_calls = h.few_calls;
-      few_picks = h.few_picks;
-      entries = h.entries;
-      domains = each_more IsDomainRowAfter b.domains row h.domains here;
-      lines = each_from (IsLineAfter b) (IsLineAfter c)
-          (λ earlier x l. record {
-            number = l.number;
-            rises = l.rises;
-            domain = let d : x.domain < length b.domains = l.domain in omega (arith, length_push b.domains row);
-            unlazy = unlazy_stays b.domains row x.domain x.unlazy (defs_allowed b.domains h.domains) l.domain ∙ l.unlazy;
-            mask = l.mask;
-          }) b.lines h.lines;
-      devices = each_from (IsDeviceAfter b) (IsDeviceAfter c) (λ earlier x d. record { number = d.number; rises = d.rises; line = d.line }) b.devices h.devices;
-      drivers = h.drivers;
-      calls = each_from (IsCallAfter b) (IsCallAfter c)
-          (λ earlier x k. record {
-            driver = k.driver;
-            in_order = k.in_order;
-            line = k.line;
-            device = k.device;
-            owner
-                = k.owner;
-          }) b.calls h.calls;
-      picks = all_from (IsActorOf b) (IsActorOf c) (same_actors b c refl refl refl) b.picks h.picks;
-    }
+grows_domain b row h few here = grows b h (Some row) None None None None b.picks (few, here) tt h.entries tt tt tt h.few_picks h.picks
 
 pub grows_line : (b : BoardSeen) (row : LineRow) → IsBoard b → length b.lines < 64
     → b.log * (length b.lines + 1) ≤ 4000000 → IsLineAfter b b.lines row
     → IsBoard (record b { lines = b.lines ++ row ∷ [] })
 grows_line b row h few room here =
-    let c = record b { lines = b.lines ++ row ∷ [] } in
-    let same : (earlier : List LineRow) (x : LineRow) → IsLineAfter b earlier x → IsLineAfter c earlier x =
-    λ earlier x l. record { number = l.number; rises = l.rises; domain = l.domain; unlazy = l.unlazy; mask = l.mask } in
-    record {
-      some_cpu = h.some_cpu;
-      few_cpus = h.few_cpus;
-      small_window = h.small_window;
-      limit = h.limit;
-      some_log = h.some_log;
-      small_log = h.small_log;
-      few_domains = h.few_domains;
-      few_lines = omega (arith, length_push b.lines row);
-      few_devices = h.few_devices;
-      few_drivers = h.few_drivers;
-      few_calls = h.few_calls;
-      few_picks = h.few_picks;
-      entries = subst (λ n. b.log * n ≤ 4000000) (sym (length_push b.lines row)) room;
-      domains = h.domains;
-      lines = each_more (IsLineAfter c) b.lines row (each_from (IsLineAfter b) (IsLineAfter c) same b.lines h.lines) (same b.lines row here);
-      devices = each_from (IsDeviceAfter b) (IsDeviceAfter c)
-          (λ earlier x d. record {
-            number = d.number;
-            rises = d.rises;
-            line
-                = any_stays (λ (e : LineRow). e.line.0 == x.line.0) b.lines row d.line;
-          }) b.devices h.devices;
-      drivers = h.drivers;
-      calls = each_from (IsCallAfter b) (IsCallAfter c)
-          (λ earlier x k. record {
-            driver = k.driver;
-            in_order = k.in_order;
-            line
-                = any_stays (λ (e : LineRow). e.line.0 == x.line.0) b.lines row k.line;
-            device = k.device;
-            owner
-                = k.owner;
-          }) b.calls h.calls;
-      picks = all_from (IsActorOf b) (IsActorOf c) (same_actors b c refl refl refl) b.picks h.picks;
-    }
+    let entries = subst (λ n. b.log * n ≤ 4000000) (sym (length_push b.lines row)) room in
+    grows b h None (Some row) None None None b.picks tt (few, here) entries tt tt tt h.few_picks h.picks
 
 pub grows_device : (b : BoardSeen) (device : DeviceDef) → IsBoard b → length b.devices < 256
     → IsDeviceAfter b b.devices device → IsBoard (record b { devices = b.devices ++ device ∷ [] })
-grows_device b device h few here =
-    let c = record b { devices = b.devices ++ device ∷ [] } in
-    let same : (earlier : List DeviceDef) (x : DeviceDef) → IsDeviceAfter b earlier x
-    → IsDeviceAfter c earlier x = λ earlier x d. record { number = d.number; rises = d.rises; line = d.line } in
-    record {
-      some_cpu = h.some_cpu;
-      few_cpus = h.few_cpus;
-      small_window = h.small_window;
-      limit = h.limit;
-      some_log = h.some_log;
-      small_log = h.small_log;
-      few_domains = h.few_domains;
-      few_lines = h.few_lines;
-      few_devices = omega (arith, length_push b.devices device);
-      few_drivers = h.few_drivers;
-      few_calls = h.few_calls;
-      few_picks = h.few_picks;
-      entries = h.entries;
-      domains = h.domains;
-      lines = each_from (IsLineAfter b) (IsLineAfter c)
-          (λ earlier x l. record {
-            number = l.number;
-            rises = l.rises;
-            domain = l.domain;
-            unlazy = l.unlazy;
-            mask
-                = l.mask;
-          }) b.lines h.lines;
-      devices = each_more (IsDeviceAfter c) b.devices device
-          (each_from (IsDeviceAfter b) (IsDeviceAfter c) same b.devices h.devices) (same b.devices device here);
-      drivers = h.drivers;
-      calls = each_from (IsCallAfter b) (IsCallAfter c)
-          (λ earlier x k. record {
-            driver = k.driver;
-            in_order = k.in_order;
-            line = k.line;
-            device
-                = fits_stays x.line b.devices device x.call k.device;
-            owner = k.owner;
-          }) b.calls h.calls;
-      picks = all_from (IsActorOf b) (IsActorOf c) by b.picks h.picks;
-    }
-  where
-    by : (a : Actor) → IsActorOf b a → IsActorOf (record b { devices = b.devices ++ device ∷ [] }) a
-    by (actors.Thread line dev) p = test_stays (is_threaded_on line) refl dev b.devices device p
-    by (actors.Cpu cpu) p = p
-    by (actors.Driver driver) p = p
+grows_device b device h few here = grows b h None None (Some device) None None b.picks tt tt h.entries (few, here) tt tt h.few_picks h.picks
 
 pub grows_driver : (b : BoardSeen) (driver : DriverNo) → IsBoard b → length b.drivers < 64
     → IsDriverAfter b.drivers driver → IsBoard (record b { drivers = b.drivers ++ driver ∷ [] })
-grows_driver b driver h few here =
-    let c = record b { drivers = b.drivers ++ driver ∷ [] } in
-    record {
-      some_cpu = h.some_cpu;
-      few_cpus = h.few_cpus;
-      small_window = h.small_window;
-      limit = h.limit;
-      some_log = h.some_log;
-      small_log = h.small_log;
-      few_domains = h.few_domains;
-      few_lines = h.few_lines;
-      few_devices = h.few_devices;
-      few_drivers = omega (arith, length_push b.drivers driver);
-      few_calls = h.few_calls;
-      few_picks = h.few_picks;
-      entries = h.entries;
-      domains = h.domains;
-      lines = each_from (IsLineAfter b) (IsLineAfter c)
-          (λ earlier x l. record {
-            number = l.number;
-            rises = l.rises;
-            domain = l.domain;
-            unlazy = l.unlazy;
-            mask
-                = l.mask;
-          }) b.lines h.lines;
-      devices = each_from (IsDeviceAfter b) (IsDeviceAfter c) (λ earlier x d. record { number = d.number; rises = d.rises; line = d.line }) b.devices h.devices;
-      drivers = each_more IsDriverAfter b.drivers driver h.drivers here;
-      calls = each_from (IsCallAfter b) (IsCallAfter c)
-          (λ earlier x k. record {
-            driver = any_stays (λ (d : DriverNo). d.0 == x.driver.0) b.drivers driver k.driver;
-            in_order = k.in_order;
-            line = k.line;
-            device = k.device;
-            owner = k.owner;
-          }) b.calls h.calls;
-      picks = all_from (IsActorOf b) (IsActorOf c) by b.picks h.picks;
-    }
-  where
-    by : (a : Actor) → IsActorOf b a → IsActorOf (record b { drivers = b.drivers ++ driver ∷ [] }) a
-    by (actors.Thread line dev) p = p
-    by (actors.Cpu cpu) p = p
-    by (actors.Driver r) p = any_stays (λ (d : DriverNo). d.0 == r.0) b.drivers driver p
+grows_driver b driver h few here = grows b h None None None (Some driver) None b.picks tt tt h.entries tt (few, here) tt h.few_picks h.picks
 
 pub grows_call : (b : BoardSeen) (call : ScriptCall) → IsBoard b → length b.calls < 16384 → IsCallAfter b b.calls call
     → IsBoard (record b { calls = b.calls ++ call ∷ [] })
-grows_call b call h few here =
-    let c = record b { calls = b.calls ++ call ∷ [] } in
-    let same : (earlier : List ScriptCall) (x : ScriptCall) → IsCallAfter b earlier x → IsCallAfter c earlier x =
-    λ earlier x k. record { driver = k.driver; in_order = k.in_order; line = k.line; device = k.device; owner = k.owner } in
-    record {
-      some_cpu = h.some_cpu;
-      few_cpus = h.few_cpus;
-      small_window = h.small_window;
-      limit = h.limit;
-      some_log = h.some_log;
-      small_log = h.small_log;
-      few_domains = h.few_domains;
-      few_lines = h.few_lines;
-      few_devices = h.few_devices;
-      few_drivers = h.few_drivers;
-      few_calls = omega (arith, length_push b.calls call);
-      few_picks = h.few_picks;
-      entries = h.entries;
-      domains = h.domains;
-      lines = each_from (IsLineAfter b) (IsLineAfter c)
-          (λ earlier x l. record {
-            number = l.number;
-            rises = l.rises;
-            domain = l.domain;
-            unlazy = l.unlazy;
-            mask
-                = l.mask;
-          }) b.lines h.lines;
-      devices = each_from (IsDeviceAfter b) (IsDeviceAfter c) (λ earlier x d. record { number = d.number; rises = d.rises; line = d.line }) b.devices h.devices;
-      drivers = h.drivers;
-      calls = each_more (IsCallAfter c) b.calls call (each_from (IsCallAfter b) (IsCallAfter c) same b.calls h.calls) (same b.calls call here);
-      picks = all_from (IsActorOf b) (IsActorOf c) (same_actors b c refl refl refl) b.picks h.picks;
-    }
+grows_call b call h few here = grows b h None None None None (Some call) b.picks tt tt h.entries tt tt (few, here) h.few_picks h.picks
+
+-- ---- other picks
+
+pub other_picks : (b : BoardSeen) (picks : List Actor) → IsBoard b → length picks ≤ 65536 → All (IsActorOf b) picks → IsBoard (record b { picks = picks })
+other_picks b picks h few all = grows b h None None None None None picks tt tt h.entries tt tt tt few all
 
 pub grows_pick : (b : BoardSeen) (pick : Actor) → IsBoard b → length b.picks < 65536 → IsActorOf b pick → IsBoard (record b { picks = b.picks ++ pick ∷ [] })
 grows_pick b pick h few here =
-    let c = record b { picks = b.picks ++ pick ∷ [] } in
-    record {
-      some_cpu = h.some_cpu;
-      few_cpus = h.few_cpus;
-      small_window = h.small_window;
-      limit = h.limit;
-      some_log = h.some_log;
-      small_log = h.small_log;
-      few_domains = h.few_domains;
-      few_lines = h.few_lines;
-      few_devices = h.few_devices;
-      few_drivers = h.few_drivers;
-      few_calls = h.few_calls;
-      few_picks = omega (arith, length_push b.picks pick);
-      entries = h.entries;
-      domains = h.domains;
-      lines = each_from (IsLineAfter b) (IsLineAfter c)
-          (λ earlier x l. record {
-            number = l.number;
-            rises = l.rises;
-            domain = l.domain;
-            unlazy = l.unlazy;
-            mask
-                = l.mask;
-          }) b.lines h.lines;
-      devices = each_from (IsDeviceAfter b) (IsDeviceAfter c) (λ earlier x d. record { number = d.number; rises = d.rises; line = d.line }) b.devices h.devices;
-      drivers = h.drivers;
-      calls = each_from (IsCallAfter b) (IsCallAfter c)
-          (λ earlier x k. record {
-            driver = k.driver;
-            in_order = k.in_order;
-            line = k.line;
-            device = k.device;
-            owner
-                = k.owner;
-          }) b.calls h.calls;
-      picks = all_from (IsActorOf b) (IsActorOf c) (same_actors b c refl refl refl) (b.picks ++ pick ∷ []) (all_more (IsActorOf b) b.picks pick h.picks here);
-    }
+    other_picks b (b.picks ++ pick ∷ []) h (omega (arith, length_push b.picks pick))
+    (All-append (IsActorOf b) b.picks (pick ∷ []) h.picks (All-cons (IsActorOf b) pick [] here (All-nil (IsActorOf b))))

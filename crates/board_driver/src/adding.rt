@@ -20,8 +20,8 @@ pub struct LineCall {
 /// The greatest number of a driver.
 const LAST_DRIVER: DriverNo = DriverNo(65_535);
 
-/// The board with driver 65535, which it lacked, behind its drivers, and with these calls as that
-/// driver's script. Its layout is that of the board. The only error is `NoMemory`.
+/// Adds driver 65535 behind the board's drivers, with these calls as its script. The layout stays
+/// that of the board. The only error is `NoMemory`.
 pub fn with_last_driver(board: Board, calls: &[LineCall]) -> Result<Board, NoMemory>
     requires free { has_driver board.drivers last_driver ≡ false }
     requires driver { length board.drivers < 64 }

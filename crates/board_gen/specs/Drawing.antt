@@ -10,7 +10,7 @@ abbrev pub x_after : ℕ → ℕ → ℕ
 x_after zero x = x
 x_after (suc k) x = next_x (x_after k x)
 
--- what a draw below m gives, if x is what it leaves
+-- what a draw below m gives; x is the generator's state after it
 abbrev pub drawn : ℕ → ℕ → ℕ
 drawn m x = x / 65536 % m
 

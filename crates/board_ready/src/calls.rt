@@ -56,7 +56,7 @@ impl CallSets {
         }
     }
 
-    /// Puts the driver where its call belongs, or takes it out there.
+    /// Puts the driver into the sets of its call, or takes it out of them, as `to` says.
     pub fn put(&mut self, driver: usize, call: Option<CurrentCall>, to: bool)
         requires { driver < 64 }
         ensures lines { (k r : ℕ) → k < 64 → r < 64

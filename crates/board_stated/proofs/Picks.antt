@@ -1,17 +1,14 @@
 -- More picks keep the rules of boards.
-use Rattle.std.proofs.Common.{◌≡◌, ◌+◌, ◌≤◌, ◌==◌, true, false, Option, Some, None, List, [], ◌∷◌, ◌++◌, length, refl, sym, subst, arith}
+use Rattle.std.proofs.Common.{◌≡◌, ◌+◌, ◌≤◌, ◌==◌, true, false, Option, Some, None, List, [], ◌∷◌, ◌++◌, length, refl, arith}
 use Rattle.std.specs.List.{All, list_any, flat_map}
 use Rattle.std.proofs.Math.ListN.{length-append, length-replicate}
 use Rattle.std.proofs.lemmas.Bool.{ltb-false, leb-false, eq-eqb, not-false, and_from, or_parts}
-use Rattle.std.proofs.lemmas.List.{append-nil, append_assoc}
-use Rattle.std.proofs.lemmas.List.Elements.{All-nil, All-head, All-tail, All-append, All-replicate, All-weaker}
+use Rattle.std.proofs.lemmas.List.Elements.{All-nil, All-append, All-replicate}
 use Rattle.irq_base.specs.Handlers.{has_thread}
 use Rattle.irq_base.specs.declared.devices.DeviceDef.{DeviceDef}
-use Rattle.irq_base.specs.declared.entries.Actor.{Actor}
-use Rattle.irq_base.specs.declared.entries.Actor.TheVariants as actors
 use Rattle.board_def.specs.Rules.{find_device, has_driver, is_threaded_on, IsActorOf, IsBoard}
 use Rattle.board_def.specs.Seen.{BoardSeen}
-use Rattle.board_def.proofs.Grows.{grows_pick}
+use Rattle.board_def.proofs.Grows.{other_picks}
 use Rattle.board_words.specs.declared.statements.Picked.{Picked}
 use Rattle.board_words.specs.declared.statements.Picked.TheVariants as picked
 use Rattle.board_words.specs.declared.statements.PickWord.{PickWord}
@@ -54,25 +51,11 @@ few_after b picks h =
     let told = count_told b.devices picks in
     omega (arith, length-append b.picks (flat_map (actors_picked b.devices) picks))
 
--- ---- more, one after another
-
-same_actor : (b : BoardSeen) (picks : List Actor) (a : Actor) → IsActorOf b a → IsActorOf (record b { picks = picks }) a
-same_actor b picks (actors.Thread line dev) h = h
-same_actor b picks (actors.Cpu cpu) h = h
-same_actor b picks (actors.Driver driver) h = h
-
-grows_picks : (b : BoardSeen) (more : List Actor) → IsBoard b → length (b.picks ++ more) ≤ 65536 → All (IsActorOf b) more
-    → IsBoard (record b { picks = b.picks ++ more })
-grows_picks b [] board few there = subst (λ (xs : List Actor). IsBoard (record b { picks = xs })) (sym (append-nil b.picks)) board
-grows_picks b (a ∷ more) board few there =
-    let next : BoardSeen = record b { picks = b.picks ++ a ∷ [] } in
-    let first = grows_pick b a board (omega (arith, few, length-append b.picks (a ∷ more))) (All-head (IsActorOf b) a more there) in
-    let rest = All-weaker (IsActorOf b) (IsActorOf next) (same_actor b next.picks) more (All-tail (IsActorOf b) a more there) in
-    let same : next.picks ++ more ≡ b.picks ++ a ∷ more = append_assoc b.picks (a ∷ []) more in
-    subst (λ (xs : List Actor). IsBoard (record b { picks = xs })) same
-    (grows_picks next more first (subst (λ (xs : List Actor). length xs ≤ 65536) (sym same) few) rest)
+-- ---- more
 
 pub picks_kept : (b : BoardSeen) (picks : List PickWord) → IsBoard b → is_not_there b (statements.Picks picks) ≡ false
     → is_one_too_many b (statements.Picks picks) ≡ false
     → IsBoard (with_statement (statements.Picks picks) b)
-picks_kept b picks board there room = grows_picks b (flat_map (actors_picked b.devices) picks) board (few_after b picks room) (actors_there b picks there)
+picks_kept b picks board there room =
+    let more = flat_map (actors_picked b.devices) picks in
+    other_picks b (b.picks ++ more) board (few_after b picks room) (All-append (IsActorOf b) b.picks more board.picks (actors_there b picks there))

@@ -2,11 +2,11 @@
 use Rattle.std.proofs.Common.{◌≡◌, ℕ, ◌+◌, ◌-◌, ◌<◌, Some, List, [], ◌∷◌, ◌++◌, All, drop, replicate, sym, ap, subst, ◌∙◌, append_assoc, arith, length-append}
 use Rattle.std.specs.List.{flat_map, slice_get}
 use Rattle.std.proofs.lemmas.List.{replicate-append-replicate, replicate_more}
-use Rattle.std.proofs.lemmas.List.Elements.{All-nil, All-cons, All-head, All-tail, All-weaker}
+use Rattle.std.proofs.lemmas.List.Elements.{All-nil, All-cons, All-head, All-tail}
 use Rattle.irq_base.specs.declared.entries.Actor.{Actor}
-use Rattle.irq_base.specs.declared.entries.Actor.TheVariants as actors
 use Rattle.board_def.specs.Rules.{IsActorOf, IsBoard}
 use Rattle.board_def.specs.Seen.{BoardSeen}
+use Rattle.board_def.proofs.Grows.{other_picks}
 use Rattle.board_stated.specs.Stated.{actor_picked, actors_picked}
 use Rattle.board_words.specs.declared.statements.PickWord.{PickWord}
 use Rattle.board_text.proofs.Left.{left_at}
@@ -14,38 +14,14 @@ use Rattle.board_text.proofs.Left.{left_at}
 abbrev pub with_picks : BoardSeen → List Actor → BoardSeen
 with_picks b picks = record b { picks = picks }
 
-actor_of : (b : BoardSeen) (xs ys : List Actor) (a : Actor) → IsActorOf (with_picks b ys) a → IsActorOf (with_picks b xs) a
-actor_of b xs ys (actors.Thread line dev) h = h
-actor_of b xs ys (actors.Cpu cpu) h = h
-actor_of b xs ys (actors.Driver driver) h = h
-
 all_before : {A : Type 0} (P : A → Type 0) (xs ys : List A) → All P (xs ++ ys) → All P xs
 all_before P [] ys h = All-nil P
 all_before P (x ∷ xs) ys h = All-cons P x xs (All-head P x (xs ++ ys) h) (all_before P xs ys (All-tail P x (xs ++ ys) h))
 
 pub fewer_picks : (b : BoardSeen) (xs ys : List Actor) → IsBoard (with_picks b (xs ++ ys)) → IsBoard (with_picks b xs)
-fewer_picks b xs ys h = record {
-  some_cpu = h.some_cpu;
-  few_cpus = h.few_cpus;
-  small_window = h.small_window;
-  limit = h.limit;
-  some_log = h.some_log;
-  small_log = h.small_log;
-  few_domains = h.few_domains;
-  few_lines = h.few_lines;
-  few_devices = h.few_devices;
-  few_drivers = h.few_drivers;
-  few_calls = h.few_calls;
-  few_picks = omega (arith, h.few_picks, length-append xs ys);
-  entries = h.entries;
-  domains = h.domains;
-  lines = λ i row at. let r = h.lines i row at in record { number = r.number; rises = r.rises; domain = r.domain; unlazy = r.unlazy; mask = r.mask };
-  devices = λ i device at. let r = h.devices i device at in record { number = r.number; rises = r.rises; line = r.line };
-  drivers = h.drivers;
-  calls = λ i call at. let r = h.calls i call at in record { driver = r.driver; in_order = r.in_order; line = r.line; device = r.device; owner = r.owner };
-  picks = All-weaker (IsActorOf (with_picks b (xs ++ ys))) (IsActorOf (with_picks b xs)) (actor_of b xs (xs ++ ys)) xs
-      (all_before (IsActorOf (with_picks b (xs ++ ys))) xs ys h.picks);
-}
+fewer_picks b xs ys h =
+    let more = with_picks b (xs ++ ys) in
+    other_picks more xs h (omega (arith, h.few_picks, length-append xs ys)) (all_before (IsActorOf more) xs ys h.picks)
 
 -- one of n picks of an actor, after i others
 pub one_pick : (b c : BoardSeen) (a : Actor) (i n : ℕ) → i < n → c ≡ with_picks b (b.picks ++ replicate i a)

@@ -210,7 +210,7 @@ impl<'a> Places<'a> {
         mask
     }
 
-    /// One option of a line: the mask that was read before, or the one that is read now.
+    /// Reads one option of a line. Answers its mask, or `mask` if it is another option.
     fn option(&mut self, mask: Option<u32>) -> Option<u32>
         requires { are_none (words_left self.old.words) ≡ false }
         ensures found { in_all self.old forms.line_options ≡ in_all self.new forms.line_options }

@@ -2,8 +2,8 @@
 use crate::handler::Handler;
 use irq_base::{Answer, DeviceDef, Kind, Part};
 
-/// Each device's handler answers by the kind of the device alone: what a program takes that has no
-/// drivers of its own.
+/// Each device's handler answers by the kind of the device alone: for a program without drivers of
+/// its own.
 #[derive(Clone, Copy)]
 pub struct ByKind;
 

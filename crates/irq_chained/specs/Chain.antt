@@ -151,8 +151,8 @@ module _ {E : Type 0} where
   or_choice None other = other
   or_choice (Some choice) other = Some choice
 
-  -- the step of the first pick that has one, the picks before it passed over; after the picks that
-  -- of the first of all actors that has one
+  -- the first pick that has a step makes it, and those before it are passed over; after the picks
+  -- the first actor that has one
   abbrev pub choice_by : (Actor → Option E) → List Actor → List Actor → Option (E × List Actor)
   choice_by can all [] = with_left [] (first_step can all)
   choice_by can all (pick ∷ picks) =

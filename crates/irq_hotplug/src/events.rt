@@ -16,7 +16,7 @@ pub enum Event {
     On(CpuNo),
 }
 
-/// Takes the event. Its answer, and what follows of it, is said.
+/// Takes the event. Adds the rows of its answer and of the lines that move.
 fn take_event<N: Notifier>(
     alloc: Global,
     fleet: &mut Fleet,

@@ -26,7 +26,7 @@ use std::alloc::Global;
 use std::marker::Model;
 
 /// All lines that take part, each with its vector if it has one, and the processors that are
-/// online. Each call says what it does by rows, which are kept.
+/// online. Each call adds rows that say what it did.
 #[derive(Drop)]
 pub struct Fleet {
     held: Vectors,
@@ -87,7 +87,7 @@ impl Fleet {
 
     /// Takes the processor offline: each line that is placed there is placed anew, in the board's
     /// order, on the processors that stay (`irq_migrate_all_off_this_cpu` of
-    /// `kernel/irq/cpuhotplug.c`). Else all is as before.
+    /// `kernel/irq/cpuhotplug.c`). If it is refused, only a row is added that says so.
     pub fn offline<N: Notifier>(
         &mut self,
         alloc: Global,

@@ -77,8 +77,8 @@ impl Vectors {
         if asked { self.take_on(cpu) } else { None }
     }
 
-    /// Takes the first vector that the online processors in the mask have, or with `inside` false
-    /// those that aren't in it.
+    /// Takes the first free vector of the online processors in the mask; with `inside` false, of
+    /// those outside of it.
     fn take_among(&mut self, online: &[bool], mask: u32, inside: bool) -> Option<Vector>
         requires same { length online.now ≡ self.old.cpus }
         requires few { length online.now ≤ 32 }

@@ -2,6 +2,6 @@ pub mod Faults
 pub mod Told
 pub mod Reads
 pub mod Writes
-pub mod MemEnds
-pub mod StdEnds
+pub mod MemStreams
+pub mod StdStreams
 pub mod Whole

@@ -29,7 +29,7 @@ pub struct MemSink {
 
 impl Model for MemSink {
     ghost use Rattle.std.specs.Prelude.{◌≤◌, ◌+◌, vec_len, vec_capacity};
-    ghost use Rattle.irq_io.specs.MemEnds.{MemSinkSeen};
+    ghost use Rattle.irq_io.specs.MemStreams.{MemSinkSeen};
 
     ghost Value = { MemSinkSeen };
 

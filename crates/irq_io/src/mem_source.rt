@@ -25,7 +25,7 @@ pub struct MemSource {
 
 impl Model for MemSource {
     ghost use Rattle.std.specs.Prelude.{◌≤◌, drop, length};
-    ghost use Rattle.irq_io.specs.MemEnds.{MemSourceSeen};
+    ghost use Rattle.irq_io.specs.MemStreams.{MemSourceSeen};
 
     ghost Value = { MemSourceSeen };
 

@@ -24,7 +24,7 @@ pub struct StdSink<W: Write + Drop> {
 impl<W: Write + Drop> Model for StdSink<W> {
     ghost use Rattle.std.specs.Global.{Global};
     ghost use Rattle.std.specs.declared.io.buffered.BufWriter.{BufWriter};
-    ghost use Rattle.irq_io.specs.StdEnds.{StdSinkSeen};
+    ghost use Rattle.irq_io.specs.StdStreams.{StdSinkSeen};
 
     ghost Value = { StdSinkSeen (BufWriter W Global) };
 

@@ -17,7 +17,7 @@ pub struct StdSource<R> {
 }
 
 impl<R> Model for StdSource<R> {
-    ghost use Rattle.irq_io.specs.StdEnds.{StdSourceSeen};
+    ghost use Rattle.irq_io.specs.StdStreams.{StdSourceSeen};
 
     ghost Value = { StdSourceSeen R };
 

@@ -237,8 +237,8 @@ impl<'b, L: IrqLine> Sleeper<'b, L> {
         self.heed(turn)
     }
 
-    /// One step of the system's driver, or where it waits of the lowest thread or processor that
-    /// can move.
+    /// One step of the system's driver, or, while that waits, of the lowest thread or processor
+    /// that can move.
     fn step_disabling<H: Handler>(&mut self, handlers: &Callbacks<H>) -> Result<bool, PlayEnd>
         ensures { StepsBy self.old (or_move (last_of self.old.system) (inner_of self.old.system))
             result self.new }

@@ -30,7 +30,7 @@ fn read_event(word: &[u8]) -> Option<Event>
     }
 }
 
-/// The list of these events, and behind them those that the words are.
+/// The events of `before`, and behind them those that the words name.
 fn events_after(before: Few<Event>, words: &[&str]) -> Option<Few<Event>>
     requires { length before + length words.now ≤ 64 }
     ensures { ReadsAfter (AllByRecursion IsEvent) event_word before (map (λ w. w.now) words.now)

@@ -22,8 +22,8 @@ fn line_after(last: u32, word: &[u8]) -> Option<LineNo>
     Some(LineNo(line))
 }
 
-/// The list of these lines, and behind them those that the words are: each has a greater number
-/// than the one before it, and the first than `last`.
+/// The lines of `before`, and behind them those that the words name: each has a greater number than
+/// the one before it, and the first a greater one than `last`.
 fn lines_after(before: Few<LineNo>, last: u32, words: &[&str]) -> Option<Few<LineNo>>
     requires { length before + length words.now ≤ 64 }
     ensures { ReadsAfter (RiseAfter last) line_word before (map (λ w. w.now) words.now) result }

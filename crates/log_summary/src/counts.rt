@@ -33,7 +33,7 @@ impl Counts {
         }
     }
 
-    /// Counts one more entry, which is of that kind.
+    /// Counts one more entry of this kind.
     pub(crate) fn add(&mut self, kind: EntryKind)
         requires runs { (self.old.runs < 2 ^ 32) × (self.old.threads < 2 ^ 32) }
         requires others { (self.old.asks < 2 ^ 32) × (self.old.takes < 2 ^ 32) }

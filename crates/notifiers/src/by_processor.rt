@@ -2,8 +2,8 @@
 use crate::notifier::Notifier;
 use irq_base::{CpuNo, LineNo};
 
-/// Each processor serves the queue of its number, from queue 0 again where there are fewer: what a
-/// program takes that has no drivers of its own.
+/// Each processor serves the queue of its number, from queue 0 again where there are fewer: for a
+/// program without drivers of its own.
 #[derive(Clone, Copy)]
 pub struct ByProcessor;
 

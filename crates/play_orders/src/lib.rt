@@ -11,8 +11,8 @@ ghost use Rattle.board_play.specs.Lines.{Move};
 ghost use Rattle.board_play.specs.Play.{End, Plays};
 ghost use Rattle.play_orders.specs.Orders.{Order, IsPlayed, picks_then_lowest};
 
-/// A stated order has one play from where it begins: at most one list of steps and one end are its
-/// play. `S`: where the order stands, as a phase or the picks that are left; `E`: a step.
+/// A stated order has at most one play from where it begins: one list of steps, and one end.
+/// `S`: where the order stands, as a phase or the picks that are left; `E`: a step.
 pub fn ordered_play_is_one<S, E>()
     ensures law { (o : Order S E) (first : S) (g h : List E) (a b : End) → IsPlayed o first g a
         → IsPlayed o first h b → (g ≡ h) × (a ≡ b) }

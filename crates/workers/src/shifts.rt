@@ -185,7 +185,7 @@ fn end_of_all<L: IrqLine>(jobs: &[Job<L>]) -> PartEnd
     all
 }
 
-/// Of two answers the one that comes first in that order.
+/// Of two ends the worse, in the order of `end_of_all`.
 pub(crate) fn worse(first: PartEnd, second: PartEnd) -> PartEnd
     ensures { result ≡ worse first second }
 {

@@ -37,8 +37,8 @@ const MOST: u32 = 65_536;
 /// ends.
 const LOOKS: usize = 64;
 
-/// How often a thread with several jobs does so. A sweep takes longer then, and each look at a line
-/// that has changed keeps those waiting who step it.
+/// How often a thread with several jobs looks again: less often, since its sweep takes longer, and
+/// a look at a line that has changed takes its lock.
 const LOOKS_OVER_SEVERAL: usize = 2;
 
 impl<L: IrqLine> Job<L> {
@@ -155,7 +155,7 @@ impl<L: IrqLine> Job<L> {
     }
 }
 
-/// How a worker's part ended that had ended as `before`, and then as `end` of its next attempts.
+/// How a part ended, by how it stood (`before`) and how the attempts after that ended.
 fn with_earlier(before: PartEnd, end: PartEnd) -> PartEnd
     ensures { result ≡ with_earlier before end }
 {
@@ -256,7 +256,7 @@ fn sweep_first<R: Wait, L: IrqLine, G: Gate, H: Handler>(
     }
 }
 
-/// A later sweep: each worker has some attempts. The answer is that which comes first of theirs.
+/// A later sweep: each worker has some attempts. Answers the worst of their ends (`worse`).
 fn sweep<R: Wait, L: IrqLine, G: Gate, H: Handler>(
     rt: &R,
     board: &Board,
