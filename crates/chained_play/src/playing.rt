@@ -12,9 +12,9 @@ use board_report::ReportRoom;
 use callbacks::{Callbacks, Handler};
 use irq_chained::{Demux, fits_chain};
 use irq_io::Sink;
-use irq_play::{PlayedBoard, PlayedEnd};
+use irq_play::{PlayedBoard, PlayedEnd, unplayed};
 use line_makers::{MakesDomainLine, OverDomains};
-use play_report::{report, unplayed};
+use play_report::report;
 use std::alloc::Global;
 
 /// The board can't be played behind one demultiplexer.

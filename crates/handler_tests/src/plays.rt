@@ -8,7 +8,7 @@ use board_text::read_board;
 use callbacks::{Boxed, ByKind, Callbacks, Handler};
 use irq_base::{Answer, DeviceDef, NoMemory, Part};
 use irq_io::MemSink;
-use irq_play::{PlayedEnd, Wanted, play_and_print};
+use irq_play::{PlayedEnd, WantedFor, play_and_print};
 use std::alloc::{AllocError, Global};
 use std::sync::Arc;
 use std::sync::atomic::{AtomicU64, Ordering};
@@ -67,8 +67,8 @@ fn adds_up(alloc: Global, text: &[u8]) -> Result<bool, NoMemory> {
     let all = calls.load(Ordering::SeqCst);
     Ok(match played.end {
         PlayedEnd::Done => all == ALL,
-        PlayedEnd::NoMemory(Wanted::Making) => all == 0,
-        PlayedEnd::NoMemory(Wanted::Step) => all < ALL,
+        PlayedEnd::NoMemory(WantedFor::Making) => all == 0,
+        PlayedEnd::NoMemory(WantedFor::Step) => all < ALL,
         _ => false,
     })
 }

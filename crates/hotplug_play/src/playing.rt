@@ -15,10 +15,10 @@ use hotplug_plan::fits_hotplug;
 use irq_base::NoMemory;
 use irq_hotplug::Event;
 use irq_io::Sink;
-use irq_play::{PlayedBoard, PlayedEnd, PlayedSystem, play_system};
+use irq_play::{PlayedBoard, PlayedEnd, PlayedSystem, play_system, unplayed};
 use line_makers::MakesDomainLine;
 use notifiers::{Notifier, Notifiers};
-use play_report::{report, unplayed};
+use play_report::report;
 use std::alloc::Global;
 
 /// The lines of the board can't be placed and moved.

@@ -12,7 +12,7 @@ ghost use Rattle.irq_command.specs.Arguments.{FormReadsNothing, IsForm, IsNoForm
 
 use callbacks::{ByKind, Callbacks};
 use irq_io::{Sink, Source};
-use irq_top::{Ending, Outcome, Wanted, end_early, irq_main};
+use irq_top::{Ending, Outcome, WantedFor, end_early, irq_main};
 use line_makers::MakesDomainLine;
 use notifiers::{ByProcessor, Notifiers};
 use program_io::{ArgumentsRefused, lend, words_of};
@@ -40,7 +40,7 @@ where
     M::Line: Send + Sync,
     ensures form { (asked : Command) → IsForm args asked → result.ending ≡ Ending.Usage → ⊥ }
     ensures usage { IsNoForm args
-        → (result.ending ≡ Ending.Usage) ⊎ (result.ending ≡ Ending.NoMemory Wanted.Making) }
+        → (result.ending ≡ Ending.Usage) ⊎ (result.ending ≡ Ending.NoMemory WantedFor.Making) }
     ensures not_text { IsNotText args → result.ending ≡ Ending.Usage }
     ensures unasked { IsNoForm args → result.reports.reports ≡ [] }
     ensures unread { FormReadsNothing args → src.new ≡ src.old }
@@ -66,7 +66,7 @@ where
         Ok(words) => with_words(rt, alloc, words.as_slice(), src, out, err, maker),
         Err(ArgumentsRefused::NotText) => end_early(alloc, Ending::Usage, err),
         Err(ArgumentsRefused::NoMemory) => {
-            end_early(alloc, Ending::NoMemory(Wanted::Making), err)
+            end_early(alloc, Ending::NoMemory(WantedFor::Making), err)
         }
     }
 }
@@ -86,7 +86,7 @@ where
     ensures form { (asked : Command) → Asks (map string_bytes words.now) asked
         → result.ending ≡ Ending.Usage → ⊥ }
     ensures usage { AsksNothing (map string_bytes words.now)
-        → (result.ending ≡ Ending.Usage) ⊎ (result.ending ≡ Ending.NoMemory Wanted.Making) }
+        → (result.ending ≡ Ending.Usage) ⊎ (result.ending ≡ Ending.NoMemory WantedFor.Making) }
     ensures unasked { AsksNothing (map string_bytes words.now) → result.reports.reports ≡ [] }
     ensures unread { ReadsNothing (map string_bytes words.now) → src.new ≡ src.old }
     ensures does { (asked : Command) → Asks (map string_bytes words.now) asked
@@ -118,6 +118,6 @@ where
             maker,
             &Notifiers::new(ByProcessor),
         ),
-        Err(_) => end_early(alloc, Ending::NoMemory(Wanted::Making), err),
+        Err(_) => end_early(alloc, Ending::NoMemory(WantedFor::Making), err),
     }
 }

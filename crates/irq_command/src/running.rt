@@ -13,7 +13,7 @@ ghost use Rattle.irq_command.specs.Arguments.{FormReadsNothing, IsForm, IsNoForm
 use crate::commands::command;
 use irq_base::NoMemory;
 use irq_io::{StdSink, StdSource};
-use irq_top::{Ending, Outcome, Wanted, end_early};
+use irq_top::{Ending, Outcome, WantedFor, end_early};
 use line_makers::MakesDomainLine;
 use program_io::{with_buffer, without_buffer};
 use std::alloc::Global;
@@ -58,12 +58,12 @@ pub fn run<
 where
     M::Line: Send + Sync,
     ensures status { result.status ≡ status_of result.outcome.ending }
-    ensures buffer { result.output ≡ None → result.outcome.ending ≡ Ending.NoMemory Wanted.Making }
+    ensures buffer { result.output ≡ None → result.outcome.ending ≡ Ending.NoMemory WantedFor.Making }
     ensures form { (asked : Command) → IsForm args asked
         → result.outcome.ending ≡ Ending.Usage → ⊥ }
     ensures usage { IsNoForm args
         → (result.outcome.ending ≡ Ending.Usage)
-        ⊎ (result.outcome.ending ≡ Ending.NoMemory Wanted.Making) }
+        ⊎ (result.outcome.ending ≡ Ending.NoMemory WantedFor.Making) }
     ensures not_text { IsNotText args → IsSome result.output
         → result.outcome.ending ≡ Ending.Usage }
     ensures unasked { IsNoForm args → result.outcome.reports.reports ≡ [] }
@@ -110,8 +110,8 @@ where
             }
         }
         Err(NoMemory) => Ended {
-            status: Ending::NoMemory(Wanted::Making).status(),
-            outcome: end_early(alloc, Ending::NoMemory(Wanted::Making), &mut error),
+            status: Ending::NoMemory(WantedFor::Making).status(),
+            outcome: end_early(alloc, Ending::NoMemory(WantedFor::Making), &mut error),
             input,
             output: None,
             error,

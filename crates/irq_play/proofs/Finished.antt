@@ -28,7 +28,7 @@ use Rattle.irq_play.specs.Ends.{is_printing}
 use Rattle.irq_play.specs.Played.{IsPlayed, TellsStep}
 use Rattle.irq_play.specs.declared.ending.PlayedEnd.{PlayedEnd}
 use Rattle.irq_play.specs.declared.ending.PlayedEnd.TheVariants as ends
-use Rattle.irq_play.specs.declared.ending.Wanted.TheVariants as wants
+use Rattle.irq_play.specs.declared.ending.WantedFor.TheVariants as wants
 use Rattle.irq_play.specs.Printing.{HasRow}
 use Rattle.irq_play.proofs.Parts.{its_part, mapped_parts, refused_parts, told_parts}
 use Rattle.irq_play.proofs.Printable.{moves_have_rows}

@@ -17,7 +17,7 @@ use Rattle.irq_play.specs.Headline.{CutShort, Headline, FullLog, RefusedStep}
 use Rattle.irq_play.specs.Report.{report_text}
 use Rattle.irq_play.specs.declared.ending.PlayedEnd.{PlayedEnd}
 use Rattle.irq_play.specs.declared.ending.PlayedEnd.TheVariants as ends
-use Rattle.irq_play.specs.declared.ending.Wanted.TheVariants as wants
+use Rattle.irq_play.specs.declared.ending.WantedFor.TheVariants as wants
 
 -- The board was played to its end, and the reports hand out this play. Its report was printed: all
 -- of it, or after a fault a beginning of it.

@@ -5,7 +5,7 @@ use irq_io::WriteEnd;
 
 /// What memory was refused for.
 #[derive(Clone, Copy, PartialEq, Eq)]
-pub enum Wanted {
+pub enum WantedFor {
     /// Anything but a step of a play: reading an input, laying and making the lines, handing out
     /// the reports.
     Making,
@@ -24,7 +24,7 @@ pub enum PlayedEnd {
     /// is printed.
     LogFull { line: LineNo, len: u32 },
     /// Memory was needed and refused. Nothing is printed.
-    NoMemory(Wanted),
+    NoMemory(WantedFor),
 }
 
 impl From<WriteEnd> for PlayedEnd {

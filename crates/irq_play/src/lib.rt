@@ -14,9 +14,10 @@ pub mod playing;
 pub mod printing;
 pub mod reporting;
 
-pub use ending::{PlayedEnd, Wanted};
+pub use ending::{PlayedEnd, WantedFor};
 pub use playing::{
     PlayedBoard, PlayedSystem, ReadySystem, play_and_print, play_ready, play_system, ready_system,
+    unplayed,
 };
 pub use printing::print_moves;
 pub use reporting::{report_cut, report_done, report_full};

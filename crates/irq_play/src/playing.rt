@@ -6,7 +6,7 @@ ghost use Rattle.irq_io.specs.Faults.{Counts};
 ghost use Rattle.irq_play.specs.Ends.{is_printing, is_write_fault};
 ghost use Rattle.irq_play.specs.Played.{IsPlayed, IsReady, PlaysBoard, TellsStep};
 
-use crate::ending::{PlayedEnd, Wanted};
+use crate::ending::{PlayedEnd, WantedFor};
 use crate::finishing::{print_play, print_summary};
 use crate::reporting::{report_cut, report_full};
 use board_core::{PlayEnd, System};
@@ -149,7 +149,7 @@ fn report_play<O: Sink, L: IrqLine>(
             reports: report_full(board, system, room, line, len),
         },
         PlayEnd::NoMemory => PlayedBoard {
-            end: PlayedEnd::NoMemory(Wanted::Step),
+            end: PlayedEnd::NoMemory(WantedFor::Step),
             reports: report_cut(board, system, room),
         },
     }
@@ -182,13 +182,13 @@ fn print_done<O: Sink, L: IrqLine>(
     }
 }
 
-/// The result if memory was refused before the play.
-fn unplayed(alloc: Global) -> PlayedBoard
-    ensures end { result.end ≡ PlayedEnd.NoMemory Wanted.Making }
+/// The result of a play that was refused memory before its first step.
+pub fn unplayed(alloc: Global) -> PlayedBoard
+    ensures end { result.end ≡ PlayedEnd.NoMemory WantedFor.Making }
     ensures reports { result.reports.reports ≡ [] }
 {
     PlayedBoard {
-        end: PlayedEnd::NoMemory(Wanted::Making),
+        end: PlayedEnd::NoMemory(WantedFor::Making),
         reports: Reports::new(alloc),
     }
 }

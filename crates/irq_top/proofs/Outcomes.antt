@@ -8,7 +8,7 @@ use Rattle.irq_play.specs.declared.ending.PlayedEnd.{PlayedEnd}
 use Rattle.irq_play.specs.declared.ending.PlayedEnd.TheVariants as plays
 use Rattle.board_def.specs.Rules.{IsBoard}
 use Rattle.board_def.specs.Seen.{BoardSeen}
-use Rattle.irq_play.specs.declared.ending.Wanted.TheVariants as wants
+use Rattle.irq_play.specs.declared.ending.WantedFor.TheVariants as wants
 use Rattle.irq_top.specs.declared.ending.Ending.{Ending}
 use Rattle.irq_top.specs.declared.ending.Ending.TheVariants as endings
 use Rattle.irq_top.specs.Commands.{EndsAs, EndsIfFit, IsReadToEnd, IsSane, RunsAs, TakesBoard, TellsPlay, TellsTaken}

@@ -26,7 +26,7 @@ use Rattle.irq_pm.specs.SleptBoard.{is_for_sleep}
 use Rattle.sleep_play.specs.Played.{SleepsBoard}
 use Rattle.irq_play.specs.declared.ending.PlayedEnd.{PlayedEnd}
 use Rattle.irq_play.specs.declared.ending.PlayedEnd.TheVariants as plays
-use Rattle.irq_play.specs.declared.ending.Wanted.TheVariants as wants
+use Rattle.irq_play.specs.declared.ending.WantedFor.TheVariants as wants
 use Rattle.irq_run.specs.Ran.{RunsBoard}
 use Rattle.irq_run.specs.declared.ending.RunEnd.TheVariants as runs
 use Rattle.irq_words.specs.Words.{Asks}

@@ -8,7 +8,7 @@ use Rattle.irq_check.specs.declared.printing.CheckEnd.{CheckEnd}
 use Rattle.irq_check.specs.declared.printing.CheckEnd.TheVariants as checks
 use Rattle.irq_play.specs.declared.ending.PlayedEnd.{PlayedEnd}
 use Rattle.irq_play.specs.declared.ending.PlayedEnd.TheVariants as plays
-use Rattle.irq_play.specs.declared.ending.Wanted.TheVariants as wants
+use Rattle.irq_play.specs.declared.ending.WantedFor.TheVariants as wants
 use Rattle.irq_run.specs.declared.ending.RunEnd.{RunEnd}
 use Rattle.irq_run.specs.declared.ending.RunEnd.TheVariants as runs
 use Rattle.irq_top.specs.declared.ending.Ending.{Ending}

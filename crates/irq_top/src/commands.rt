@@ -18,7 +18,7 @@ use callbacks::{Callbacks, Handler};
 use irq_base::NoMemory;
 use irq_check::check_and_print;
 use irq_io::{Sink, Source};
-use irq_play::Wanted;
+use irq_play::WantedFor;
 use irq_run::run_and_print;
 use irq_words::Command;
 use line_makers::MakesDomainLine;
@@ -177,7 +177,7 @@ fn play_generated<O: Sink, H: Handler, M: MakesDomainLine>(
 {
     match generate(alloc, n) {
         Ok(board) => Play { summary: true }.play(alloc, board, handlers, maker, out),
-        Err(NoMemory) => Outcome::without_reports(alloc, Ending::NoMemory(Wanted::Making)),
+        Err(NoMemory) => Outcome::without_reports(alloc, Ending::NoMemory(WantedFor::Making)),
     }
 }
 

@@ -5,7 +5,7 @@ ghost use Rattle.irq_top.specs.Ending.{status_of};
 use board_text::BoardFault;
 use irq_base::LineNo;
 use irq_check::{CheckEnd, Verdict};
-use irq_play::{PlayedEnd, Wanted};
+use irq_play::{PlayedEnd, WantedFor};
 use irq_run::RunEnd;
 use program_io::InputRefused;
 
@@ -31,7 +31,7 @@ pub enum Ending {
     /// A further entry was due on the line, and the line's history has the greatest length, `len`.
     LogFull { line: LineNo, len: u32 },
     /// Memory was needed and refused: for a step of a play, or for anything else.
-    NoMemory(Wanted),
+    NoMemory(WantedFor),
 }
 
 impl Ending {
@@ -62,7 +62,7 @@ impl From<InputRefused> for Ending {
         match refused {
             InputRefused::Fault(fault) => Ending::Board(fault),
             InputRefused::ReadFault => Ending::ReadFault,
-            InputRefused::NoMemory => Ending::NoMemory(Wanted::Making),
+            InputRefused::NoMemory => Ending::NoMemory(WantedFor::Making),
         }
     }
 }
@@ -94,7 +94,7 @@ impl From<RunEnd> for Ending {
             RunEnd::Done => Ending::Done,
             RunEnd::WriteFault => Ending::WriteFault,
             RunEnd::LogFull { line, len } => Ending::LogFull { line, len },
-            RunEnd::NoMemory => Ending::NoMemory(Wanted::Making),
+            RunEnd::NoMemory => Ending::NoMemory(WantedFor::Making),
         }
     }
 }
@@ -116,7 +116,7 @@ impl From<CheckEnd> for Ending {
             CheckEnd::Fault(fault) => Ending::Board(fault),
             CheckEnd::ReadFault => Ending::ReadFault,
             CheckEnd::WriteFault => Ending::WriteFault,
-            CheckEnd::NoMemory => Ending::NoMemory(Wanted::Making),
+            CheckEnd::NoMemory => Ending::NoMemory(WantedFor::Making),
         }
     }
 }

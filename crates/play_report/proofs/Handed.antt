@@ -21,7 +21,7 @@ use Rattle.board_report.specs.Reporting.{entries_in}
 use Rattle.irq_play.specs.Ends.{end_of_writing}
 use Rattle.irq_play.specs.declared.ending.PlayedEnd.{PlayedEnd}
 use Rattle.irq_play.specs.declared.ending.PlayedEnd.TheVariants as ends
-use Rattle.irq_play.specs.declared.ending.Wanted.TheVariants as wants
+use Rattle.irq_play.specs.declared.ending.WantedFor.TheVariants as wants
 use Rattle.play_orders.specs.Orders.{IsPlayed, Order, moves_in}
 use Rattle.play_report.specs.Answers.{Answers, AnswersOfSome, IsPrinted}
 use Rattle.play_report.specs.Ordered.{HandsOut, lines_after}

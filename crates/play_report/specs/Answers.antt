@@ -8,7 +8,7 @@ use Rattle.board_core.specs.declared.turns.PlayEnd.{PlayEnd}
 use Rattle.board_core.specs.declared.turns.PlayEnd.TheVariants as plays
 use Rattle.irq_play.specs.declared.ending.PlayedEnd.{PlayedEnd}
 use Rattle.irq_play.specs.declared.ending.PlayedEnd.TheVariants as ends
-use Rattle.irq_play.specs.declared.ending.Wanted.TheVariants as wants
+use Rattle.irq_play.specs.declared.ending.WantedFor.TheVariants as wants
 
 -- `text` is what is printed of the play, and `HandsOut` what the reports hand out of it, by how it
 -- ended

@@ -12,7 +12,7 @@ use board_def::{Board, Layout};
 use board_report::{ReportRoom, hand_on, print_layout};
 use irq_base::Reports;
 use irq_io::{Sink, WriteEnd};
-use irq_play::{PlayedBoard, PlayedEnd, Wanted};
+use irq_play::{PlayedBoard, PlayedEnd, WantedFor};
 use std::alloc::Global;
 use text_row::TextRow;
 
@@ -78,7 +78,7 @@ pub fn report<O: Sink, P: EndedPlay>(
     let end = match play.end() {
         PlayEnd::Done => PlayedEnd::from(write_play(board, &play, out)),
         PlayEnd::Full { line, len } => PlayedEnd::LogFull { line, len },
-        PlayEnd::NoMemory => PlayedEnd::NoMemory(Wanted::Step),
+        PlayEnd::NoMemory => PlayedEnd::NoMemory(WantedFor::Step),
     };
     let reports = play.hand_out(board, room);
     PlayedBoard { end, reports }
@@ -101,16 +101,5 @@ fn write_play<O: Sink, P: EndedPlay>(board: &Board, play: &P, out: &mut O) -> Wr
     match play.print(out) {
         WriteEnd::Done => hand_on(out),
         WriteEnd::Failed => WriteEnd::Failed,
-    }
-}
-
-/// The result of a play that was refused memory before its first step.
-pub fn unplayed(alloc: Global) -> PlayedBoard
-    ensures end { result.end ≡ PlayedEnd.NoMemory Wanted.Making }
-    ensures reports { result.reports.reports ≡ [] }
-{
-    PlayedBoard {
-        end: PlayedEnd::NoMemory(Wanted::Making),
-        reports: Reports::new(alloc),
     }
 }

@@ -9,5 +9,5 @@
 pub mod ended;
 pub mod printing;
 
-pub use ended::{EndedPlay, report, unplayed};
+pub use ended::{EndedPlay, report};
 pub use printing::{RowRoom, StepRows, print_rows};

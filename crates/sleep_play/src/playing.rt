@@ -18,10 +18,10 @@ use domain_hier::Hierarchy;
 use irq_base::{LineNo, NoMemory};
 use irq_io::Sink;
 use irq_line::{IrqLine, MakesLine};
-use irq_play::{PlayedBoard, PlayedEnd};
+use irq_play::{PlayedBoard, PlayedEnd, unplayed};
 use irq_sleeper::Sleeper;
 use line_makers::{MakesDomainLine, OverDomains};
-use play_report::{report, unplayed};
+use play_report::report;
 use std::alloc::Global;
 
 /// The board can't sleep with these lines armed.
