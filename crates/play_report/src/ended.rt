@@ -13,7 +13,6 @@ use board_report::{ReportRoom, hand_on, print_layout};
 use irq_base::Reports;
 use irq_io::{Sink, WriteEnd};
 use irq_play::{PlayedBoard, PlayedEnd, WantedFor};
-use std::alloc::Global;
 use text_row::TextRow;
 
 /// A board's play that has ended.
