@@ -5,5 +5,5 @@ use Rattle.log_text.specs.Rows.{entry_text}
 use Rattle.kept_rows.specs.declared.kept.KeptRow.{KeptRow}
 
 pub record IsKept (row : KeptRow) : Type 0 where
-  pub fits : row.len ≤ 101
+  pub fits : row.len ≤ 48
   pub text : take row.len row.bytes ≡ entry_text row.line (unpack [] row.word)

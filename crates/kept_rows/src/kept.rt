@@ -1,5 +1,5 @@
 //! The kept rows.
-ghost use Rattle.std.specs.Prelude.{◌≡◌, ◌<◌, [], true, IfSome, length, slice_get};
+ghost use Rattle.std.specs.Prelude.{◌≡◌, ◌<◌, ◌≤◌, [], true, IfSome, length, slice_get};
 ghost use Rattle.irq_base.specs.Packed.{unpack};
 ghost use Rattle.log_text.specs.EntryWords.{IsPrintable};
 ghost use Rattle.log_text.specs.Rows.{entry_text};
@@ -7,24 +7,28 @@ ghost use Rattle.kept_rows.specs.Kept.{IsKept};
 
 use crate::places::{PLACES, place_of};
 use irq_base::{DevNo, Entry, History, LineNo, Packed};
-use log_text::{MAX_ENTRY_ROW, entry_row};
+use log_text::entry_row;
 use std::marker::Model;
 use text_row::TextRow;
 
-/// A row, with its line and the word of its entry.
+/// The most bytes of a row that is kept.
+const LONGEST_KEPT: usize = 48;
+
+/// A row, with its line and the word of its entry. It takes 64 bytes.
 #[derive(Clone, Copy)]
 struct KeptRow {
-    line: LineNo,
     word: Packed,
+    line: LineNo,
     // The row is the first `len` bytes; what lies behind them is left of longer rows.
-    len: usize,
-    bytes: [u8; MAX_ENTRY_ROW],
+    len: u32,
+    bytes: [u8; LONGEST_KEPT],
 }
 
 /// The rows of a log that were made last: each of its places keeps one. It takes no memory.
 ///
 /// A row is kept by the word that its entry is packed into. An entry that no word holds, since a
-/// number of it is too large, has its row made each time.
+/// number of it is too large, has its row made each time, and so has one whose row has more than
+/// 48 bytes.
 #[derive(Drop)]
 pub struct KeptRows {
     rows: [KeptRow; PLACES],
@@ -87,9 +91,28 @@ impl KeptRows {
         ensures { result.now ≡ entry_text line (unpack [] word) }
     {
         let place = place_of(line, word);
-        self.rows[place].keep(&mut self.row, line, word);
+        if !self.rows[place].is_of(line, word) {
+            return self.made_for(place, line, word);
+        }
         let kept = &*self;
         kept.rows[place].bytes()
+    }
+
+    // The row of the word's entry, made anew, and kept at `place` unless it is too long. It stands
+    // apart, so that a row that is found costs no place on the stack for one that is made.
+    #[inline(never)]
+    fn made_for(&mut self, place: usize, line: LineNo, word: Packed) -> &[u8]
+        requires within { place < 512 }
+        requires printable { IsPrintable (unpack [] word) }
+        ensures { result.now ≡ entry_text line (unpack [] word) }
+    {
+        let entry = word.unpack(&[]);
+        entry_row(&mut self.row, line, &entry);
+        let row = self.row.bytes();
+        if row.len() <= LONGEST_KEPT {
+            self.rows[place].keep(line, word, row);
+        }
+        row
     }
 
     // The row of an entry of the line that no word holds. It isn't kept.
@@ -127,41 +150,24 @@ impl KeptRow {
             unreachable!();
         };
         let mut kept = KeptRow {
-            line: LineNo(0),
             word,
+            line: LineNo(0),
             len: 0,
-            bytes: [0; MAX_ENTRY_ROW],
+            bytes: [0; LONGEST_KEPT],
         };
-        kept.make(row, LineNo(0), word);
+        entry_row(row, LineNo(0), &entry);
+        kept.keep(LineNo(0), word, row.bytes());
         kept
     }
 
-    // Makes it the row of the word's entry of the line, unless it is that. `row` is where it is
-    // made.
-    fn keep(&mut self, row: &mut TextRow, line: LineNo, word: Packed)
-        requires printable { IsPrintable (unpack [] word) }
-        requires kept { IsKept self.old }
-        ensures kept { IsKept self.new }
-        ensures of { (self.new.line ≡ line) × (self.new.word ≡ word) }
+    // Makes it this row, that of the word's entry of the line.
+    fn keep(&mut self, line: LineNo, word: Packed, row: &[u8])
+        requires short { length row.now ≤ 48 }
+        requires row { row.now ≡ entry_text line (unpack [] word) }
+        ensures { IsKept self.new }
     {
-        if !self.is_of(line, word) {
-            self.make(row, line, word);
-        }
-    }
-
-    // Makes it the row of the word's entry of the line. It stands apart, so that a row that is
-    // found costs no place on the stack for one that is made.
-    #[inline(never)]
-    fn make(&mut self, row: &mut TextRow, line: LineNo, word: Packed)
-        requires printable { IsPrintable (unpack [] word) }
-        ensures kept { IsKept self.new }
-        ensures of { (self.new.line ≡ line) × (self.new.word ≡ word) }
-    {
-        let entry = word.unpack(&[]);
-        entry_row(row, line, &entry);
-        let len = row.bytes().len();
-        self.bytes[..len].copy_from_slice(row.bytes());
-        self.len = len;
+        self.bytes[..row.len()].copy_from_slice(row);
+        self.len = row.len() as u32;
         self.line = line;
         self.word = word;
     }
@@ -178,6 +184,6 @@ impl KeptRow {
         requires { IsKept self.now }
         ensures { result.now ≡ entry_text self.now.line (unpack [] self.now.word) }
     {
-        &self.bytes[..self.len]
+        &self.bytes[..self.len as usize]
     }
 }

@@ -1,3 +1,4 @@
 mod RowSteps
 pub mod LastEntry
 mod FirstRow
+mod Places

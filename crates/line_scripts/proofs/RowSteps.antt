@@ -10,7 +10,7 @@ use Rattle.irq_model.specs.Due.{calls_by}
 use Rattle.irq_model.specs.Kinds.{same_driver}
 use Rattle.irq_model.specs.Places.{count_of}
 use Rattle.irq_steps.proofs.Same.{driver_from_same}
-use Rattle.line_scripts.specs.Rows.{RowSeen, unbegun, row_of, calls_of, asks_in, asks_left, call_in, is_some_ask}
+use Rattle.line_scripts.specs.Rows.{RowSeen, unbegun, row_of, asks_in, asks_left, call_in, is_some_ask}
 
 -- the same either way round
 pub other_both : (r s : DriverNo) → same_driver r s ≡ false → same_driver s r ≡ false
@@ -151,20 +151,6 @@ pub asks_advanced : (es : List (DriverNo × RowSeen)) (who : DriverNo) (v w : Ro
     → w.calls ≡ v.calls → w.place ≡ cond completes (v.place + 1) v.place
     → asks_left (set_value (same_driver who) es w) + cond (completes && is_some_ask (call_in v)) 1 0 ≡ asks_left es
 asks_advanced es who v w completes at some same moved = omega (arith, asks_set (same_driver who) es v w at, asks_stepped v w completes some same moved)
-
--- a row changes, and keeps its calls
-pub same_calls : (es ns : List (DriverNo × RowSeen)) (who : DriverNo) (v w : RowSeen)
-    → lookup (same_driver who) es ≡ Some v → lookup (same_driver who) ns ≡ Some w → w.calls ≡ v.calls
-    → ((r : DriverNo) → same_driver who r ≡ false → lookup (same_driver r) ns ≡ lookup (same_driver r) es) → (r : DriverNo) → calls_of ns r ≡ calls_of es r
-same_calls es ns who v w old new same others r = by_test (same_driver who r) refl
-  where
-    by_test : (b : Bool) → same_driver who r ≡ b → calls_of ns r ≡ calls_of es r
-    by_test true mine =
-        let e : who ≡ r = driver_from_same who r mine in
-        subst (λ (x : DriverNo). calls_of ns x ≡ calls_of es x) e
-        (ap (λ o. (unwrap_or o (unbegun [])).calls) new
-        ∙ (same ∙ ap (λ o. (unwrap_or o (unbegun [])).calls) (sym old)))
-    by_test false other = ap (λ o. (unwrap_or o (unbegun [])).calls) (others r other)
 
 -- a new row of one call
 pub asks_added : (es : List (DriverNo × RowSeen)) (who : DriverNo) (v : RowSeen) (call : Call) → v ≡ unbegun (call ∷ [])

@@ -1,6 +1,7 @@
 //! The scripts of all drivers on the line.
 ghost use Rattle.std.specs.Prelude.{◌≡◌, ℕ, ◌+◌, ◌<◌, ◌^◌, ◌++◌, [], ◌∷◌, false, ◌&&◌, IsSome};
-ghost use Rattle.std.specs.Prelude.{OnOk, IfOk, if◌then◌else◌};
+ghost use Rattle.std.specs.Prelude.{OnOk, IfOk, if◌then◌else◌, position};
+ghost use Rattle.std.specs.Map.{keys_of};
 ghost use Rattle.irq_base.specs.declared.numbers.DriverNo.{DriverNo};
 ghost use Rattle.irq_model.specs.Bounds.{is_ask_call};
 ghost use Rattle.irq_model.specs.Due.{calls_by};
@@ -63,13 +64,34 @@ impl Scripts {
         ensures asks { OnOk result
             (asks_left self.new ≡ asks_left self.old + (if is_ask_call call then 1 else 0)) }
     {
-        if let Some(row) = self.rows.get_mut(&who) {
-            return row.push(call);
+        if let Some(place) = self.row_place(who) {
+            return self.rows[place].push(call);
         }
         let mut row = Row::new(alloc);
         row.push(call)?;
         self.rows.insert(who, row)?;
         Ok(())
+    }
+
+    /// Where the driver's row stands; none if it has no calls on the line. As in `due`, the first
+    /// row is looked at before any is searched.
+    fn row_place(&self, who: DriverNo) -> Option<usize>
+        ensures { result ≡ position (same_driver who) (keys_of self.now) }
+    {
+        if let Some((first, _)) = self.rows.first() {
+            if *first == who {
+                return Some(0);
+            }
+        }
+        self.searched_place(who)
+    }
+
+    /// The same, by a search.
+    #[inline(never)]
+    fn searched_place(&self, who: DriverNo) -> Option<usize>
+        ensures { result ≡ position (same_driver who) (keys_of self.now) }
+    {
+        self.rows.get_index_of(&who)
     }
 
     /// The driver's first call that isn't complete, and how many entries it has made; none if all
@@ -133,9 +155,9 @@ impl Scripts {
             ≡ asks_left self.old }
     {
         // A call is due, so the driver has a row.
-        let Some(row) = self.rows.get_mut(&who) else {
-            return;
+        let Some(place) = self.row_place(who) else {
+            unreachable!();
         };
-        row.advance(completes);
+        self.rows[place].advance(completes);
     }
 }

@@ -1,0 +1,13 @@
+use Rattle.std.proofs.Common.{◌≡◌, length, refl, ap, ◌∙◌, arith}
+use Rattle.std.specs.Fmt.{digits}
+use Rattle.irq_base.specs.declared.entries.Entry.TheVariants as entries
+use Rattle.log_text.specs.Rows.{entry_text}
+use Rattle.kept_rows.proofs.kept.KeptRow.first.Goals as goal
+
+-- "0 t0 done", and a line feed
+ten : length (entry_text (record { 0 = 0 }) (entries.Done (record { 0 = 0 }))) ≡ 10
+unfolding digits
+ten = refl
+
+pub keep-requires-clause-short : goal.keep-requires-clause-short
+keep-requires-clause-short c = omega (arith, ap length (c.bytes.ensures.bytes ∙ c.entry_row.ensures.text), ten)
