@@ -1,9 +1,10 @@
 -- What a row contributes to the counts; and a device keeps its rank.
 use Rattle.std.proofs.Common.{◌≡◌, ℕ, ◌≤◌, Bool, true, false, Some, List, refl, sym, ◌∙◌, ap, arith}
+use Rattle.std.proofs.lemmas.Map.Steps.{set_value_same}
 use Rattle.irq_base.specs.declared.numbers.DevNo.{DevNo}
 use Rattle.irq_model.specs.Kinds.{same_dev}
 use Rattle.irq_steps.proofs.Same.{dev_from_same}
-use Rattle.device_table.specs.Rows.{at, put}
+use Rattle.device_table.specs.Rows.{at, put, change, changed}
 use Rattle.device_table.specs.Sums.{one_if}
 use Rattle.device_table.proofs.Lowest.{at_put_other}
 use Rattle.act_thread.specs.Steps.{active_row}
@@ -27,3 +28,10 @@ ranked_put t ranks d old new there ranked x row found = by_test (same_dev d x) r
     by_test : (b : Bool) → same_dev d x ≡ b → (r : ℕ) × (at ranks x ≡ Some r)
     by_test true is = ranked x old (ap (at t) (sym (dev_from_same d x is)) ∙ there)
     by_test false is = ranked x row (sym (at_put_other t d x new is) ∙ found)
+
+-- a step that leaves the row leaves the table
+pub unchanged : (h : ThreadRow → ThreadRow) (t s : List (DevNo × ThreadRow)) (d : DevNo) (row : ThreadRow) → t ≡ s → Some row ≡ at t d → h row ≡ row
+    → s ≡ change h s d
+unchanged h t s d row seen found same =
+    let there : at s d ≡ Some row = ap (λ (rows : List (DevNo × ThreadRow)). at rows d) (sym seen) ∙ sym found in
+    sym (ap (changed h s d) there ∙ (ap (put s d) same ∙ set_value_same (same_dev d) s row there))

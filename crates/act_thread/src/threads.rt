@@ -1,5 +1,5 @@
 //! The threads of a line.
-ghost use Rattle.std.specs.Prelude.{◌≡◌, ℕ, ◌<◌, ◌≤◌, if◌then◌else◌, length, Some, IfOk};
+ghost use Rattle.std.specs.Prelude.{◌≡◌, ℕ, ◌<◌, ◌≤◌, ◌==◌, if◌then◌else◌, length, Some, IfOk};
 ghost use Rattle.irq_model.specs.Valid.{HasDistinctDevices};
 ghost use Rattle.device_table.specs.Rows.{at, put, change, all_with, lowest_where};
 ghost use Rattle.device_table.specs.Ranks.{IsRanking};
@@ -115,6 +115,9 @@ impl Threads {
         let Some(row) = self.rows.get(dev) else {
             return;
         };
+        if row.woken {
+            return;
+        }
         self.replace(dev, row, row.woken(oneshot));
     }
 
@@ -126,7 +129,9 @@ impl Threads {
         let Some(row) = self.rows.get(dev) else {
             return;
         };
-        self.replace(dev, row, row.begun());
+        if row.may_begin() {
+            self.replace(dev, row, row.begun());
+        }
     }
 
     /// The thread's handler returns. If it isn't at work, nothing changes.
@@ -136,7 +141,9 @@ impl Threads {
         let Some(row) = self.rows.get(dev) else {
             return;
         };
-        self.replace(dev, row, row.returned());
+        if row.may_return() {
+            self.replace(dev, row, row.returned());
+        }
     }
 
     /// The thread gives its bit up, unless it is to run again (`irq_finalize_oneshot`). The caller
@@ -148,8 +155,11 @@ impl Threads {
         let Some(row) = self.rows.get(dev) else {
             return Finished::NotDue;
         };
-        self.replace(dev, row, row.finished());
-        row.finish()
+        let found = row.finish();
+        if row.is_returned() {
+            self.replace(dev, row, row.finished());
+        }
+        found
     }
 
     /// The run is over, and counted off `threads_active` (`wake_threads_waitq`). `oneshot`: the
@@ -160,7 +170,9 @@ impl Threads {
         let Some(row) = self.rows.get(dev) else {
             return;
         };
-        self.replace(dev, row, row.done(oneshot));
+        if row.may_end(oneshot) {
+            self.replace(dev, row, row.done(oneshot));
+        }
     }
 
     /// Puts another row in the place of the device's; nothing changes if the line lacks the device.
@@ -173,29 +185,66 @@ impl Threads {
         self.replace(dev, old, row);
     }
 
-    /// Puts another row in the place of the device's, and keeps the counts and the bits by rank.
+    /// Puts another row in the place of the device's, and keeps the counts and the bits by rank. It
+    /// is inlined where a step is known to come: there most of its tests are decided beforehand.
+    #[inline(always)]
     fn replace(&mut self, dev: DevNo, old: ThreadRow, new: ThreadRow)
         requires { at self.old dev ≡ Some old }
         ensures { self.new ≡ put self.old dev new }
     {
+        self.rows.set(dev, new);
         self.active = self.active + new.active_part() - old.active_part();
         self.held = self.held + new.held_part() - old.held_part();
-        mark(&mut self.ready, &mut self.returned, &self.ranks, dev, new);
-        self.rows.set(dev, new);
+        mark(
+            &mut self.ready,
+            &mut self.returned,
+            &self.ranks,
+            dev,
+            old,
+            new,
+        );
     }
 }
 
-/// Puts the device's rank into each of the two sets, or takes it out, as the row says.
-fn mark(ready: &mut RankSet, returned: &mut RankSet, ranks: &Ranks, dev: DevNo, row: ThreadRow)
-    requires { IsRanking ranks.now }
+/// Puts the device's rank into each of the two sets, or takes it out, as the row `new` says. They
+/// stand as `old` says; where both rows say the same, no rank is looked for.
+#[inline(always)]
+fn mark(
+    ready: &mut RankSet,
+    returned: &mut RankSet,
+    ranks: &Ranks,
+    dev: DevNo,
+    old: ThreadRow,
+    new: ThreadRow,
+)
+    requires ranking { IsRanking ranks.now }
+    requires ready { (r : ℕ) → at ranks.now dev ≡ Some r → holds ready.old r ≡ is_ready old }
+    requires returned { (r : ℕ) → at ranks.now dev ≡ Some r
+        → holds returned.old r ≡ is_returned old }
     ensures ready { (r : ℕ) → r < 256 → holds ready.new r
-        ≡ (if is_rank r (at ranks.now dev) then is_ready row else holds ready.old r) }
+        ≡ (if is_rank r (at ranks.now dev) then is_ready new else holds ready.old r) }
     ensures returned { (r : ℕ) → r < 256 → holds returned.new r
-        ≡ (if is_rank r (at ranks.now dev) then is_returned row else holds returned.old r) }
+        ≡ (if is_rank r (at ranks.now dev) then is_returned new else holds returned.old r) }
 {
+    if new.is_ready() == old.is_ready() && new.is_returned() == old.is_returned() {
+        return;
+    }
     let Some(rank) = ranks.rank(dev) else {
         return;
     };
-    ready.put(rank, row.is_ready());
-    returned.put(rank, row.is_returned());
+    put_rank(ready, rank, old.is_ready(), new.is_ready());
+    put_rank(returned, rank, old.is_returned(), new.is_returned());
+}
+
+/// Puts the rank in, or takes it out; it stands as `from` says.
+#[inline(always)]
+fn put_rank(set: &mut RankSet, rank: u32, from: bool, to: bool)
+    requires few { rank < 256 }
+    requires from { holds set.old rank ≡ from }
+    ensures { (r : ℕ) → r < 256
+        → holds set.new r ≡ (if r == rank then to else holds set.old r) }
+{
+    if to != from {
+        set.put(rank, to);
+    }
 }
