@@ -3,6 +3,7 @@ mod Numbers
 mod FirstRows
 mod OneLine
 mod Printable
+mod Eights
 mod Lines
 mod WholeLog
 mod NewJudges

@@ -9,6 +9,7 @@
 #![tactic(auto)]
 
 pub mod checking;
+mod comparing;
 mod heads;
 pub mod judging;
 mod line_judge;

@@ -6,6 +6,7 @@ ghost use Rattle.log_check.specs.Judging.{Adds, Follows, HasRoom, Stops, Takes};
 ghost use Rattle.log_text.specs.EntryWords.{IsPrintable};
 ghost use Rattle.log_text.specs.Formed.{HasSmallNumbers, IsSmall};
 
+use crate::comparing::strip_row;
 use crate::judging::step;
 use irq_base::{Actor, Entry, History, LineNo, NoMemory};
 use irq_line::IrqLine;
@@ -131,7 +132,7 @@ fn after_row_of<'t>(
     ensures follows { Follows text.now number entry (option_map (λ t. t.now) result) }
 {
     are_small(number, entry);
-    text.strip_prefix(kept.row_at(number, history, place))
+    strip_row(text, kept.row_at(number, history, place))
 }
 
 /// Each number of a row takes 32 bits.

@@ -1,7 +1,5 @@
 use Rattle.std.proofs.Common.{◌≡◌, IfSome, Option, sym, subst}
-use Rattle.std.proofs.lemmas.Bool.Decides.{Decides-eqb}
 use Rattle.std.proofs.lemmas.Option.{slice_get_within}
-use Rattle.std.proofs.lemmas.Slice.Eq.{strip_prefix_is}
 use Rattle.irq_base.specs.declared.entries.Entry.{Entry}
 use Rattle.log_text.specs.EntryWords.{IsPrintable}
 use Rattle.log_text.specs.Rows.{entry_text}
@@ -18,5 +16,4 @@ pub returns-clause-follows : goal.returns-clause-follows
 returns-clause-follows c =
     let row = c.row_at.result.now in
     let is = subst (λ (o : Option Entry). IfSome o (λ (e : Entry). row ≡ entry_text c.args.number e)) c.requires.at c.row_at.ensures in
-    follows c.args.text.now row c.args.number c.args.entry c.strip_prefix.result is
-    (strip_prefix_is Decides-eqb c.args.text.now row c.strip_prefix.result c.strip_prefix.ensures.cases)
+    follows c.args.text.now row c.args.number c.args.entry c.strip_row.result is c.strip_row.ensures
