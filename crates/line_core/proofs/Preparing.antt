@@ -1,6 +1,7 @@
 -- What is added to a line with room made beforehand is added to the line as it was.
-use Rattle.std.proofs.Common.{◌≡◌, ◌<◌, ◌≤◌, is_some, Ok, Option, Some, None, List, [], ◌∷◌, ◌++◌, length}
+use Rattle.std.proofs.Common.{◌≡◌, ◌<◌, ◌≤◌, true, is_some, Ok, Err, Option, Some, None, List, [], ◌∷◌, ◌++◌, length, reverse}
 use Rattle.std.proofs.Common.{refl, sym, ap, subst, ◌∙◌, arith}
+use Rattle.std.proofs.lemmas.Bool.{false≢true}
 use Rattle.std.proofs.lemmas.Option.{none-some}
 use Rattle.std.specs.Prelude.{IfSome}
 use Rattle.irq_base.specs.Who.{actor_of}
@@ -11,11 +12,15 @@ use Rattle.irq_base.specs.declared.lines.LineDef.{LineDef}
 use Rattle.irq_model.specs.Next.{next}
 use Rattle.callbacks.specs.Seen.{SaidSeen}
 use Rattle.irq_line.specs.Answers.{Answers, IsDueOf, IsSaidFor}
-use Rattle.irq_line.specs.Runs.{run_of}
+use Rattle.irq_line.specs.Heard.{Adds, EndsRun}
+use Rattle.irq_line.specs.Memory.{WantsMemory}
+use Rattle.irq_line.specs.Runs.{run_of, run_of_entry}
 use Rattle.irq_line.specs.Seen.{LineSeen}
+use Rattle.irq_line.specs.declared.answers.StepRefused.{StepRefused}
+use Rattle.irq_line.specs.declared.answers.StepRefused.TheVariants as refusals
 use Rattle.irq_line.specs.declared.answers.Stepped.{Stepped}
 use Rattle.irq_line.specs.declared.answers.Stepped.TheVariants as stepped
-use Rattle.line_core.specs.Room.{IsReady}
+use Rattle.line_core.specs.Room.{HasRoom, IsReady, IsWanted, IsRefusal, links_next}
 
 -- ---- what makes ready
 
@@ -29,16 +34,40 @@ ready_unheard line who said run below told unheard = record {
   unheard = λ _ _ _. refl;
 }
 
-pub ready_with_room : (line : LineSeen) (who : Actor) (said : Option SaidSeen) (new : LineSeen) (e : Entry) → next line.def line.entries who ≡ Some e
-    → IfSome (run_of line.def line.entries who) (IsSaidFor said) → (length line.entries < line.def.log) × (1 ≤ new.spare) × (line.spare ≤ new.spare)
-    → IsReady line who said new
-ready_with_room line who said new e due heard room = record {
-  below = λ _. room.0;
-  room = λ _ _. room.1;
-  spare = room.2;
-  idle = λ none. absurd (none-some e (sym none ∙ due));
-  unheard = λ run told unheard. absurd (unheard (subst (λ (o : Option Run). IfSome o (IsSaidFor said)) told heard));
+pub ready_idle : (line : LineSeen) (who : Actor) (said : Option SaidSeen) → next line.def line.entries who ≡ None → IsReady line who said line
+ready_idle line who said none = record {
+  below = λ due. absurd (false≢true (sym (ap is_some none) ∙ due));
+  room = λ due _. absurd (false≢true (sym (ap is_some none) ∙ due));
+  spare = omega arith;
+  idle = λ _. refl;
+  unheard = λ _ _ _. refl;
 }
+
+pub ready_with_room : (line : LineSeen) (who : Actor) (said : Option SaidSeen) (new : LineSeen) → IsWanted line who said
+    → 1 ≤ new.spare → line.spare ≤ new.spare → IsReady line who said new
+ready_with_room line who said new wanted room more = record {
+  below = λ _. wanted.below;
+  room = λ _ _. room;
+  spare = more;
+  idle = λ none. absurd (false≢true (sym (ap is_some none) ∙ wanted.due));
+  unheard = λ run told unheard. absurd (unheard (subst (λ (o : Option Run). IfSome o (IsSaidFor said)) told wanted.heard));
+}
+
+-- ---- a step that was refused room
+
+pub refused_told : (old : LineSeen) (who : Actor) (said : Option SaidSeen) (r : StepRefused) (new : LineSeen)
+    → IsRefusal old who r new → Answers old who said (Err r) new
+refused_told old who said (refusals.Full len) new h = h
+refused_told old who said refusals.NoMemory new h = h.1
+
+pub refused_run : (old : LineSeen) (who : Actor) (r : StepRefused) (new : LineSeen) → IsRefusal old who r new → EndsRun old who (Err r) new
+refused_run old who (refusals.Full len) new h = h
+refused_run old who refusals.NoMemory new h = h.1
+
+pub refused_memory : (A : Type 0) (old : LineSeen) (who : Actor) (r : StepRefused) (new : LineSeen)
+    → IsRefusal old who r new → WantsMemory {A = A} (λ due. links_next due ≡ true) old who (Err r)
+refused_memory A old who (refusals.Full len) new h = tt
+refused_memory A old who refusals.NoMemory new h = λ room. let none = h.0 in absurd (omega (arith, none, room))
 
 -- ---- a step after it
 
@@ -62,6 +91,33 @@ module _ (old mid : LineSeen) (who : Actor) (said : Option SaidSeen) (ready : Is
 
   below_old : length mid.entries < mid.def.log → length old.entries < old.def.log
   below_old b = subst (λ (d : LineDef). length old.entries < d.log) def (subst (λ (h : List Entry). length h < mid.def.log) entries b)
+
+  -- the run that is due is due as before
+  pub run_mid : (run : Run) → run_of old.def old.entries who ≡ Some run → run_of mid.def mid.entries who ≡ Some run
+  run_mid run told = same_run ∙ told
+
+  pub has_room : (run : Run) → run_of old.def old.entries who ≡ Some run → IsSaidFor said run → (e : Entry) → next mid.def mid.entries who ≡ Some e
+      → HasRoom mid
+  has_room run told heard e due = record {
+    below = below_mid e due;
+    spare = room_mid e due (subst (λ (o : Option Run). IfSome o (IsSaidFor said)) (sym (run_mid run told)) heard);
+  }
+
+  pub never_idle : (run : Run) → run_of old.def old.entries who ≡ Some run → next mid.def mid.entries who ≡ None → ⊥
+  never_idle run told none = none-some run (sym (ap (run_of_entry mid.def (reverse mid.entries)) none) ∙ run_mid run told)
+
+  pub adds_old : (new : LineSeen) (e : Entry) → Adds mid who e new → Adds old who e new
+  adds_old new e a =
+      let more = ready.spare in
+      let less = a.spare in
+      record {
+        due = sym same_next ∙ a.due;
+        actor = subst (λ (d : LineDef). actor_of d.line e ≡ who) def a.actor;
+        below = below_old a.below;
+        def = a.def ∙ def;
+        entries = a.entries ∙ ap (λ (h : List Entry). h ++ e ∷ []) entries;
+        spare = omega (arith, more, less);
+      }
 
   pub answers_old : (new : LineSeen) (s : Stepped) → Answers mid who said (Ok s) new → Answers old who said (Ok s) new
   answers_old new (stepped.Added e) a =

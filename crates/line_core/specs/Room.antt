@@ -1,5 +1,5 @@
 -- Which entries need memory though there is room for one more, and what room is made beforehand.
-use Rattle.std.specs.Prelude.{◌≡◌, ◌<◌, ◌≤◌, Bool, false, Option, Some, None, IfSome, Result, Ok}
+use Rattle.std.specs.Prelude.{◌≡◌, ◌<◌, ◌≤◌, Bool, true, false, Option, Some, None, IfSome, Result, Ok}
 use Rattle.std.specs.Prelude.{Err, length}
 use Rattle.irq_base.specs.declared.devices.Run.{Run}
 use Rattle.irq_base.specs.declared.entries.Actor.{Actor}
@@ -30,11 +30,27 @@ pub record IsReady (old : LineSeen) (who : Actor) (said : Option SaidSeen) (new 
   pub unheard : (run : Run) → run_of old.def old.entries who ≡ Some run
       → (IsSaidFor said run → ⊥) → new ≡ old
 
+-- an entry of the actor is to be added, and may be
+pub record IsWanted (line : LineSeen) (who : Actor) (said : Option SaidSeen) : Type 0 where
+  pub due : IsDueOf line who
+  pub heard : IfSome (run_of line.def line.entries who) (IsSaidFor said)
+  pub below : length line.entries < line.def.log
+
+-- a step of the actor will add an entry, or it won't and is ready, or why it can't
+abbrev pub WillAdd : LineSeen → Actor → Option SaidSeen → Result Bool StepRefused → Type 0
+WillAdd line who said (Ok true) = IsWanted line who said
+WillAdd line who said (Ok false) = IsReady line who said line
+WillAdd line who said (Err (refusals.Full len)) = IsFull line who len
+WillAdd line who said (Err refusals.NoMemory) = ⊥
+
 -- why no room was made
+abbrev pub IsRefusal : LineSeen → Actor → StepRefused → LineSeen → Type 0
+IsRefusal old who (refusals.Full len) new = IsFull old who len × (new ≡ old)
+IsRefusal old who refusals.NoMemory new = (old.spare ≡ 0) × (new ≡ old)
+
 abbrev pub IsRefused : {A : Type 0} → LineSeen → Actor → Result A StepRefused → LineSeen → Type 0
 IsRefused old who (Ok done) new = Unit {0}
-IsRefused old who (Err (refusals.Full len)) new = IsFull old who len × (new ≡ old)
-IsRefused old who (Err refusals.NoMemory) new = (old.spare ≡ 0) × (new ≡ old)
+IsRefused old who (Err refusal) new = IsRefusal old who refusal new
 
 -- the entry that is due links an action
 abbrev pub links_next : Option Entry → Bool

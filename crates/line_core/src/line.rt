@@ -12,17 +12,17 @@ ghost use Rattle.irq_model.specs.Up.{is_up};
 ghost use Rattle.irq_model.specs.Valid.{IsValid};
 ghost use Rattle.irq_laws.specs.Driven.{cell_after};
 ghost use Rattle.irq_line.specs.Answers.{Answers, IsSaidFor};
-ghost use Rattle.irq_line.specs.Heard.{Adds};
+ghost use Rattle.irq_line.specs.Heard.{Adds, EndsRun};
 ghost use Rattle.irq_line.specs.Memory.{WantsMemory};
 ghost use Rattle.irq_line.specs.Runs.{run_of};
-ghost use Rattle.line_core.specs.Room.{HasRoom, IsReady, IsRefused, links_next};
+ghost use Rattle.line_core.specs.Room.{HasRoom, IsReady, IsRefused, WillAdd, links_next};
 ghost use Rattle.line_state.specs.declared.due.DueStep.TheVariants as steps;
 ghost use Rattle.line_core.specs.Entries.{entry_at};
 ghost use Rattle.line_core.specs.Blocking.{freed_in, blocks_by};
 
 use crate::due::{due_by, due_of_driver, due_of_thread};
 use crate::putting::{put_of_call, put_of_cpu, put_of_thread, put_return};
-use crate::room::make_room;
+use crate::room::{make_place, make_room};
 use crate::running::unanswered;
 use callbacks::Said;
 use irq_base::{
@@ -77,12 +77,13 @@ impl<C: Chip + Drop> Line<C> {
         ensures empty { IfOk result (λ line. line.line.entries ≡ []) }
         ensures wiring { IfOk result (λ line. line.wiring ≡ C.wiring chip) }
     {
-        let state = LineState::new(alloc, def, chip)?;
-        let scripts = Scripts::new(alloc, &def.calls)?;
+        // The state has the most parts: it is made last, so that no refusal has to drop it.
         let history = History::with_room(alloc, 0)?;
-        let def = def.try_clone(alloc)?;
+        let own = def.try_clone(alloc)?;
+        let scripts = Scripts::new(alloc, &def.calls)?;
+        let state = LineState::new(alloc, def, chip)?;
         Ok(Line {
-            def,
+            def: own,
             history,
             state,
             scripts,
@@ -146,20 +147,32 @@ impl<C: Chip> Line<C> {
         ensures refused { IsRefused self.old.line actor result self.new.line }
         ensures wiring { self.new.wiring ≡ self.old.wiring }
     {
+        match self.will_add(actor, said) {
+            Ok(true) => match make_place(&mut self.history) {
+                Ok(()) => Ok(()),
+                Err(_refused) => Err(StepRefused::NoMemory),
+            },
+            Ok(false) => Ok(()),
+            Err(refusal) => Err(refusal),
+        }
+    }
+
+    /// Whether a step of the actor will add an entry, or why it can't.
+    #[inline(always)]
+    fn will_add(&self, actor: Actor, said: &Option<Said>) -> Result<bool, StepRefused>
+        ensures { WillAdd self.now.line actor said.now result }
+    {
         let Some(step) = self.due(actor) else {
-            return Ok(());
+            return Ok(false);
         };
         let len = self.history.len();
         if len >= self.def.log as usize {
             return Err(StepRefused::Full { len: len as u32 });
         }
-        if let Some(_run) = unanswered(&self.def, &self.state, step, said) {
-            return Ok(());
+        match unanswered(&self.def, &self.state, step, said) {
+            Some(_run) => Ok(false),
+            None => Ok(true),
         }
-        if self.history.spare() == 0 {
-            self.history.reserve(1)?;
-        }
-        Ok(())
     }
 
     /// The step of the processor, which is due: it asks for the run that ends, or adds the entry.
@@ -248,22 +261,47 @@ impl<C: Chip> Line<C> {
         )
     }
 
+    /// The step that ends this run, which is due of the actor and was answered.
+    #[inline(always)]
+    fn step_run(
+        &mut self,
+        actor: Actor,
+        run: Run,
+        said: &Option<Said>,
+    ) -> Result<Entry, StepRefused>
+        requires due { run_of self.old.line.def self.old.line.entries actor ≡ Some run }
+        requires heard { IsSaidFor said.now run }
+        ensures def { self.new.line.def ≡ self.old.line.def }
+        ensures answer { EndsRun self.old.line actor result self.new.line }
+        ensures memory { WantsMemory (λ due. links_next due ≡ true) self.old.line actor result }
+        ensures wiring { self.new.wiring ≡ self.old.wiring }
+    {
+        if let Err(refusal) = self.prepare(actor, said) {
+            return Err(refusal);
+        }
+        match self.due(actor) {
+            Some(step) => Ok(self.end_run(actor, step, run)),
+            // the run is due
+            None => unreachable!(),
+        }
+    }
+
     /// A step of a processor.
     #[inline(always)]
-    fn step_cpu(&mut self, cpu: CpuNo, said: Option<Said>) -> Result<Stepped, StepRefused>
+    fn step_cpu(&mut self, cpu: CpuNo, said: &Option<Said>) -> Result<Stepped, StepRefused>
         ensures def { self.new.line.def ≡ self.old.line.def }
-        ensures answer { Answers self.old.line (actors.Cpu cpu) said result self.new.line }
+        ensures answer { Answers self.old.line (actors.Cpu cpu) said.now result self.new.line }
         ensures memory { WantsMemory (λ due. links_next due ≡ true) self.old.line
             (actors.Cpu cpu) result }
         ensures wiring { self.new.wiring ≡ self.old.wiring }
     {
-        if let Err(refusal) = self.prepare(Actor::Cpu(cpu), &said) {
+        if let Err(refusal) = self.prepare(Actor::Cpu(cpu), said) {
             return Err(refusal);
         }
         let Some(step) = self.due_of_cpu(cpu) else {
             return Ok(Stepped::NotYet);
         };
-        Ok(self.act_of_cpu(cpu, step, &said))
+        Ok(self.act_of_cpu(cpu, step, said))
     }
 
     /// A step of a thread. It stands apart, as that of a driver, so that a step of a processor is
@@ -273,21 +311,22 @@ impl<C: Chip> Line<C> {
         &mut self,
         line: LineNo,
         dev: DevNo,
-        said: Option<Said>,
+        said: &Option<Said>,
     ) -> Result<Stepped, StepRefused>
         ensures def { self.new.line.def ≡ self.old.line.def }
-        ensures answer { Answers self.old.line (actors.Thread line dev) said result self.new.line }
+        ensures answer { Answers self.old.line (actors.Thread line dev) said.now result
+            self.new.line }
         ensures memory { WantsMemory (λ due. links_next due ≡ true) self.old.line
             (actors.Thread line dev) result }
         ensures wiring { self.new.wiring ≡ self.old.wiring }
     {
-        if let Err(refusal) = self.prepare(Actor::Thread(line, dev), &said) {
+        if let Err(refusal) = self.prepare(Actor::Thread(line, dev), said) {
             return Err(refusal);
         }
         let Some(step) = self.due_of_thread(line, dev) else {
             return Ok(Stepped::NotYet);
         };
-        Ok(self.act_of_thread(line, dev, step, &said))
+        Ok(self.act_of_thread(line, dev, step, said))
     }
 
     /// The step that is due of the processor, if there is one.
@@ -372,6 +411,9 @@ impl<C: Chip> Line<C> {
     }
 }
 
+/// The state is dropped, which has many parts.
+fn give_up<C: Chip + Drop>(_state: LineState<C>) {}
+
 /// Whether it is that processor.
 fn is_that(taker: Option<CpuNo>, cpu: CpuNo) -> bool
     ensures sound { IsTrue result → taker ≡ Some cpu }
@@ -420,22 +462,21 @@ impl<C: Chip + Drop> IrqLine for Line<C> {
         ensures wiring { self.new.wiring ≡ self.old.wiring }
     {
         match actor {
-            Actor::Cpu(cpu) => self.step_cpu(cpu, said),
-            Actor::Thread(line, dev) => self.step_thread(line, dev, said),
+            Actor::Cpu(cpu) => self.step_cpu(cpu, &said),
+            Actor::Thread(line, dev) => self.step_thread(line, dev, &said),
             Actor::Driver(driver) => self.step_driver(driver, said),
         }
     }
 
-    fn step_answered(&mut self, actor: Actor, said: Said) -> Result<Entry, StepRefused> {
+    fn step_answered(&mut self, actor: Actor, said: Said) -> Result<Entry, StepRefused>
+        requires due { run_of self.old.line.def self.old.line.entries actor ≡ Some said.run }
+        ensures def { self.new.line.def ≡ self.old.line.def }
+        ensures answer { EndsRun self.old.line actor result self.new.line }
+        ensures memory { WantsMemory (λ due. links_next due ≡ true) self.old.line actor result }
+        ensures wiring { self.new.wiring ≡ self.old.wiring }
+    {
         let run = said.run();
-        if let Err(refusal) = self.prepare(actor, &Some(said)) {
-            return Err(refusal);
-        }
-        match self.due(actor) {
-            Some(step) => Ok(self.end_run(actor, step, run)),
-            // the run is due
-            None => unreachable!(),
-        }
+        self.step_run(actor, run, &Some(said))
     }
 
     fn reserve(&mut self) -> Result<(), NoMemory>
@@ -447,10 +488,7 @@ impl<C: Chip + Drop> IrqLine for Line<C> {
         ensures refused { OnErr result (self.new.line ≡ self.old.line) }
         ensures wiring { self.new.wiring ≡ self.old.wiring }
     {
-        if self.history.spare() == 0 {
-            self.history.reserve(1)?;
-        }
-        Ok(())
+        make_place(&mut self.history)
     }
 
     fn spare(&self) -> usize {
@@ -466,7 +504,8 @@ impl<C: Chip + Drop> IrqLine for Line<C> {
     }
 
     fn into_history(self) -> History {
-        let Line { history, .. } = self;
+        let Line { history, state, .. } = self;
+        give_up(state);
         history
     }
 

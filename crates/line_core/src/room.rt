@@ -26,6 +26,18 @@ pub(crate) fn make_room<C: Chip>(
     if state.links(step) {
         state.reserve()?;
     }
+    make_place(history)
+}
+
+/// Makes room for one more entry, if there is none.
+#[inline(always)]
+pub(crate) fn make_place(history: &mut History) -> Result<(), NoMemory>
+    ensures room { OnOk result (1 ≤ history.new.spare) }
+    ensures entries { history.new.entries ≡ history.old.entries }
+    ensures grows { history.old.spare ≤ history.new.spare }
+    ensures needed { OnErr result (history.old.spare ≡ 0) }
+    ensures refused { OnErr result (history.new ≡ history.old) }
+{
     if history.spare() == 0 {
         history.reserve(1)?;
     }
