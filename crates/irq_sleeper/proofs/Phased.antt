@@ -37,29 +37,35 @@ use Rattle.irq_sleeper.proofs.Underway.{next_of, fresh, more, at_other, ended, s
 abbrev pub ComesNext : SleeperSeen → Option Move → Phase → Phase → Type 0
 ComesNext s due at after = (x : Move) → due ≡ Some x → next_of s at ≡ Some (step_of x, after)
 
-pub went : (first old new : SleeperSeen) (picks : List Actor) (due : Option Move) (at after : Phase)
-    (r : Result Bool PlayEnd) → GoesTo first old picks at → r ≡ Ok true → StepsBy old due r new
-    → ComesNext old due at after
-    → (AreMarked at new → AreMarked after new) → GoesTo first new picks after
-went first old new picks due at after r u is s next marks =
-    let w : Watched old due new = subst (λ (x : Result Bool PlayEnd). StepsBy old due x new) is s in
-    (stays_on first old new u.0 (steps_stay old new due (Ok true) w), more old new picks due at after u.1 w next marks)
+-- A step of a sleep that goes on: the move that was due is the sleep's next step, from the phase `at` to the phase `after`.
+pub record SleepStep (first old new : SleeperSeen) (picks : List Actor) (at after : Phase) (r : Result Bool PlayEnd) : Type 0 where
+  pub due : Option Move
+  pub goes : GoesTo first old picks at
+  pub steps : StepsBy old due r new
+  pub next : ComesNext old due at after
+  pub marks : AreMarked at new → AreMarked after new
 
-pub rested : (first old new : SleeperSeen) (picks : List Actor) (due : Option Move) (at : Phase)
-    (r : Result Bool PlayEnd) → GoesTo first old picks at → r ≡ Ok false → StepsBy old due r new
-    → (due ≡ None) × (new ≡ old)
-rested first old new picks due at r u is s = subst (λ (x : Result Bool PlayEnd). StepsBy old due x new) is s
+module _ {first old new : SleeperSeen} {picks : List Actor} {at after : Phase} {r : Result Bool PlayEnd}
+    (s : SleepStep first old new picks at after r) where
+  watched : r ≡ Ok true → Watched old s.due new
+  watched is = subst (λ (x : Result Bool PlayEnd). StepsBy old s.due x new) is s.steps
 
-pub stops : (first old new : SleeperSeen) (picks : List Actor) (due : Option Move) (at after : Phase)
-    (r : Result Bool PlayEnd) (end : PlayEnd) → GoesTo first old picks at → r ≡ Err end → StepsBy old due r new
-    → ComesNext old due at after → EndsIn first new picks end
-stops first old new picks due at after r end u is s next =
-    let e : StepsBy old due (Err end) new = subst (λ (x : Result Bool PlayEnd). StepsBy old due x new) is s in
-    (stays_on first old new u.0 (steps_stay old new due (Err end) e), stopped old new picks at after due end u.1 e next)
+  pub went : r ≡ Ok true → GoesTo first new picks after
+  went is = (
+    stays_on first old new s.goes.0 (steps_stay old new s.due (Ok true) (watched is)),
+    more old new picks s.due at after s.goes.1 (watched is) s.next s.marks,
+  )
 
-pub falls : (old new : SleeperSeen) (due : Option Move) (r : Result Bool PlayEnd) → r ≡ Ok true → StepsBy old due r new
-    → room_of new.system < room_of old.system
-falls old new due r is s = let w : Watched old due new = subst (λ (x : Result Bool PlayEnd). StepsBy old due x new) is s in room_falls old new due w.made
+  pub falls : r ≡ Ok true → room_of new.system < room_of old.system
+  falls is = room_falls old new s.due (watched is).made
+
+  pub stops : {end : PlayEnd} → r ≡ Err end → EndsIn first new picks end
+  stops {end} is =
+      let e : StepsBy old s.due (Err end) new = subst (λ (x : Result Bool PlayEnd). StepsBy old s.due x new) is s.steps in
+      (stays_on first old new s.goes.0 (steps_stay old new s.due (Err end) e), stopped old new picks at after s.due end s.goes.1 e s.next)
+
+rested : (old new : SleeperSeen) (due : Option Move) (r : Result Bool PlayEnd) → r ≡ Ok false → StepsBy old due r new → (due ≡ None) × (new ≡ old)
+rested old new due r is s = subst (λ (x : Result Bool PlayEnd). StepsBy old due x new) is s
 
 -- ---- the picks
 
@@ -151,6 +157,49 @@ module _ (s : SleeperSeen) (t : IsTold s) where
   pub going_none : lowest_move s.system ≡ None → next_of s Going ≡ None
   going_none due = going_is ∙ ap (λ (o : Option Move). step_in Going o) due
 
+-- ---- the steps of the phases
+
+module _ {first old new : SleeperSeen} {picks : List Actor} {r : Result Bool PlayEnd} where
+  pub disabling_step : GoesTo first old picks Disabling
+      → is_disable_due (due_of old.system.board (board_lines old.system.lines) last_driver) ≡ true
+      → StepsBy old (or_move (last_of old.system) (inner_of old.system)) r new → SleepStep first old new picks Disabling Disabling r
+  disabling_step goes test steps = record {
+    due = or_move (last_of old.system) (inner_of old.system);
+    goes = goes;
+    steps = steps;
+    next = disabling_next old goes.1.told test;
+    marks = λ m. m;
+  }
+
+  pub sleeping_step : GoesTo first old picks Asleep → old.watch.woken ≡ None
+      → StepsBy old (or_move (inner_of old.system) (ask_of old.system)) r new → SleepStep first old new picks Asleep Asleep r
+  sleeping_step goes woken steps = record {
+    due = or_move (inner_of old.system) (ask_of old.system);
+    goes = goes;
+    steps = steps;
+    next = sleeping_next old goes.1.told goes.1.watch.woken woken;
+    marks = λ m. m;
+  }
+
+  pub enabling_step : GoesTo first old picks Enabling → StepsBy old (move_of old.system (actors.Driver last_driver)) r new
+      → SleepStep first old new picks Enabling Enabling r
+  enabling_step goes steps = record {
+    due = move_of old.system (actors.Driver last_driver);
+    goes = goes;
+    steps = steps;
+    next = enabling_next old goes.1.told;
+    marks = λ m. m;
+  }
+
+  pub going_step : GoesTo first old picks Going → StepsBy old (lowest_move old.system) r new → SleepStep first old new picks Going Going r
+  going_step goes steps = record {
+    due = lowest_move old.system;
+    goes = goes;
+    steps = steps;
+    next = going_next old goes.1.told;
+    marks = λ m. m;
+  }
+
 -- ---- marks
 
 reversed : (xs ys : List SleepEntry) (e : SleepEntry) → xs ≡ ys ++ e ∷ [] → reverse xs ≡ e ∷ reverse ys
@@ -201,10 +250,10 @@ woken_under old picks line u next =
       next = refl;
     }
 
-pub falls_asleep : (first old new : SleeperSeen) (picks : List Actor) → GoesTo first old picks Disabling
+pub falls_asleep : {first old new : SleeperSeen} {picks : List Actor} → GoesTo first old picks Disabling
     → is_disable_due (due_of old.system.board (board_lines old.system.lines) last_driver) ≡ false → IsAsleep old new
     → GoesTo first new picks Asleep
-falls_asleep first old new picks u test is =
+falls_asleep {first} {old} {new} {picks} u test is =
     subst (λ (s : SleeperSeen). GoesTo first s picks Asleep) (sym is)
     (record { board = u.0.board; layout = u.0.layout; armed = u.0.armed }, asleep_under old picks u.1 (asleep_comes old u.1.told test))
 
@@ -214,16 +263,16 @@ wakes_up first old new picks line u next is =
     subst (λ (s : SleeperSeen). GoesTo first s picks Enabling) (sym is)
     (record { board = u.0.board; layout = u.0.layout; armed = u.0.armed }, woken_under old picks line u.1 next)
 
-pub wakes_by_line : (first old new : SleeperSeen) (picks : List Actor) (line : LineNo) → GoesTo first old picks Asleep
+pub wakes_by_line : {first old new : SleeperSeen} {picks : List Actor} {line : LineNo} → GoesTo first old picks Asleep
     → old.watch.woken ≡ Some line → IsWoken old (Some line) new → GoesTo first new picks Enabling
-wakes_by_line first old new picks line u woken is = wakes_up first old new picks (Some line) u (line_wakes old u.1.told u.1.watch.woken line woken) is
+wakes_by_line {first} {old} {new} {picks} {line} u woken is = wakes_up first old new picks (Some line) u (line_wakes old u.1.told u.1.watch.woken line woken) is
 
-pub wakes_by_none : (first old mid new : SleeperSeen) (picks : List Actor) (r : Result Bool PlayEnd)
+pub wakes_by_none : {first old new : SleeperSeen} (mid : SleeperSeen) {picks : List Actor} {r : Result Bool PlayEnd}
     → GoesTo first old picks Asleep → old.watch.woken ≡ None → r ≡ Ok false
     → StepsBy old (or_move (inner_of old.system) (ask_of old.system)) r mid → IsWoken mid None new
     → GoesTo first new picks Enabling
-wakes_by_none first old mid new picks r u woken is steps wakes =
-    let rest = rested first old mid picks (or_move (inner_of old.system) (ask_of old.system)) Asleep r u is steps in
+wakes_by_none {first} {old} {new} mid {picks} {r} u woken is steps wakes =
+    let rest = rested old mid (or_move (inner_of old.system) (ask_of old.system)) r is steps in
     wakes_up first old new picks None u (none_wakes old u.1.told u.1.watch.woken woken rest.0) (subst (λ (s : SleeperSeen). IsWoken s None new) rest.1 wakes)
 
 -- ---- the phases' ends
@@ -232,14 +281,14 @@ pub opened : (first old new : SleeperSeen) (picks : List Actor) (r : Result Bool
     → GoesTo first old picks Enabling → r ≡ Ok false → StepsBy old (move_of old.system (actors.Driver last_driver)) r
     new → GoesTo first new picks Going
 opened first old new picks r u is steps =
-    let rest = rested first old new picks (move_of old.system (actors.Driver last_driver)) Enabling r u is steps in
+    let rest = rested old new (move_of old.system (actors.Driver last_driver)) r is steps in
     subst (λ (s : SleeperSeen). GoesTo first s picks Going) (sym rest.1) (u.0, at_other old picks Enabling Going u.1 (λ m. m) (enabled_all old u.1.told rest.0))
 
 pub gone_on : (first old new : SleeperSeen) (picks : List Actor) (r : Result Bool PlayEnd)
     → GoesTo first old picks Going → r ≡ Ok false → StepsBy old (lowest_move old.system) r new
     → EndsIn first new picks ends.Done
 gone_on first old new picks r u is steps =
-    let rest = rested first old new picks (lowest_move old.system) Going r u is steps in
+    let rest = rested old new (lowest_move old.system) r is steps in
     subst (λ (s : SleeperSeen). EndsIn first s picks ends.Done) (sym rest.1) (u.0, (u.1.told, ended old picks Going u.1 (going_none old u.1.told rest.0)))
 
 pub stuck_so : (first old new : SleeperSeen) (picks : List Actor) (r : Result Bool PlayEnd)
@@ -247,7 +296,7 @@ pub stuck_so : (first old new : SleeperSeen) (picks : List Actor) (r : Result Bo
     (due_of old.system.board (board_lines old.system.lines) last_driver) ≡ true → r ≡ Ok false
     → StepsBy old (or_move (last_of old.system) (inner_of old.system)) r new → EndsIn first new picks ends.Done
 stuck_so first old new picks r u test is steps =
-    let rest = rested first old new picks (or_move (last_of old.system) (inner_of old.system)) Disabling r u is steps in
+    let rest = rested old new (or_move (last_of old.system) (inner_of old.system)) r is steps in
     subst (λ (s : SleeperSeen). EndsIn first s picks ends.Done) (sym rest.1)
     (u.0, (u.1.told, ended old picks Disabling u.1 (disabling_none old u.1.told test rest.0)))
 
@@ -264,32 +313,36 @@ at_pick first s picks i d within u =
     ∙ ap (λ (n : ℕ). get_or picks i d ∷ drop n picks) (sym (add-one i)) in
     subst (λ (rest : List Actor). GoesTo first s picks (Picking rest)) next u
 
-pub pick_done : (first old new : SleeperSeen) (picks : List Actor) (i : ℕ) (d : Actor) (r : Result Bool PlayEnd)
-    (moved : Bool) → i < length picks → GoesTo first old picks (Picking (drop i picks)) → r ≡ Ok moved
-    → StepsBy old (move_of old.system (get_or picks i d)) r new
-    → GoesTo first new picks (Picking (drop (i + 1) picks))
-pick_done first old new picks i d r true within u is steps =
-    let v = at_pick first old picks i d within u in
-    went first old new picks (move_of old.system (get_or picks i d)) (Picking (get_or picks i d ∷ drop (i + 1) picks))
-    (Picking (drop (i + 1) picks)) r v is steps (picked_next old v.1.told (get_or picks i d) (drop (i + 1) picks))
-    (λ m. m)
-pick_done first old new picks i d r false within u is steps =
-    let v = at_pick first old picks i d within u in
-    let rest = rested first old new picks (move_of old.system (get_or picks i d)) (Picking (get_or picks i d ∷ drop (i + 1) picks)) r v is steps in
-    subst (λ (s : SleeperSeen). GoesTo first s picks (Picking (drop (i + 1) picks))) (sym rest.1) (
-      v.0,
-      at_other old picks (Picking (get_or picks i d ∷ drop (i + 1) picks)) (Picking (drop (i + 1) picks)) v.1
-          (λ m. m) (passed_next old v.1.told (get_or picks i d) (drop (i + 1) picks) rest.0),
-    )
+module _ {first old new : SleeperSeen} {picks : List Actor} {i : ℕ} (d : Actor) (within : i < length picks)
+    (u : GoesTo first old picks (Picking (drop i picks))) {r : Result Bool PlayEnd}
+    (steps : StepsBy old (move_of old.system (get_or picks i d)) r new) where
+  picked_step : SleepStep first old new picks (Picking (get_or picks i d ∷ drop (i + 1) picks)) (Picking (drop (i + 1) picks)) r
+  picked_step =
+      let v = at_pick first old picks i d within u in
+      record {
+        due = move_of old.system (get_or picks i d);
+        goes = v;
+        steps = steps;
+        next = picked_next old v.1.told (get_or picks i d) (drop (i + 1) picks);
+        marks = λ m. m;
+      }
 
-pub pick_stops : (first old new : SleeperSeen) (picks : List Actor) (i : ℕ) (d : Actor) (r : Result Bool PlayEnd)
-    (end : PlayEnd) → i < length picks → GoesTo first old picks (Picking (drop i picks)) → r ≡ Err end
-    → StepsBy old (move_of old.system (get_or picks i d)) r new → EndsIn first new picks end
-pick_stops first old new picks i d r end within u is steps =
-    let v = at_pick first old picks i d within u in
-    stops first old new picks (move_of old.system (get_or picks i d)) (Picking (get_or picks i d ∷ drop (i + 1) picks))
-    (Picking (drop (i + 1) picks)) r end v is steps
-    (picked_next old v.1.told (get_or picks i d) (drop (i + 1) picks))
+  pub pick_done : {moved : Bool} → r ≡ Ok moved → GoesTo first new picks (Picking (drop (i + 1) picks))
+  pick_done {moved} is = by_move moved is
+    where
+      by_move : (moved : Bool) → r ≡ Ok moved → GoesTo first new picks (Picking (drop (i + 1) picks))
+      by_move true is = went picked_step is
+      by_move false is =
+          let v = at_pick first old picks i d within u in
+          let rest = rested old new (move_of old.system (get_or picks i d)) r is steps in
+          subst (λ (s : SleeperSeen). GoesTo first s picks (Picking (drop (i + 1) picks))) (sym rest.1) (
+            v.0,
+            at_other old picks (Picking (get_or picks i d ∷ drop (i + 1) picks)) (Picking (drop (i + 1) picks)) v.1
+                (λ m. m) (passed_next old v.1.told (get_or picks i d) (drop (i + 1) picks) rest.0),
+          )
+
+  pub pick_stops : {end : PlayEnd} → r ≡ Err end → EndsIn first new picks end
+  pick_stops is = stops picked_step is
 
 pub picks_made : (first s : SleeperSeen) (picks : List Actor) (i : ℕ) → length picks ≤ i
     → GoesTo first s picks (Picking (drop i picks)) → GoesTo first s picks Disabling
@@ -299,12 +352,12 @@ picks_made first s picks i done u =
 
 -- ---- what a loop finds
 
-pub ok_is : (r : Result Bool PlayEnd) (moved t : Bool) → r ≡ Ok moved → moved ≡ t → r ≡ Ok t
-ok_is r moved t is same = subst (λ (b : Bool). r ≡ Ok b) same is
+pub ok_is : {r : Result Bool PlayEnd} {moved t : Bool} → r ≡ Ok moved → moved ≡ t → r ≡ Ok t
+ok_is {r} {moved} {t} is same = subst (λ (b : Bool). r ≡ Ok b) same is
 
-pub no_line : (o : Option LineNo) → ((line : LineNo) → o ≡ Some line → ⊥) → o ≡ None
-no_line None none = refl
-no_line (Some line) none = absurd (none line refl)
+pub no_line : {o : Option LineNo} → ((line : LineNo) → o ≡ Some line → ⊥) → o ≡ None
+no_line {o = None} none = refl
+no_line {o = Some line} none = absurd (none line refl)
 
 pub goes_on : (a b c : SleeperSeen) (picks : List Actor) (at : Phase) → Stays a b → GoesTo b c picks at → GoesTo a c picks at
 goes_on a b c picks at stay u = (stays_on a b c stay u.0, u.1)

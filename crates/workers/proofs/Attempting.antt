@@ -1,5 +1,5 @@
 -- One try with a pass of a job.
-use Rattle.std.proofs.Common.{◌≡◌, ℕ, ◌+◌, ◌<◌, inl, inr, true, false, IsSomeAnd, Option, Some, None, Result, Ok, Err}
+use Rattle.std.proofs.Common.{◌≡◌, ℕ, ◌+◌, ◌<◌, inl, inr, true, false, IsSome, IsSomeAnd, Option, Some, None, Result, Ok, Err}
 use Rattle.std.proofs.Common.{List, length, get_or, set, slice_get, slice_set, refl, sym, ap, ◌∙◌, subst, arith}
 use Rattle.std.proofs.Math.ListN.{length-map}
 use Rattle.irq_base.specs.declared.entries.Actor.{Actor}
@@ -44,85 +44,133 @@ at_place lines j place posted less =
           = within lines (j.first + place) l at_line;
     }
 
--- what the code takes there
-module _ (lines here : List LockSeen) (j : JobSeen) (first place : ℕ) (posts : List PostSeen)
-    (a : AtPlace lines j place) (same : here ≡ lines) (from : first ≡ j.first) (are : posts ≡ j.posts) where
-  k_is : first + place ≡ j.first + place
-  k_is = omega (arith, from)
+-- when nothing was due, that is known
+rests_idle : (wanted : LineDef → List Entry → Actor → Type 0) (def : LineDef) (who : Actor) (old new : Known)
+    (tried : Result (Option Entry) StepRefused) → Tries wanted def who old tried new → rests_after tried ≡ true → IsIdle def who new
+rests_idle wanted def who old new (Ok (Some e)) t is = cc
+rests_idle wanted def who old new (Ok None) t is = t.came.0
+rests_idle wanted def who old new (Err (refusals.Full len)) t is = cc
+rests_idle wanted def who old new (Err refusals.NoMemory) t is = cc
 
-  pub in_here : first + place < length here
-  in_here = let w = a.in_lines in let e = ap (λ (ls : List LockSeen). length ls) same in omega (arith, w, e, from)
+-- what a step with a pass of the line asks for, and what it leaves: the contract of `Post::step`
+pub record CanStep (line : LockSeen) (post : PostSeen) : Type 0 where
+  pub of_line : IsPassOf line post.pass
+  pub idle : post.pass.turn ≡ false
+  pub actor : IsSome post.pass.knows.actor
+  pub known : post.rests ≡ true → (who : Actor) → post.pass.knows.actor ≡ Some who → IsIdle line.def who post.pass.knows
 
-  pub in_numbers : (numbers : List LineNo) → numbers ≡ numbers_of here → first + place < length numbers
-  in_numbers numbers is = let w = in_here in let e = ap (λ (ns : List LineNo). length ns) is in
-      let m = length-map here (λ (l : LockSeen). l.def.line) in omega (arith, w, e, m)
+pub record Stepped (wanted : LineDef → List Entry → Actor → Type 0) (line : LockSeen) (post : PostSeen)
+    (tried : Result (Option Entry) StepRefused) (after : PostSeen) : Type 0 where
+  pub of_line : IsPassOf line after.pass
+  pub idle : after.pass.turn ≡ false
+  pub actor : after.pass.knows.actor ≡ post.pass.knows.actor
+  pub rests : after.rests ≡ rests_after tried
+  pub tries : (who : Actor) → post.pass.knows.actor ≡ Some who → Tries wanted line.def who post.pass.knows tried after.pass.knows
+  pub flows : post.rests ≡ false → FlowMoves line.def post.pass.knows tried
 
-  pub line_is : (l : LockSeen) → l ≡ get_or here (first + place) l → l ≡ a.line
-  line_is l is =
-      the_same l a.line
-      (ap (λ (x : LockSeen). Some x) is ∙ (sym (there_or here (first + place) l in_here)
-      ∙ (ap (λ (ls : List LockSeen). slice_get ls (first + place)) same
-      ∙ (ap (λ (i : ℕ). slice_get lines i) k_is ∙ a.at_line))))
+-- The code's own lines, their numbers and its own job, where the job tries the pass at index `place`: they are those that contracts
+-- see, and the line and the pass at that place are these.
+pub record AtHand (lines : List LockSeen) (j : JobSeen) (place : ℕ) : Type 0 where
+  pub here : List LockSeen
+  pub numbers : List LineNo
+  pub inside : JobSeen
+  pub numbers_are : numbers ≡ numbers_of here
+  pub lines_are : here ≡ lines
+  pub job_is : inside ≡ j
+  pub at : AtPlace lines j place
 
-  pub post_is : (s : PostSeen) → s ≡ get_or posts place s → s ≡ a.post
-  post_is s is =
-      let less : place < length posts = let w = within j.posts place a.post a.at_post in
+abbrev pub at_hand : {here lines : List LockSeen} {numbers : List LineNo} {inside j : JobSeen} {place : ℕ} → numbers ≡ numbers_of here
+    → here ≡ lines → inside ≡ j → ArePosted lines j → place < length j.posts → AtHand lines j place
+at_hand {here} {lines} {numbers} {inside} {j} {place} numbers_are lines_are job_is posted less =
+    record {
+      here = here;
+      numbers = numbers;
+      inside = inside;
+      numbers_are = numbers_are;
+      lines_are = lines_are;
+      job_is = job_is;
+      at = at_place lines j place posted less;
+    }
+
+module _ {lines : List LockSeen} {j : JobSeen} {place : ℕ} (h : AtHand lines j place) where
+  k_is : h.inside.first + place ≡ j.first + place
+  k_is = ap (λ (x : JobSeen). x.first + place) h.job_is
+
+  pub in_here : h.inside.first + place < length h.here
+  in_here = let w = h.at.in_lines in let e = ap (λ (ls : List LockSeen). length ls) h.lines_are in let k = k_is in omega (arith, w, e, k)
+
+  pub in_numbers : h.inside.first + place < length h.numbers
+  in_numbers = let w = in_here in let e = ap (λ (ns : List LineNo). length ns) h.numbers_are in
+      let m = length-map h.here (λ (l : LockSeen). l.def.line) in omega (arith, w, e, m)
+
+  pub line_is : {l : LockSeen} → l ≡ get_or h.here (h.inside.first + place) l → l ≡ h.at.line
+  line_is {l} is =
+      the_same l h.at.line
+      (ap (λ (x : LockSeen). Some x) is ∙ (sym (there_or h.here (h.inside.first + place) l in_here)
+      ∙ (ap (λ (ls : List LockSeen). slice_get ls (h.inside.first + place)) h.lines_are
+      ∙ (ap (λ (i : ℕ). slice_get lines i) k_is ∙ h.at.at_line))))
+
+  pub post_is : {s : PostSeen} → s ≡ get_or h.inside.posts place s → s ≡ h.at.post
+  post_is {s} is =
+      let are = ap (λ (x : JobSeen). x.posts) h.job_is in
+      let less : place < length h.inside.posts = let w = within j.posts place h.at.post h.at.at_post in
       let e = ap (λ (ss : List PostSeen). length ss) are in omega (arith, w, e) in
-      the_same s a.post (ap (λ (x : PostSeen). Some x) is
-      ∙ (sym (there_or posts place s less) ∙ (ap (λ (ss : List PostSeen). slice_get ss place) are ∙ a.at_post)))
+      the_same s h.at.post (ap (λ (x : PostSeen). Some x) is
+      ∙ (sym (there_or h.inside.posts place s less) ∙ (ap (λ (ss : List PostSeen). slice_get ss place) are ∙ h.at.at_post)))
 
-  pub number_is : (numbers : List LineNo) (d : LineNo) → numbers ≡ numbers_of here → get_or numbers (first + place) d ≡ a.line.def.line
-  number_is numbers d are_numbers =
-      the_same (get_or numbers (first + place) d) a.line.def.line
-      (sym (there_or numbers (first + place) d (in_numbers numbers are_numbers))
-      ∙ (ap (λ (ns : List LineNo). slice_get ns (first + place)) (are_numbers ∙ ap numbers_of same)
-      ∙ (ap (λ (i : ℕ). slice_get (numbers_of lines) i) k_is ∙ at_map (λ (l : LockSeen). l.def.line) lines (j.first + place) a.line a.at_line)))
+  pub number_is : (d : LineNo) → get_or h.numbers (h.inside.first + place) d ≡ h.at.line.def.line
+  number_is d =
+      the_same (get_or h.numbers (h.inside.first + place) d) h.at.line.def.line
+      (sym (there_or h.numbers (h.inside.first + place) d in_numbers)
+      ∙ (ap (λ (ns : List LineNo). slice_get ns (h.inside.first + place)) (h.numbers_are ∙ ap numbers_of h.lines_are)
+      ∙ (ap (λ (i : ℕ). slice_get (numbers_of lines) i) k_is ∙ at_map (λ (l : LockSeen). l.def.line) lines (j.first + place) h.at.line h.at.at_line)))
+
+  -- the line and the pass, as the code has them
+  module _ {line : LockSeen} (is_line : line ≡ get_or h.here (h.inside.first + place) line) {post : PostSeen} (is_post : post ≡ get_or h.inside.posts place post) where
+    pub can_step : CanStep line post
+    can_step =
+        let p = h.at.is_post in
+        subst (λ (l : LockSeen). CanStep l post) (sym (line_is is_line)) (subst (λ (s : PostSeen). CanStep h.at.line s) (sym (post_is is_post)) (record {
+          of_line = p.of_line;
+          idle = p.idle;
+          actor = subst (λ (o : Option Actor). IsSome o) (sym p.actor) refl;
+          known = λ still who is. subst (λ (b : Actor). IsIdle h.at.line.def b h.at.post.pass.knows) (the_same j.actor who (sym p.actor ∙ is)) (p.rests still);
+        }))
+
+    pub steps_post : (wanted : LineDef → List Entry → Actor → Type 0) {tried : Result (Option Entry) StepRefused} {after : PostSeen}
+        → Stepped wanted line post tried after → (d : LineNo) → {attempt : Attempt}
+        → attempt ≡ attempt_of (get_or h.numbers (h.inside.first + place) d) tried
+        → StepsPost wanted lines place attempt j (record h.inside { posts = slice_set h.inside.posts place after })
+    steps_post wanted {tried} {after} stepped d told =
+        let a = h.at in
+        let s : Stepped wanted a.line a.post tried after = subst (λ (x : PostSeen). Stepped wanted a.line x tried after) (post_is is_post)
+        (subst (λ (l : LockSeen). Stepped wanted l post tried after) (line_is is_line) stepped) in
+        let t = s.tries j.actor a.is_post.actor in
+        record {
+          line = a.line;
+          post = a.post;
+          after = after;
+          tried = tried;
+          at_line = a.at_line;
+          at_post = a.at_post;
+          told = told ∙ ap (λ (n : LineNo). attempt_of n tried) (number_is d);
+          is = ap (λ (x : JobSeen). record x { posts = slice_set x.posts place after }) h.job_is;
+          is_post = record {
+            of_line = s.of_line;
+            idle = s.idle;
+            actor = s.actor ∙ a.is_post.actor;
+            legal = t.legal a.is_post.legal;
+            own = t.own a.is_post.own;
+            rests = λ r. rests_idle wanted a.line.def j.actor a.post.pass.knows after.pass.knows tried t (sym s.rests ∙ r);
+          };
+          tries = t;
+          rests = s.rests;
+          flows = s.flows;
+        }
+
+-- ---- what a try keeps
 
 module _ (wanted : LineDef → List Entry → Actor → Type 0) where
-  -- when nothing was due, that is known
-  rests_idle : (def : LineDef) (who : Actor) (old new : Known) (tried : Result (Option Entry) StepRefused)
-      → Tries wanted def who old tried new → rests_after tried ≡ true → IsIdle def who new
-  rests_idle def who old new (Ok (Some e)) t is = cc
-  rests_idle def who old new (Ok None) t is = t.came.0
-  rests_idle def who old new (Err (refusals.Full len)) t is = cc
-  rests_idle def who old new (Err refusals.NoMemory) t is = cc
-
-  pub steps_post : (lines : List LockSeen) (j now : JobSeen) (place : ℕ) (a : AtPlace lines j place) (number : LineNo)
-      (attempt : Attempt) (tried : Result (Option Entry) StepRefused) (after : PostSeen)
-      → attempt ≡ attempt_of number tried → number ≡ a.line.def.line → now ≡ record j { posts = slice_set j.posts place after }
-      → IsPassOf a.line after.pass → after.pass.turn ≡ false → after.pass.knows.actor ≡ a.post.pass.knows.actor
-      → after.rests ≡ rests_after tried
-      → ((who : Actor) → a.post.pass.knows.actor ≡ Some who
-      → Tries wanted a.line.def who a.post.pass.knows tried after.pass.knows)
-      → (a.post.rests ≡ false → FlowMoves a.line.def a.post.pass.knows tried) → StepsPost wanted lines place attempt j now
-  steps_post lines j now place a number attempt tried after told its is of_line idle actor rests tries flows =
-      let t = tries j.actor a.is_post.actor in
-      record {
-        line = a.line;
-        post = a.post;
-        after = after;
-        tried = tried;
-        at_line = a.at_line;
-        at_post = a.at_post;
-        told = told ∙ ap (λ (n : LineNo). attempt_of n tried) its;
-        is = is;
-        is_post = record {
-          of_line = of_line;
-          idle = idle;
-          actor = actor
-              ∙ a.is_post.actor;
-          legal = t.legal a.is_post.legal;
-          own = t.own a.is_post.own;
-          rests = λ h. rests_idle a.line.def j.actor a.post.pass.knows after.pass.knows tried t
-              (sym rests ∙ h);
-        };
-        tries = t;
-        rests = rests;
-        flows = flows;
-      }
-
-  -- ---- what a try keeps
-
   pub still_posted : (lines : List LockSeen) (place : ℕ) (attempt : Attempt) (old new : JobSeen) → ArePosted lines old
       → StepsPost wanted lines place attempt old new → ArePosted lines new
   still_posted lines place attempt old new posted s =

@@ -46,7 +46,8 @@ same_defs (s ∷ ss) (l ∷ ls) long each =
     ap (λ (d : LineDef). d ∷ map (λ (x : BoardLine). x.def) (own_lines ss)) (each 0 s refl)
     ∙ ap (λ (ds : List LineDef). l.def ∷ ds) (same_defs ss ls (omega (arith, long)) (λ i t at. each (suc i) t at))
 
-module _ (board : BoardSeen) (lines : List LockSeen) (boards : AreBoards board lines) (r : DriverNo) (j : JobSeen) (d : IsDriven board lines r j) where
+-- the driver's job, with the board's lines
+module _ {board : BoardSeen} {lines : List LockSeen} (boards : AreBoards board lines) {r : DriverNo} {j : JobSeen} (d : IsDriven board lines r j) where
   k_is : (i : ℕ) → j.first + i ≡ i
   k_is i = let z = d.first in omega (arith, z)
 
@@ -72,10 +73,10 @@ module _ (board : BoardSeen) (lines : List LockSeen) (boards : AreBoards board l
       by_line s is (Some l) at_line is_post = (l, at_line, ap (λ (y : BoardLine). y.def) (sym is) ∙ is_post.of_line.1)
 
   -- the driver goes to its next call
-  pub next_driven : (q : ℕ) (now : JobSeen) → now ≡ record j { at = q } → j.at ≤ q → q ≤ length board.calls
+  pub next_driven : (q : ℕ) {now : JobSeen} → now ≡ record j { at = q } → j.at ≤ q → q ≤ length board.calls
       → ((k : ℕ) (c : ScriptCall) → j.at ≤ k → k < q → slice_get board.calls k ≡ Some c → c.driver ≡ r
       → IsPlaceOf lines c.line None) → IsDriven board lines r now
-  next_driven q now is from few passed =
+  next_driven q {now} is from few passed =
       subst (λ (x : JobSeen). IsDriven board lines r x) (sym is)
       (record {
         actor = d.actor;
@@ -88,9 +89,9 @@ module _ (board : BoardSeen) (lines : List LockSeen) (boards : AreBoards board l
 
   -- ---- a try at the current call
 
-  module _ (isb : IsBoard board) (c : ScriptCall) (at_p : slice_get board.calls j.at ≡ Some c) (mine : c.driver ≡ r)
-      (place : ℕ) (place_is : IsPlaceOf lines c.line (Some place)) (wanted : LineDef → List Entry → Actor → Type 0)
-      (attempt : Attempt) (mid : JobSeen) (s : StepsPost wanted lines place attempt j mid) where
+  module _ (isb : IsBoard board) {c : ScriptCall} (at_p : slice_get board.calls j.at ≡ Some c) (mine : c.driver ≡ r)
+      {place : ℕ} (place_is : IsPlaceOf lines c.line (Some place)) {wanted : LineDef → List Entry → Actor → Type 0}
+      {attempt : Attempt} {mid : JobSeen} (s : StepsPost wanted lines place attempt j mid) where
     line_is : s.line.def.line ≡ c.line
     line_is = subst (λ (o : Option LockSeen). IsSomeAnd o (λ l. l.def.line ≡ c.line))
         (ap (λ (n : ℕ). slice_get lines n) (sym (k_is place)) ∙ s.at_line) place_is
@@ -163,9 +164,9 @@ module _ (board : BoardSeen) (lines : List LockSeen) (boards : AreBoards board l
                   (subst (λ (a : Actor). IsIdle s.line.def a s.after.pass.knows) d.actor idle);
             }
 
-    pub driver_moved : (e : Entry) → attempt ≡ attempts.Moved e → (last : Bool) → completes c.call e ≡ last → (new : JobSeen)
+    pub driver_moved : {e : Entry} → attempt ≡ attempts.Moved e → {last : Bool} → completes c.call e ≡ last → {new : JobSeen}
         → new ≡ record mid { at = cond last (mid.at + 1) mid.at } → AttemptsDriver wanted board lines r (attempts.Moved e) j new
-    driver_moved e is last is_l new now =
+    driver_moved {e} is {last} is_l {new} now =
         record {
           keeps = subst (λ (x : JobSeen). KeepsPosts lines j x) (sym now) (same_posts (keeps_posts wanted lines place attempt j mid d.posted s));
           up_to = subst (λ (x : JobSeen). IsUpTo board.calls (own_lines x.posts) r x.at) (sym now)
@@ -210,14 +211,15 @@ module _ (board : BoardSeen) (lines : List LockSeen) (boards : AreBoards board l
 
 -- ---- a whole attempt
 
-module _ (board : BoardSeen) (lines : List LockSeen) (boards : AreBoards board lines) (r : DriverNo) (j now : JobSeen)
-    (d : IsDriven board lines r j) (q : ℕ) (is : now ≡ record j { at = q }) (wanted : LineDef → List Entry → Actor → Type 0) where
+-- the driver's job, gone to its next call
+module _ {board : BoardSeen} {lines : List LockSeen} {r : DriverNo} {j : JobSeen} (d : IsDriven board lines r j)
+    (q : ℕ) {now : JobSeen} (is : now ≡ record j { at = q }) where
   same_posts : KeepsPosts lines j now
   same_posts = subst (λ (x : JobSeen). KeepsPosts lines j x) (sym is)
       (record { actor = refl; first = refl; as_many = refl; posted = d.posted; grew = posts_self j.posts })
 
-  pub driver_done : IsDriven board lines r now → slice_get board.calls q ≡ None → AttemptsDriver wanted board lines r attempts.NotYet j now
-  driver_done e none =
+  pub driver_done : (wanted : LineDef → List Entry → Actor → Type 0) → IsDriven board lines r now → slice_get board.calls q ≡ None → AttemptsDriver wanted board lines r attempts.NotYet j now
+  driver_done wanted e none =
       record {
         keeps = same_posts;
         up_to = e.up_to;
@@ -232,9 +234,9 @@ module _ (board : BoardSeen) (lines : List LockSeen) (boards : AreBoards board l
       nothing_there (c ∷ cs) zero at = cc
       nothing_there (c ∷ cs) (suc k) at = let n = nothing_there cs k at in omega (arith, n)
 
-  pub driver_attempted : (attempt : Attempt) (new : JobSeen) (s : DriverNo) → s ≡ r
+  pub driver_attempted : {wanted : LineDef → List Entry → Actor → Type 0} {attempt : Attempt} {new : JobSeen} {s : DriverNo} → s ≡ r
       → AttemptsDriver wanted board lines s attempt now new → AttemptsDriver wanted board lines r attempt j new
-  driver_attempted attempt new s same t =
+  driver_attempted {wanted} {attempt} {new} same t =
       subst (λ (x : DriverNo). AttemptsDriver wanted board lines x attempt j new) same
       (record {
         keeps = keeps_on lines j now new same_posts t.keeps;

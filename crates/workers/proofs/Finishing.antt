@@ -56,8 +56,8 @@ pub none_finished : (all left : List PassSeen) → left ≡ reverse all → AreF
 none_finished all left is =
     record { done = []; split = sym (ap reverse is ∙ reverse-reverse all); count = refl; are = refl; sound = λ i x at. cc }
 
-module _ (all : List PassSeen) (n : ℕ) (left before : List PassSeen) (lines : List LineSeen) (p : PassSeen)
-    (f : AreFinishing all n left lines) (popped : left ≡ before ++ p ∷ []) where
+module _ {all : List PassSeen} {n : ℕ} {left : List PassSeen} {lines : List LineSeen} (f : AreFinishing all n left lines)
+    (before : List PassSeen) (p : PassSeen) (popped : left ≡ before ++ p ∷ []) where
   next : all ≡ f.done ++ p ∷ reverse before
   next = f.split ∙ ap (λ (ps : List PassSeen). f.done ++ ps) (ap reverse popped ∙ reverse-append before (p ∷ []))
 
@@ -69,9 +69,9 @@ module _ (all : List PassSeen) (n : ℕ) (left before : List PassSeen) (lines : 
       behind [] y ys = refl
       behind (x ∷ xs) y ys = behind xs y ys
 
-  pub finished_more : (x : LineSeen) (more : List LineSeen) → more ≡ lines ++ x ∷ [] → x.def ≡ p.def
+  pub finished_more : {x : LineSeen} {more : List LineSeen} → more ≡ lines ++ x ∷ [] → x.def ≡ p.def
       → x.entries ≡ p.knows.seen → IsSound x → AreFinishing all (n + 1) before more
-  finished_more x more is def entries sound =
+  finished_more {x} {more} is def entries sound =
       record {
         done = f.done ++ p ∷ [];
         split = next ∙ sym (append_assoc f.done (p ∷ []) (reverse before));
@@ -89,9 +89,9 @@ module _ (all : List PassSeen) (n : ℕ) (left before : List PassSeen) (lines : 
       each : AreSound (lines ++ x ∷ [])
       each i y at = elim (at_snoc lines x i y at) [ inl old ↦ f.sound i y old | inr new ↦ subst IsSound new.1 sound ]
 
-pub final_here : (lines : List LockSeen) (firsts : List PassSeen) (n : ℕ) (p : PassSeen) (l : LockSeen)
+pub final_here : {lines : List LockSeen} {firsts : List PassSeen} {n : ℕ} {p : PassSeen} {l : LockSeen}
     → AreFinal lines firsts → slice_get firsts n ≡ Some p → n < length lines → l ≡ get_or lines n l → IsFinal l p
-final_here lines firsts n p l are at less is =
+final_here {lines} {firsts} {n} {p} {l} are at less is =
     subst (λ (o : Option LockSeen). IsSomeAnd o (λ l. IsFinal l p)) (there_or lines n l less ∙ ap (λ (x : LockSeen). Some x) (sym is)) (are.each n p at)
 
 -- a line is left, so a pass is
@@ -313,42 +313,40 @@ module _ (s : JobsSeen) (firsts : List PassSeen) (lines : List LineSeen) (are : 
 
 -- ---- the same, as the code has it
 
-pub home_at : (lines here : List LockSeen) (s : JobsSeen) (firsts : List PassSeen) → here ≡ lines → firsts ≡ s.firsts → Fit lines s → AreHome here firsts
-home_at lines here s firsts same are fit = subst (λ (ls : List LockSeen). AreHome ls firsts) (sym same)
-    (subst (λ (ps : List PassSeen). AreHome lines ps) (sym are) (are_home lines s fit))
+-- lines and jobs that fit, taken apart: the lines are at hand as the slice `here`, the jobs as their parts
+pub record TakenApart (lines here : List LockSeen) (inside s : JobsSeen) : Type 0 where
+  pub fit : Fit lines s
+  pub lines_are : here ≡ lines
+  pub jobs_are : inside ≡ s
 
-pub gathered : (lines here : List LockSeen) (s : JobsSeen) (jobs : List JobSeen) (firsts new : List PassSeen)
-    → here ≡ lines → jobs ≡ s.jobs → firsts ≡ s.firsts → Fit lines s
-    → ((board : BoardSeen) → Gathers board here jobs firsts → Gathers board here [] new) → Gathers s.board here [] new
-gathered lines here s jobs firsts new same are_jobs are fit on =
-    on s.board
-    (subst (λ (ls : List LockSeen). Gathers s.board ls jobs firsts) (sym same)
-    (subst (λ (js : List JobSeen). Gathers s.board lines js firsts) (sym are_jobs)
-    (subst (λ (ps : List PassSeen). Gathers s.board lines s.jobs ps) (sym are) (gathers_first lines s fit))))
+module _ {lines here : List LockSeen} {inside s : JobsSeen} (t : TakenApart lines here inside s) where
+  pub home_at : AreHome here inside.firsts
+  home_at = subst (λ (ls : List LockSeen). AreHome ls inside.firsts) (sym t.lines_are)
+      (subst (λ (x : JobsSeen). AreHome lines x.firsts) (sym t.jobs_are) (are_home lines s t.fit))
 
-pub kept_result : {A E : Type 0} (f : A → List LineSeen) (r : Result A E) (board : BoardSeen)
-    (lines here : List LockSeen) (firsts : List PassSeen) → IsBoard board → here ≡ lines
-    → map (λ (l : LockSeen). l.def) lines ≡ defs_of board → AreHome here firsts → Gathers board here [] firsts
-    → IfOk r (λ all. board_lines (f all) ≡ seen_lines firsts) → IfOk r (λ all. AreSound (f all)) → IfOk r (λ all. AreKept board (board_lines (f all)))
-kept_result f (Ok all) board lines here firsts isb same defs home g are sound
-    = are_kept board here firsts (f all) isb (ap (map (λ (l : LockSeen). l.def)) same ∙ defs) home g are sound
-kept_result f (Err e) board lines here firsts isb same defs home g are sound = tt
+  gathers_at : Gathers s.board here inside.jobs inside.firsts
+  gathers_at = subst (λ (ls : List LockSeen). Gathers s.board ls inside.jobs inside.firsts) (sym t.lines_are)
+      (subst (λ (x : JobsSeen). Gathers s.board lines x.jobs x.firsts) (sym t.jobs_are) (gathers_first lines s t.fit))
 
-pub back_of : (lines here : List LockSeen) (s : JobsSeen) (jobs : List JobSeen) (firsts new : List PassSeen)
-    → here ≡ lines → jobs ≡ s.jobs → firsts ≡ s.firsts → Fit lines s
-    → ((board : BoardSeen) → Gathers board here jobs firsts → AreBack board jobs firsts new) → AreBack s.board s.jobs s.firsts new
-back_of lines here s jobs firsts new same are_jobs are fit on =
-    subst (λ (ps : List PassSeen). AreBack s.board s.jobs ps new) are
-    (subst (λ (js : List JobSeen). AreBack s.board js firsts new) are_jobs
-    (on s.board
-    (subst (λ (ls : List LockSeen). Gathers s.board ls jobs firsts) (sym same)
-    (subst (λ (js : List JobSeen). Gathers s.board lines js firsts) (sym are_jobs)
-    (subst (λ (ps : List PassSeen). Gathers s.board lines s.jobs ps) (sym are) (gathers_first lines s fit))))))
+  -- the first passes `new` have met all passes
+  module _ {new : List PassSeen} where
+    pub gathered : ((board : BoardSeen) → Gathers board here inside.jobs inside.firsts → Gathers board here [] new) → Gathers s.board here [] new
+    gathered on = on s.board gathers_at
 
-pub gathered_result : {A E : Type 0} (f : A → List LineSeen) (r : Result A E) (lines here : List LockSeen) (s : JobsSeen)
-    (firsts : List PassSeen) → here ≡ lines → Fit lines s → AreHome here firsts → AreBack s.board s.jobs s.firsts firsts
-    → IfOk r (λ all. board_lines (f all) ≡ seen_lines firsts) → IfOk r (λ all. AreGathered s (f all))
-gathered_result f (Ok all) lines here s firsts same fit home back are =
-    are_gathered s firsts (f all) are back
-    (fit.firsts.as_many ∙ (ap (λ (ls : List LockSeen). length ls) (sym same) ∙ sym home.as_many))
-gathered_result f (Err e) lines here s firsts same fit home back are = tt
+    pub back_of : ((board : BoardSeen) → Gathers board here inside.jobs inside.firsts → AreBack board inside.jobs inside.firsts new)
+        → AreBack s.board s.jobs s.firsts new
+    back_of on = subst (λ (x : JobsSeen). AreBack s.board x.jobs x.firsts new) t.jobs_are (on s.board gathers_at)
+
+    pub kept_result : {A E : Type 0} (f : A → List LineSeen) (r : Result A E) → IsBoard inside.board → AreHome here new → Gathers s.board here [] new
+        → IfOk r (λ all. board_lines (f all) ≡ seen_lines new) → IfOk r (λ all. AreSound (f all)) → IfOk r (λ all. AreKept s.board (board_lines (f all)))
+    kept_result f (Ok all) isb home g are sound =
+        are_kept s.board here new (f all) (subst (λ (x : JobsSeen). IsBoard x.board) t.jobs_are isb)
+        (ap (map (λ (l : LockSeen). l.def)) t.lines_are ∙ t.fit.defs) home g are sound
+    kept_result f (Err e) isb home g are sound = tt
+
+    pub gathered_result : {A E : Type 0} (f : A → List LineSeen) (r : Result A E) → AreHome here new → AreBack s.board s.jobs s.firsts new
+        → IfOk r (λ all. board_lines (f all) ≡ seen_lines new) → IfOk r (λ all. AreGathered s (f all))
+    gathered_result f (Ok all) home back are =
+        are_gathered s new (f all) are back
+        (t.fit.firsts.as_many ∙ (ap (λ (ls : List LockSeen). length ls) (sym t.lines_are) ∙ sym home.as_many))
+    gathered_result f (Err e) home back are = tt

@@ -413,49 +413,62 @@ module _ (wanted : LineDef → List Entry → Actor → Type 0) (s : JobsSeen) (
 
 -- ---- one shift, as the code has it
 
-module _ (wanted : LineDef → List Entry → Actor → Type 0) (lines : List LockSeen) (s : JobsSeen) (fit : Fit lines s) (board : BoardSeen)
-    (jobs here new after : List JobSeen) (firsts : List PassSeen)
-    (is : record { board = board; jobs = jobs; firsts = firsts } ≡ s) (same : here ≡ jobs) where
-  here_is : here ≡ s.jobs
-  here_is = same ∙ ap (λ (x : JobsSeen). x.jobs) is
+-- A shift of all jobs: the board and the first passes stay, and each job works.
+pub record OneShift (wanted : LineDef → List Entry → Actor → Type 0) (lines : List LockSeen) (old new : JobsSeen) : Type 0 where
+  pub fit : Fit lines old
+  pub board : new.board ≡ old.board
+  pub firsts : new.firsts ≡ old.firsts
+  pub as_many : length new.jobs ≡ length old.jobs
+  pub keeps : KeepsJobs wanted old.board lines old.jobs new.jobs
 
-  pub shift_may : All (IsJob board lines) here
+-- the code's own jobs, board and first passes, `inside`, where a shift begins, and the slice of the jobs, `here`
+module _ {lines : List LockSeen} {inside old : JobsSeen} (fit : Fit lines old) (is : inside ≡ old)
+    {here : List JobSeen} (here_is : here ≡ inside.jobs) where
+  jobs_are : here ≡ old.jobs
+  jobs_are = here_is ∙ ap (λ (x : JobsSeen). x.jobs) is
+
+  pub shift_may : All (IsJob inside.board lines) here
   shift_may = subst (λ (b : BoardSeen). All (IsJob b lines) here) (ap (λ (x : JobsSeen). x.board) (sym is))
-      (subst (λ (js : List JobSeen). All (IsJob s.board lines) js) (sym here_is) (all_jobs lines s fit))
+      (subst (λ (js : List JobSeen). All (IsJob old.board lines) js) (sym jobs_are) (all_jobs lines old fit))
 
-  module _ (long : length new ≡ length here) (keeps : KeepsJobs wanted board lines here new) (back : after ≡ new) where
-    keeps_s : KeepsJobs wanted s.board lines s.jobs after
-    keeps_s =
-        subst (λ (js : List JobSeen). KeepsJobs wanted s.board lines s.jobs js) (sym back)
-        (subst (λ (js : List JobSeen). KeepsJobs wanted s.board lines js new) here_is
-        (subst (λ (b : BoardSeen). KeepsJobs wanted b lines here new) (ap (λ (x : JobsSeen). x.board) is) keeps))
+  -- the jobs `new` that it leaves, once they stand in the list again
+  pub one_shift : (wanted : LineDef → List Entry → Actor → Type 0) {new after : List JobSeen} → length new ≡ length here
+      → KeepsJobs wanted inside.board lines here new → after ≡ new → OneShift wanted lines old (record inside { jobs = after })
+  one_shift wanted {new} {after} long keeps back =
+      record {
+        fit = fit;
+        board = ap (λ (x : JobsSeen). x.board) is;
+        firsts = ap (λ (x : JobsSeen). x.firsts) is;
+        as_many = ap (λ (js : List JobSeen). length js) back ∙ (long ∙ ap (λ (js : List JobSeen). length js) jobs_are);
+        keeps = subst (λ (js : List JobSeen). KeepsJobs wanted old.board lines old.jobs js) (sym back)
+            (subst (λ (js : List JobSeen). KeepsJobs wanted old.board lines js new) jobs_are
+            (subst (λ (b : BoardSeen). KeepsJobs wanted b lines here new) (ap (λ (x : JobsSeen). x.board) is) keeps));
+      }
 
-    long_s : length after ≡ length s.jobs
-    long_s = ap (λ (js : List JobSeen). length js) back ∙ (long ∙ ap (λ (js : List JobSeen). length js) here_is)
+module _ {wanted : LineDef → List Entry → Actor → Type 0} {lines : List LockSeen} {old new : JobsSeen} (s : OneShift wanted lines old new) where
+  pub shift_fit : Fit lines new
+  shift_fit = still_fit wanted lines old new s.fit s.board s.firsts s.as_many s.keeps
 
-    pub shift_fit : Fit lines (record { board = board; jobs = after; firsts = firsts })
-    shift_fit = still_fit wanted lines s (record { board = board; jobs = after; firsts = firsts }) fit
-        (ap (λ (x : JobsSeen). x.board) is) (ap (λ (x : JobsSeen). x.firsts) is) long_s keeps_s
+  pub shift_ended : EachEndedSo wanted new
+  shift_ended i j at = subst (λ (b : BoardSeen). EndIsSo wanted b j j.end) (sym s.board)
+      (ended_after wanted lines old.board old.jobs new.jobs s.as_many s.keeps i j at)
 
-    pub shift_ended : EachEndedSo wanted (record { board = board; jobs = after; firsts = firsts })
-    shift_ended i j at = subst (λ (b : BoardSeen). EndIsSo wanted b j j.end) (ap (λ (x : JobsSeen). x.board) (sym is))
-        (ended_after wanted lines s.board s.jobs after long_s keeps_s i j at)
+  pub shift_room : room_of_jobs new.jobs ≤ room_of_jobs old.jobs
+  shift_room = all_no_more old.jobs new.jobs s.as_many (λ k d less. (s.keeps k d less).room)
 
-    pub shift_room : room_of_jobs after ≤ room_of_jobs s.jobs
-    shift_room = all_no_more s.jobs after long_s (λ k d less. (keeps_s k d less).room)
+  pub shift_busy : SumsUp new.jobs (length new.jobs) part_ends.Busy → room_of_jobs new.jobs < room_of_jobs old.jobs
+  shift_busy f = some_less old.jobs new.jobs f.0.place f.0.job s.as_many (λ k d less. (s.keeps k d less).room) f.0.at f.0.is
 
-    pub shift_busy : SumsUp after (length after) part_ends.Busy → room_of_jobs after < room_of_jobs s.jobs
-    shift_busy f = some_less s.jobs after f.0.place f.0.job long_s (λ k d less. (keeps_s k d less).room) f.0.at f.0.is
+  pub shift_grew : JobsGrow old.jobs new.jobs
+  shift_grew = jobs_grew old.jobs new.jobs s.as_many (λ k d less. let v = (s.keeps k d less).works in
+      record { actor = v.actor; first = v.first; as_many = v.as_many; posts = v.grew })
 
-    pub shift_grew : JobsGrow s.jobs after
-    shift_grew = jobs_grew s.jobs after long_s (λ k d less. let v = (keeps_s k d less).works in
-        record { actor = v.actor; first = v.first; as_many = v.as_many; posts = v.grew })
-
-    pub shift_idle : SumsUp after (length after) part_ends.Idle → MadeNone s.jobs after
-    shift_idle all k d less =
-        let here : k < length after = omega (arith, less, long_s) in
-        (subst (λ (l : PartEnd). RoomAfterPart l (get_or s.jobs k d) (get_or after k d))
-        (all k (get_or after k d) here (there_or after k d here)) (keeps_s k d less).room).1
+  pub shift_idle : SumsUp new.jobs (length new.jobs) part_ends.Idle → MadeNone old.jobs new.jobs
+  shift_idle all k d less =
+      let n = s.as_many in
+      let here : k < length new.jobs = omega (arith, less, n) in
+      (subst (λ (l : PartEnd). RoomAfterPart l (get_or old.jobs k d) (get_or new.jobs k d))
+      (all k (get_or new.jobs k d) here (there_or new.jobs k d here)) (s.keeps k d less).room).1
 
 pub whole_again : {A : Type 0} (n : ℕ) (xs ys : List A) → n ≡ length xs → take n (xs ++ drop (length xs) ys) ≡ xs
 whole_again n xs ys is = ap (λ (k : ℕ). take k (xs ++ drop (length xs) ys)) is ∙ front xs (drop (length xs) ys)

@@ -5,11 +5,7 @@ pub loop-pick-init : goal.loop-pick-init
 loop-pick-init g c = first_pick c.args.self.now c.args.picks.now c.requires
 
 pub returns-in-Err-clause-ends : goal.returns-in-Err-clause-ends
-returns-in-Err-clause-ends g c =
-    pick_stops c.args.self.now c.loop-pick.self c.step.new.self c.args.picks.now c.loop-pick.pick-index _ c.step.result
-    c.in-Err.end c.loop-pick-test.true c.loop-pick.invariant c.in-Err.is c.step.ensures
+returns-in-Err-clause-ends g c = pick_stops _ c.loop-pick-test.true c.loop-pick.invariant c.step.ensures c.in-Err.is
 
 pub loop-pick-preserved : goal.loop-pick-preserved
-loop-pick-preserved g c =
-    pick_done c.args.self.now c.loop-pick.self c.step.new.self c.args.picks.now c.loop-pick.pick-index _ c.step.result
-    c.in-Ok.field-0 c.loop-pick-test.true c.loop-pick.invariant c.in-Ok.is c.step.ensures
+loop-pick-preserved g c = pick_done _ c.loop-pick-test.true c.loop-pick.invariant c.step.ensures c.in-Ok.is

@@ -1,43 +1,34 @@
-use Rattle.std.proofs.Common.{true, false, sym, ap, ◌∙◌}
-use Rattle.board_play.specs.Play.{or_move}
+use Rattle.std.proofs.Common.{◌≡◌, None, sym, ap, ◌∙◌}
 use Rattle.irq_pm.specs.Phases.{Asleep}
 use Rattle.irq_sleeper.specs.Seen.{SleeperSeen}
-use Rattle.irq_sleeper.specs.Steps.{inner_of, ask_of}
-use Rattle.irq_sleeper.proofs.Phased.{ok_is, no_line, sleeping_next, falls, stops, went, wakes_by_line, wakes_by_none}
+use Rattle.irq_sleeper.proofs.Phased.{SleepStep, sleeping_step, ok_is, no_line, falls, stops, went, wakes_by_line, wakes_by_none}
+use Rattle.irq_sleeper.proofs.sleeper.Sleeper.sleep.Given as given
 use Rattle.irq_sleeper.proofs.sleeper.Sleeper.sleep.Goals as goal
+use Rattle.irq_sleeper.proofs.sleeper.Sleeper.sleep.Goals.{After-step_asleep}
+
+-- no line has woken the machine before the loop's step
+not_woken : (g : given.Over) (c : After-step_asleep g) → c.loop-line.self.watch.woken ≡ None
+not_woken g c = sym (ap (λ (s : SleeperSeen). s.watch.woken) c.self.view_is) ∙ (sym c.woken.ensures ∙ no_line c.in_default.not-Some)
+
+-- the loop's step
+step : (g : given.Over) (c : After-step_asleep g)
+    → SleepStep c.args.self.now c.loop-line.self c.step_asleep.new.self c.args.picks.now Asleep Asleep c.step_asleep.result
+step g c = sleeping_step c.loop-line.invariant (not_woken g c) c.step_asleep.ensures
 
 pub returns-in-Some-clause-goes : goal.returns-in-Some-clause-goes
 returns-in-Some-clause-goes g c =
-    wakes_by_line c.args.self.now c.loop-line.self c.wake_by.new.self c.args.picks.now c.in-Some.line c.loop-line.invariant
-    (sym (ap (λ (s : SleeperSeen). s.watch.woken) c.self.view_is) ∙ (sym c.woken.ensures ∙ c.in-Some.is)) c.wake_by.ensures
+    wakes_by_line c.loop-line.invariant (sym (ap (λ (s : SleeperSeen). s.watch.woken) c.self.view_is) ∙ (sym c.woken.ensures ∙ c.in-Some.is)) c.wake_by.ensures
 
 pub loop-line-smaller : goal.loop-line-smaller
-loop-line-smaller g c =
-    falls c.loop-line.self c.step_asleep.new.self (or_move (inner_of c.loop-line.self.system) (ask_of c.loop-line.self.system)) c.step_asleep.result
-    (ok_is c.step_asleep.result c.in-Ok-true.field-0 true c.in-Ok-true.is c.in-Ok-true.field-0-test) c.step_asleep.ensures
+loop-line-smaller g c = falls (step g (goal.at.loop-line-smaller g c).After-step_asleep) (ok_is c.in-Ok-true.is c.in-Ok-true.field-0-test)
 
 pub loop-line-preserved : goal.loop-line-preserved
-loop-line-preserved g c =
-    went c.args.self.now c.loop-line.self c.step_asleep.new.self c.args.picks.now
-    (or_move (inner_of c.loop-line.self.system) (ask_of c.loop-line.self.system)) Asleep Asleep c.step_asleep.result
-    c.loop-line.invariant (ok_is c.step_asleep.result c.in-Ok-true.field-0 true c.in-Ok-true.is c.in-Ok-true.field-0-test) c.step_asleep.ensures
-    (sleeping_next c.loop-line.self c.loop-line.invariant.1.told c.loop-line.invariant.1.watch.woken
-    (sym (ap (λ (s : SleeperSeen). s.watch.woken) c.self.view_is)
-    ∙ (sym c.woken.ensures ∙ no_line c.woken.result c.in_default.not-Some))) (λ m. m)
+loop-line-preserved g c = went (step g (goal.at.loop-line-preserved g c).After-step_asleep) (ok_is c.in-Ok-true.is c.in-Ok-true.field-0-test)
 
 pub returns-in-Ok-false-clause-goes : goal.returns-in-Ok-false-clause-goes
 returns-in-Ok-false-clause-goes g c =
-    wakes_by_none c.args.self.now c.loop-line.self c.step_asleep.new.self c.wake_by-in-Ok-false.new.self
-    c.args.picks.now c.step_asleep.result c.loop-line.invariant
-    (sym (ap (λ (s : SleeperSeen). s.watch.woken) c.self.view_is)
-    ∙ (sym c.woken.ensures ∙ no_line c.woken.result c.in_default.not-Some))
-    (ok_is c.step_asleep.result c.in-Ok-false.field-0 false c.in-Ok-false.is c.in-Ok-false.field-0-test) c.step_asleep.ensures c.wake_by-in-Ok-false.ensures
+    wakes_by_none c.step_asleep.new.self c.loop-line.invariant (not_woken g (goal.at.returns-in-Ok-false-clause-goes g c).After-step_asleep)
+    (ok_is c.in-Ok-false.is c.in-Ok-false.field-0-test) c.step_asleep.ensures c.wake_by-in-Ok-false.ensures
 
 pub returns-in-Err-clause-ends : goal.returns-in-Err-clause-ends
-returns-in-Err-clause-ends g c =
-    stops c.args.self.now c.loop-line.self c.step_asleep.new.self c.args.picks.now
-    (or_move (inner_of c.loop-line.self.system) (ask_of c.loop-line.self.system)) Asleep Asleep c.step_asleep.result
-    c.in-Err.end c.loop-line.invariant c.in-Err.is c.step_asleep.ensures
-    (sleeping_next c.loop-line.self c.loop-line.invariant.1.told c.loop-line.invariant.1.watch.woken
-    (sym (ap (λ (s : SleeperSeen). s.watch.woken) c.self.view_is)
-    ∙ (sym c.woken.ensures ∙ no_line c.woken.result c.in_default.not-Some)))
+returns-in-Err-clause-ends g c = stops (step g (goal.at.returns-in-Err-clause-ends g c).After-step_asleep) c.in-Err.is
