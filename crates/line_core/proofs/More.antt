@@ -1,5 +1,5 @@
 -- One more due entry keeps what holds of a line.
-use Rattle.std.proofs.Common.{◌≡◌, ℕ, ◌+◌, ◌<◌, ◌≤◌, Bool, true, false, cond, is_some, Option, Some, None, List, []}
+use Rattle.std.proofs.Common.{◌≡◌, ℕ, ◌+◌, ◌<◌, ◌≤◌, Bool, true, false, cond, is_some, option_map, Option, Some, None, List, []}
 use Rattle.std.proofs.Common.{◌∷◌, ◌++◌, length, slice_get, reverse, refl, sym, ap, subst, ◌∙◌, arith}
 use Rattle.std.proofs.lemmas.List.{length-append, length-reverse, reverse-append}
 use Rattle.std.proofs.lemmas.Option.{none-some}
@@ -11,6 +11,7 @@ use Rattle.irq_base.specs.declared.entries.Actor.TheVariants as actors
 use Rattle.irq_base.specs.declared.entries.Entry.{Entry}
 use Rattle.irq_base.specs.declared.entries.Entry.TheVariants as entries
 use Rattle.irq_base.specs.declared.lines.LineDef.{LineDef}
+use Rattle.irq_base.specs.declared.numbers.DevNo.{DevNo}
 use Rattle.irq_base.specs.declared.numbers.DriverNo.{DriverNo}
 use Rattle.irq_base.specs.declared.numbers.LineNo.{LineNo}
 use Rattle.irq_laws.proofs.OwnLaws.{due_is_own}
@@ -184,6 +185,10 @@ module _ (def : LineDef) (h : List Entry) (s : StateSeen) (scripts after : List 
 
 -- ---- what the state's functions ask for
 
+without_count : (o : Option Call) (n : ℕ) → option_map (λ (x : Call × ℕ). x.0) (with_count o n) ≡ o
+without_count None n = refl
+without_count (Some c) n = refl
+
 -- the state and the drivers' places that stand beside a history
 pub record Beside (def : LineDef) (h : List Entry) : Type 0 where
   pub state : StateSeen
@@ -208,6 +213,28 @@ module _ (def : LineDef) (h : List Entry) (b : Beside def h) where
 
   pub line_can_move : (a : Actor) (e : Entry) → next def h a ≡ Some e → CanMove a b.scripts
   line_can_move a e due = can_move def h b.state b.scripts b.scripts e b.is a due
+
+  -- the driver's due call, by the history and by the driver's place
+  pub due_call_is : (r : DriverNo) → due_call def r (reverse h) ≡ due_call_in b.scripts r
+  due_call_is r = call_is def (reverse h) b.scripts b.is.calls b.is.at r
+
+  pub call_there : (r : DriverNo) (c : Call) → option_map (λ (x : Call × ℕ). x.0) (due_call def r (reverse h)) ≡ Some c → call_of b.scripts r ≡ Some c
+  call_there r c told =
+      sym (without_count (call_of b.scripts r) (within_of b.scripts r))
+      ∙ (ap (option_map (λ (x : Call × ℕ). x.0)) (sym (due_call_is r)) ∙ told)
+
+  -- an ask is due if it is the driver's due call
+  pub ask_due : (r : DriverNo) (d : DevNo) → call_of b.scripts r ≡ Some (calls.Ask d) → next def h (actors.Driver r) ≡ Some (entries.Ask r d)
+  ask_due r d there =
+      ap (next_of_call def r (reverse h))
+      (due_call_is r ∙ ap (λ (o : Option Call). with_count o (within_of b.scripts r)) there)
+
+-- ---- a driver whose place moves
+
+-- the entry of this call, which is due, was counted
+pub moves_by : (r : DriverNo) (c : Call) (e : Entry) (old new : List (DriverNo × RowSeen)) → call_of old r ≡ Some c
+    → IsMoved r (completes c e) old new → IsMoved r (ends_call (call_of old r) e) old new
+moves_by r c e old new there m = subst (λ (o : Option Call). IsMoved r (ends_call o e) old new) (sym there) m
 
 -- ---- an entry that is put at the history's end
 

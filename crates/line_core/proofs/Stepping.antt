@@ -5,13 +5,17 @@ use Rattle.std.proofs.lemmas.Bool.{false≢true}
 use Rattle.std.specs.Prelude.{ℕ, IfSome, IsOk, is_ok}
 use Rattle.irq_base.specs.Seen.{HistorySeen}
 use Rattle.irq_base.specs.declared.devices.Run.{Run}
+use Rattle.irq_base.specs.declared.calls.Call.{Call}
 use Rattle.irq_base.specs.declared.entries.Actor.{Actor}
+use Rattle.irq_base.specs.declared.entries.Actor.TheVariants as actors
 use Rattle.irq_base.specs.declared.entries.Entry.{Entry}
 use Rattle.irq_base.specs.declared.lines.LineDef.{LineDef}
 use Rattle.irq_base.specs.declared.numbers.CpuNo.{CpuNo}
+use Rattle.irq_base.specs.declared.numbers.DriverNo.{DriverNo}
 use Rattle.irq_laws.proofs.OwnLaws.{due_is_own}
 use Rattle.irq_laws.proofs.ServedLaws.{has_target}
-use Rattle.irq_model.specs.Next.{next}
+use Rattle.irq_model.specs.Due.{due_call}
+use Rattle.irq_model.specs.Next.{next, next_of_call}
 use Rattle.irq_model.specs.Signal.{target}
 use Rattle.callbacks.specs.Seen.{SaidSeen}
 use Rattle.irq_line.specs.Answers.{AddsEntry, WantsRun, IsSaidFor}
@@ -23,11 +27,14 @@ use Rattle.irq_line.specs.declared.answers.StepRefused.TheVariants as refusals
 use Rattle.irq_line.specs.declared.answers.Stepped.{Stepped}
 use Rattle.line_marks.proofs.DueIs.{due_on}
 use Rattle.line_marks.specs.Aim.{number_of}
-use Rattle.line_marks.specs.Next.{due_by}
+use Rattle.line_marks.specs.DriversDue.{driver_due}
+use Rattle.line_marks.specs.Next.{due_by, due_call_in}
 use Rattle.line_marks.specs.State.{StateSeen}
-use Rattle.line_core.proofs.More.{Beside, due_past}
+use Rattle.line_core.proofs.More.{Beside, due_past, due_call_is}
 use Rattle.line_core.proofs.Runs.{run_is}
-use Rattle.line_state.specs.Entries.{entry_by}
+use Rattle.line_state.specs.Entries.{entry_by, call_entry}
+use Rattle.line_state.specs.declared.due.CallStep.{CallStep}
+use Rattle.line_state.specs.declared.due.DueStep.TheVariants as steps
 use Rattle.line_state.specs.declared.due.DueStep.{DueStep}
 use Rattle.line_core.specs.Entries.{entry_at}
 use Rattle.line_core.specs.Room.{links_next}
@@ -68,6 +75,20 @@ pub kind_told : {S : Type 0} (of : S → DueStep) (line : LineSeen) (b : Beside 
 kind_told {S} of line b a o told =
     ap (λ (x : StateSeen). option_map (λ (y : S). entry_by line.def x (of y)) o) (sym b.is.state)
     ∙ (told ∙ sym (due_on line.def line.entries b.state b.scripts a b.is))
+
+-- the same for the step of a driver's due call
+pub call_told : (line : LineSeen) (b : Beside line.def line.entries) (r : DriverNo) (call : Call) (n : ℕ) (o : Option CallStep)
+    → due_call line.def r (reverse line.entries) ≡ Some (call, n)
+    → option_map (call_entry line.def b.state r) o ≡ driver_due line.def b.state r (Some (call, n))
+    → option_map (λ (x : CallStep). entry_at line (steps.Call r x)) o ≡ next line.def line.entries (actors.Driver r)
+call_told line b r call n o due told =
+    kind_told (λ (x : CallStep). steps.Call r x) line b (actors.Driver r) o
+    (told ∙ ap (driver_due line.def b.state r) (sym due ∙ due_call_is line.def line.entries b r))
+
+-- a driver whose calls are complete has none due
+pub no_call_told : (line : LineSeen) (b : Beside line.def line.entries) (r : DriverNo) → due_call_in b.scripts r ≡ None
+    → next line.def line.entries (actors.Driver r) ≡ None
+no_call_told line b r none = ap (next_of_call line.def r (reverse line.entries)) (due_call_is line.def line.entries b r ∙ none)
 
 -- what is added: the entry of the step, at the history's end
 pub record IsAdded (line : LineSeen) (step : DueStep) (e : Entry) (new : LineSeen) : Type 0 where

@@ -57,7 +57,7 @@ pub(crate) fn due_of_thread<C: Chip>(
 
 /// The step that is due of a driver; none if its calls are complete.
 #[inline(always)]
-pub(crate) fn due_of_driver<C: Chip>(
+fn due_of_driver<C: Chip>(
     state: &LineState<C>,
     scripts: &Scripts,
     driver: DriverNo,

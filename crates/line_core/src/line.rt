@@ -1,9 +1,11 @@
 //! The line.
 ghost use Rattle.std.specs.Prelude.{◌≡◌, ◌+◌, ◌<◌, ◌≤◌, [], ◌∷◌, ◌++◌, length, IfOk, IsOk, OnOk};
 ghost use Rattle.std.specs.Prelude.{Ok, OnErr, IfSome, IsTrue, Some, option_map, true, false};
-ghost use Rattle.std.specs.Prelude.{reverse};
+ghost use Rattle.std.specs.Prelude.{Option, reverse};
 ghost use Rattle.irq_base.specs.Cell.{fresh_cell};
+ghost use Rattle.irq_base.specs.declared.calls.Call.TheVariants as calls;
 ghost use Rattle.irq_base.specs.declared.entries.Actor.TheVariants as actors;
+ghost use Rattle.irq_model.specs.Due.{due_call};
 ghost use Rattle.irq_model.specs.Kinds.{is_linked_request};
 ghost use Rattle.irq_model.specs.Lines.{serves};
 ghost use Rattle.irq_model.specs.Next.{next};
@@ -11,7 +13,8 @@ ghost use Rattle.irq_model.specs.Signal.{target};
 ghost use Rattle.irq_model.specs.Up.{is_up};
 ghost use Rattle.irq_model.specs.Valid.{IsValid};
 ghost use Rattle.irq_laws.specs.Driven.{cell_after};
-ghost use Rattle.irq_line.specs.Answers.{Answers, IsSaidFor};
+ghost use Rattle.callbacks.specs.Seen.{SaidSeen};
+ghost use Rattle.irq_line.specs.Answers.{AddsEntry, Answers, IsSaidFor};
 ghost use Rattle.irq_line.specs.Heard.{Adds, EndsRun};
 ghost use Rattle.irq_line.specs.Memory.{WantsMemory};
 ghost use Rattle.irq_line.specs.Runs.{run_of};
@@ -20,13 +23,14 @@ ghost use Rattle.line_state.specs.declared.due.DueStep.TheVariants as steps;
 ghost use Rattle.line_core.specs.Entries.{entry_at};
 ghost use Rattle.line_core.specs.Blocking.{freed_in, blocks_by};
 
-use crate::due::{due_by, due_of_driver, due_of_thread};
-use crate::putting::{put_of_call, put_of_cpu, put_of_thread, put_return};
+use crate::due::{due_by, due_of_thread};
+use crate::putting::{put_ask, put_of_call, put_of_cpu, put_of_thread, put_return};
 use crate::room::{make_place, make_room};
 use crate::running::unanswered;
 use callbacks::Said;
 use irq_base::{
-    Actor, Blocks, Chip, CpuNo, DevNo, DriverNo, Entry, History, LineDef, LineNo, NoMemory, Run,
+    Actor, Blocks, Call, Chip, CpuNo, DevNo, DriverNo, Entry, History, LineDef, LineNo, NoMemory,
+    Run,
 };
 use irq_line::{IrqLine, StepRefused, Stepped};
 use line_scripts::Scripts;
@@ -347,19 +351,12 @@ impl<C: Chip> Line<C> {
         due_of_thread(&self.def, &self.state, line, dev)
     }
 
-    /// The step that is due of the driver, if there is one.
+    /// Makes the step, which is due of the driver's call, and adds its entry. If it links no action
+    /// and the history has room, it takes no memory.
     #[inline(always)]
-    fn due_of_driver(&self, driver: DriverNo) -> Option<CallStep>
-        ensures { option_map (λ step. entry_at self.now.line (steps.Call driver step)) result
-            ≡ next self.now.line.def self.now.line.entries (actors.Driver driver) }
-    {
-        due_of_driver(&self.state, &self.scripts, driver)
-    }
-
-    /// Makes the step, which is due of the driver, and adds its entry. If it links no action and
-    /// the history has room, it takes no memory.
-    #[inline(always)]
-    fn add(&mut self, driver: DriverNo, step: CallStep) -> Result<Entry, NoMemory>
+    fn add(&mut self, driver: DriverNo, call: Call, step: CallStep) -> Result<Entry, NoMemory>
+        requires call { option_map (λ due. due.0)
+            (due_call self.old.line.def driver (reverse self.old.line.entries)) ≡ Some call }
         requires due { next self.old.line.def self.old.line.entries (actors.Driver driver)
             ≡ Some (entry_at self.old.line (steps.Call driver step)) }
         requires below { length self.old.line.entries < self.old.line.def.log }
@@ -386,28 +383,82 @@ impl<C: Chip> Line<C> {
             &mut self.state,
             &mut self.scripts,
             driver,
+            call,
             step,
         ))
     }
 
-    /// A step of a driver. No handler is heard.
+    /// A step of a driver. No handler is heard. Most calls are asks: an ask is made here, with its
+    /// due call at hand, if there is room for its entry.
     #[inline(never)]
-    fn step_driver(&mut self, driver: DriverNo, said: Option<Said>) -> Result<Stepped, StepRefused>
+    fn step_driver(&mut self, driver: DriverNo) -> Result<Stepped, StepRefused>
         ensures def { self.new.line.def ≡ self.old.line.def }
-        ensures answer { Answers self.old.line (actors.Driver driver) said result self.new.line }
+        ensures answer { (said : Option SaidSeen)
+            → Answers self.old.line (actors.Driver driver) said result self.new.line }
         ensures memory { WantsMemory (λ due. links_next due ≡ true) self.old.line
             (actors.Driver driver) result }
         ensures wiring { self.new.wiring ≡ self.old.wiring }
     {
-        let Some(step) = self.due_of_driver(driver) else {
+        let Some((call, within)) = self.scripts.due(driver) else {
+            return Ok(Stepped::NotYet);
+        };
+        if let Call::Ask { dev } = call {
+            if self.has_room() {
+                return Ok(Stepped::Added(self.ask(driver, dev)));
+            }
+        }
+        self.step_call(driver, call, within)
+    }
+
+    /// The ask, which is due of the driver, where the history has room.
+    #[inline(always)]
+    fn ask(&mut self, driver: DriverNo, dev: DevNo) -> Entry
+        requires call { option_map (λ due. due.0)
+            (due_call self.old.line.def driver (reverse self.old.line.entries))
+            ≡ Some (calls.Ask dev) }
+        requires room { HasRoom self.old.line }
+        ensures adds { (said : Option SaidSeen)
+            → AddsEntry self.old.line (actors.Driver driver) said result self.new.line }
+        ensures wiring { self.new.wiring ≡ self.old.wiring }
+    {
+        put_ask(
+            &self.def,
+            &mut self.history,
+            &mut self.state,
+            &mut self.scripts,
+            driver,
+            dev,
+        )
+    }
+
+    /// A step of the driver's due call, which has made `within` entries.
+    #[inline(never)]
+    fn step_call(
+        &mut self,
+        driver: DriverNo,
+        call: Call,
+        within: u32,
+    ) -> Result<Stepped, StepRefused>
+        requires call { due_call self.old.line.def driver (reverse self.old.line.entries)
+            ≡ Some (call, within) }
+        ensures def { self.new.line.def ≡ self.old.line.def }
+        ensures answer { (said : Option SaidSeen)
+            → Answers self.old.line (actors.Driver driver) said result self.new.line }
+        ensures memory { WantsMemory (λ due. links_next due ≡ true) self.old.line
+            (actors.Driver driver) result }
+        ensures wiring { self.new.wiring ≡ self.old.wiring }
+    {
+        let Some(step) = self.state.due_of_call(driver, call, within) else {
             return Ok(Stepped::NotYet);
         };
         let len = self.history.len();
         if len >= self.def.log as usize {
             return Err(StepRefused::Full { len: len as u32 });
         }
-        let entry = self.add(driver, step)?;
-        Ok(Stepped::Added(entry))
+        match self.add(driver, call, step) {
+            Ok(entry) => Ok(Stepped::Added(entry)),
+            Err(_refused) => Err(StepRefused::NoMemory),
+        }
     }
 }
 
@@ -464,7 +515,7 @@ impl<C: Chip + Drop> IrqLine for Line<C> {
         match actor {
             Actor::Cpu(cpu) => self.step_cpu(cpu, &said),
             Actor::Thread(line, dev) => self.step_thread(line, dev, &said),
-            Actor::Driver(driver) => self.step_driver(driver, said),
+            Actor::Driver(driver) => self.step_driver(driver),
         }
     }
 

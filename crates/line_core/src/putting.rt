@@ -1,7 +1,10 @@
 //! The entry that a step comes to, put at the history's end.
 ghost use Rattle.std.specs.Prelude.{◌≡◌, ◌+◌, ◌<◌, ◌≤◌, [], ◌∷◌, ◌++◌, length, true, Some};
+ghost use Rattle.irq_base.specs.declared.calls.Call.TheVariants as calls;
 ghost use Rattle.irq_base.specs.declared.entries.Actor.TheVariants as actors;
+ghost use Rattle.irq_base.specs.declared.entries.Entry.TheVariants as entries;
 ghost use Rattle.irq_model.specs.Next.{next};
+ghost use Rattle.line_scripts.specs.Rows.{call_of};
 ghost use Rattle.line_marks.specs.Line.{IsLine};
 ghost use Rattle.line_marks.specs.State.{state_after, IsOf};
 ghost use Rattle.line_state.specs.Entries.{cpu_entry, thread_entry, call_entry, entry_by};
@@ -9,8 +12,8 @@ ghost use Rattle.line_state.specs.Entries.{links_by_call, CanMake};
 ghost use Rattle.line_core.specs.Running.{run_by};
 
 use crate::moving::advance;
-use irq_base::{Actor, Chip, CpuNo, DevNo, DriverNo, Entry, History, LineDef, LineNo, Run};
-use line_scripts::Scripts;
+use irq_base::{Actor, Call, Chip, CpuNo, DevNo, DriverNo, Entry, History, LineDef, LineNo, Run};
+use line_scripts::{Scripts, completes};
 use line_state::{CallStep, CpuStep, DueStep, LineState, ThreadStep};
 
 /// Makes the step, which is due of the processor, and puts its entry at the history's end, where
@@ -76,9 +79,11 @@ pub(crate) fn put_of_call<C: Chip>(
     state: &mut LineState<C>,
     scripts: &mut Scripts,
     driver: DriverNo,
+    call: Call,
     step: CallStep,
 ) -> Entry
     requires line { IsLine def.now history.old.entries state.old.state scripts.old }
+    requires call { call_of scripts.old driver ≡ Some call }
     requires due { next def.now history.old.entries (actors.Driver driver)
         ≡ Some (call_entry def.now state.old.state driver step) }
     requires below { length history.old.entries < def.now.log }
@@ -91,7 +96,33 @@ pub(crate) fn put_of_call<C: Chip>(
     ensures wiring { state.new.wiring ≡ state.old.wiring }
 {
     let entry = state.make_of_call(def, driver, step);
-    advance(scripts, Actor::Driver(driver), &entry);
+    scripts.advance(driver, completes(call, &entry));
+    history.push(entry);
+    entry
+}
+
+/// The same for an ask, which is all that its call makes.
+#[inline(always)]
+pub(crate) fn put_ask<C: Chip>(
+    def: &LineDef,
+    history: &mut History,
+    state: &mut LineState<C>,
+    scripts: &mut Scripts,
+    driver: DriverNo,
+    dev: DevNo,
+) -> Entry
+    requires line { IsLine def.now history.old.entries state.old.state scripts.old }
+    requires call { call_of scripts.old driver ≡ Some (calls.Ask dev) }
+    requires below { length history.old.entries < def.now.log }
+    requires room { 1 ≤ history.old.spare }
+    ensures entry { result ≡ entries.Ask driver dev }
+    ensures entries { history.new.entries ≡ history.old.entries ++ result ∷ [] }
+    ensures spare { history.old.spare ≤ history.new.spare + 1 }
+    ensures line { IsLine def.now history.new.entries state.new.state scripts.new }
+    ensures wiring { state.new.wiring ≡ state.old.wiring }
+{
+    let entry = state.ask(def, driver, dev);
+    scripts.advance(driver, true);
     history.push(entry);
     entry
 }

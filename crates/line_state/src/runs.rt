@@ -26,7 +26,7 @@ use irq_base::{
 
 impl<C: Chip> LineState<C> {
     /// The device asks: an edge comes, or the level is high.
-    pub(crate) fn ask(&mut self, def: &LineDef, driver: DriverNo, dev: DevNo) -> Entry
+    pub fn ask(&mut self, def: &LineDef, driver: DriverNo, dev: DevNo) -> Entry
         requires is_of { IsOf def.now self.old.state }
         requires room { HasRoom (at self.old.state.asks dev) }
         ensures entry { result ≡ entries.Ask driver dev }

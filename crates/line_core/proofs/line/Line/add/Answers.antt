@@ -1,10 +1,12 @@
-use Rattle.std.proofs.Common.{◌≡◌, Some, List, ap, sym, subst, ◌∙◌}
+use Rattle.std.proofs.Common.{◌≡◌, ℕ, Some, List, option_map, reverse, ap, sym, subst, ◌∙◌}
+use Rattle.irq_base.specs.declared.calls.Call.{Call}
 use Rattle.irq_base.specs.declared.entries.Entry.{Entry}
 use Rattle.irq_base.specs.declared.entries.Actor.TheVariants as actors
 use Rattle.irq_line.specs.Seen.{LineSeen}
+use Rattle.irq_model.specs.Due.{due_call}
 use Rattle.irq_model.specs.Next.{next}
 use Rattle.line_marks.specs.State.{StateSeen}
-use Rattle.line_core.proofs.More.{Beside}
+use Rattle.line_core.proofs.More.{Beside, call_there}
 use Rattle.line_core.proofs.Stepping.{line_of, IsDueStep, due_here, made_here}
 use Rattle.line_core.specs.Entries.{entry_at}
 use Rattle.line_core.specs.Seen.{WiredSeen}
@@ -25,6 +27,14 @@ put_of_call-requires-clause-due g c =
     (subst (λ (s : StateSeen). next line.def line.entries (actors.Driver c.args.driver)
     ≡ Some (entry_by line.def s (steps.Call c.args.driver c.args.step))) (sym c.make_room.ensures.state)
     (due_here line b (actors.Driver c.args.driver) (steps.Call c.args.driver c.args.step) due))
+
+pub put_of_call-requires-clause-call : goal.put_of_call-requires-clause-call
+put_of_call-requires-clause-call g c =
+    let line : LineSeen = line_of c.self.inside.def c.self.inside.history in
+    let b : Beside line.def line.entries = record { state = c.self.inside.state.state; scripts = c.self.inside.scripts; is = c.self.invariant } in
+    call_there line.def line.entries b c.args.driver c.args.call
+    (subst (λ (w : WiredSeen). option_map (λ (x : Call × ℕ). x.0) (due_call w.line.def c.args.driver (reverse w.line.entries))
+    ≡ Some c.args.call) (sym c.self.view_is) c.requires.call)
 
 pub returns-clause-entry : goal.returns-clause-entry
 returns-clause-entry g c =
