@@ -1,12 +1,12 @@
 -- A call of the last driver, and what is wrong with it.
-use Rattle.std.proofs.Common.{◌≡◌, ℕ, Bool, cond, nat_lt, nat_le, ◌||◌, Option, Some, None, List, length, sym, ap, subst, ◌∙◌}
+use Rattle.std.proofs.Common.{◌≡◌, ℕ, Bool, false, cond, nat_lt, nat_le, ◌||◌, Option, Some, None, List, length, refl, sym, ap, subst, ◌∙◌}
 use Rattle.board_def.specs.Rules.{IsBoard, is_bad_owner}
 use Rattle.board_def.specs.Seen.{BoardSeen}
 use Rattle.board_def.specs.declared.rows.ScriptCall.{ScriptCall}
-use Rattle.board_stated.specs.FaultsAfter.{is_empty, has_flag_twice, names_nothing, fault_after}
+use Rattle.board_stated.specs.FaultsAfter.{is_empty, has_flag_twice, names_nothing, has_bad_owner, fault_after}
 use Rattle.board_stated.specs.Sections.{section_reached}
 use Rattle.board_stated.specs.Sound.{draft_of}
-use Rattle.board_stated.specs.Stated.{board_of, driver_writing, call_of_words, script_call}
+use Rattle.board_stated.specs.Stated.{board_of, driver_writing, call_of_words, script_call, with_statement}
 use Rattle.board_words.specs.declared.faults.FaultKind.{FaultKind}
 use Rattle.board_words.specs.declared.faults.FaultKind.TheVariants as faults
 use Rattle.board_words.specs.declared.statements.CallWords.{CallWords}
@@ -39,7 +39,7 @@ fault_read past r c h =
     ∙ ap (λ n. fault_by n (names_nothing (draft_of past) c) (draft_of past) c) (sym h.section)
     ∙ ap (λ (b : BoardSeen). fault_by (place_of r.section) (names_nothing b c) b c) (sym h.board)
 
-made_read : (past : List Statement) (r : Reader) (c : CallWords) → Agrees past r → script_call r.board c ≡ script_call (board_of past) c
+pub made_read : (past : List Statement) (r : Reader) (c : CallWords) → Agrees past r → script_call r.board c ≡ script_call (board_of past) c
 made_read past r c h = ap (λ (b : BoardSeen). script_call b c) h.board
 
 -- the board with it keeps the rules
@@ -48,3 +48,13 @@ pub made_is_board : (past : List Statement) (r : Reader) (words : CallWords) (ca
 made_is_board past r words call h none is =
     let next : IsNext r (statements.Call words) = record { past = past; agrees = h.agrees; sound = (h.sound, tt, none) } in
     subst (λ c. IsBoard (with_call c r.board)) (made_read past r words h.agrees ∙ sym is) (next_is_board r (statements.Call words) next)
+
+-- no other statement breaks the rule of ownership
+pub no_owner : (b : BoardSeen) (s : Statement) → ((c : CallWords) → s ≡ statements.Call c → ⊥) → has_bad_owner b s ≡ false
+no_owner b (statements.Call c) other = absurd (other c refl)
+no_owner b _ other = refl
+
+-- nor does it change the calls
+pub calls_stay : (b : BoardSeen) (s : Statement) → ((c : CallWords) → s ≡ statements.Call c → ⊥) → b.calls ≡ (with_statement s b).calls
+calls_stay b (statements.Call c) other = absurd (other c refl)
+calls_stay b _ other = refl

@@ -2,8 +2,8 @@
 //! judge the next one.
 ghost use Rattle.std.specs.Prelude.{◌≡◌, ℕ, false, List, [], ◌∷◌, ◌&&◌, not, OnOk};
 ghost use Rattle.board_stated.specs.FaultsAfter.{is_empty, is_out_of_order, is_twice};
-ghost use Rattle.board_stated.specs.FaultsAfter.{has_bad_owner, has_flag_twice, fault_after};
-ghost use Rattle.board_stated.specs.Stated.{board_of, with_statement, script_call};
+ghost use Rattle.board_stated.specs.FaultsAfter.{has_flag_twice, fault_after};
+ghost use Rattle.board_stated.specs.Stated.{board_of, script_call};
 ghost use Rattle.board_stated.specs.TextOf.{begins_with_board};
 ghost use Rattle.board_words.specs.Seen.{words_left};
 ghost use Rattle.board_words.specs.TextLines.{words_of, has_bad_byte};
@@ -11,7 +11,7 @@ ghost use Rattle.board_def.specs.Rules.{IsBoard};
 ghost use Rattle.board_text.specs.Kept.{Agrees, Keeps, IsKept, IsNext, IsTold, with_call};
 ghost use Rattle.board_text.specs.Kept.{log_after};
 ghost use Rattle.board_text.specs.Given.{Ends, ReadsLine, Takes, Makes};
-ghost use Rattle.board_text.specs.Owned.{Owns, tells_owner};
+ghost use Rattle.board_text.specs.Owned.{tells_owner};
 ghost use Rattle.board_words.specs.declared.statements.CallWords.{CallWords};
 ghost use Rattle.board_words.specs.declared.statements.Statement.{Statement};
 ghost use Rattle.board_words.specs.declared.statements.Statement.TheVariants as statements;
@@ -133,11 +133,17 @@ impl Reader {
     }
 
     /// What is wrong with the statement after the statements so far.
-    #[tactic(auto, using(crate::proofs::Drafts::not_there_read, crate::proofs::Drafts::parent_read, crate::proofs::Drafts::unlazy_read, crate::proofs::Drafts::mask_read, crate::proofs::Drafts::room_read))]
+    #[tactic(auto, using(crate::proofs::Drafts::not_there_read, crate::proofs::Drafts::parent_read, crate::proofs::Drafts::unlazy_read, crate::proofs::Drafts::mask_read, crate::proofs::Drafts::room_read, crate::proofs::Made::no_owner))]
     fn fault_of(&self, statement: &Statement) -> Option<FaultKind>
         ensures { (past : List Statement) → Agrees past self.now
             → result ≡ fault_after past statement.now }
     {
+        if let Statement::Call(words) = statement {
+            return match self.call_made(*words) {
+                Ok(_) => None,
+                Err(kind) => Some(kind),
+            };
+        }
         if self.is_out_of_order(statement) {
             return Some(FaultKind::OutOfOrder);
         }
@@ -155,9 +161,6 @@ impl Reader {
         }
         if has_bad_mask(&self.board, statement) {
             return Some(FaultKind::BadMask);
-        }
-        if self.has_bad_owner(statement) {
-            return Some(FaultKind::BadOwner);
         }
         if is_one_too_many(&self.board, statement) {
             return Some(FaultKind::TooMany);
@@ -186,29 +189,16 @@ impl Reader {
         }
     }
 
-    /// Whether the statement breaks the rule of ownership.
-    fn has_bad_owner(&self, statement: &Statement) -> bool
-        ensures { (past : List Statement) → Agrees past self.now
-            → result ≡ has_bad_owner (board_of past) statement.now }
-    {
-        match statement {
-            Statement::Call(call) => {
-                tells_owner(*call)
-                    && self
-                        .owners
-                        .forbid(driver_writing(&self.board), call_of_words(*call))
-            }
-            _ => false,
-        }
-    }
-
     /// Adds a statement without a fault.
     fn add(&mut self, statement: &Statement) -> Result<(), NoMemory>
         requires { IsNext self.old statement.now }
         ensures { (past : List Statement) → Agrees past self.old
             → OnOk result (Agrees (statement.now ∷ past) self.new) }
     {
-        note_owner(&mut self.owners, &self.board, statement)?;
+        if let Statement::Call(words) = statement {
+            let call = script_call(&self.board, *words);
+            return self.add_call(call);
+        }
         add_statement(&mut self.board, statement)?;
         self.log = log_after(self.log, statement);
         self.section = Section::of(statement);
@@ -278,23 +268,6 @@ fn has_flag_twice(call: CallWords) -> bool
     match call {
         CallWords::Request { twice, .. } => twice,
         _ => false,
-    }
-}
-
-/// Takes note of the statement's call, if it is one.
-fn note_owner(owners: &mut Owners, board: &Board, statement: &Statement) -> Result<(), NoMemory>
-    ensures { Owns owners.old board.now.calls
-        → OnOk result (Owns owners.new (with_statement statement.now board.now).calls) }
-{
-    match statement {
-        Statement::Call(call) => {
-            if tells_owner(*call) {
-                owners.note(&script_call(board, *call))
-            } else {
-                Ok(())
-            }
-        }
-        _ => Ok(()),
     }
 }
 
