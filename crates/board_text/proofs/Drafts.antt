@@ -62,7 +62,7 @@ misplaced_same past (statements.Driver driver) = refl
 misplaced_same past (statements.Call c) = refl
 misplaced_same past _ = refl
 
-names_same : (past : List Statement) (c : CallWords) → names_nothing (draft_of past) c ≡ names_nothing (board_of past) c
+pub names_same : (past : List Statement) (c : CallWords) → names_nothing (draft_of past) c ≡ names_nothing (board_of past) c
 names_same past (words.Request dev flags twice) = refl
 names_same past (words.Free dev) = refl
 names_same past (words.Ask dev) = refl

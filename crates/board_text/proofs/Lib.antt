@@ -5,6 +5,7 @@ pub mod Owning
 pub mod Picking
 pub mod Drafts
 pub mod OneMore
+pub mod Made
 pub mod Ending
 pub mod ReadLines
 pub mod LinesRead

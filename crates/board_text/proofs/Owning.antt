@@ -1,6 +1,6 @@
 -- One more call, and the owners of the devices.
 use Rattle.std.proofs.Common.{◌≡◌, ℕ, ◌==◌, ◌⊎◌, inl, inr, Bool, true, false, cond, ◌&&◌, ◌||◌, Option}
-use Rattle.std.proofs.Common.{Some, None, List, [], ◌∷◌, ◌++◌, reverse, refl, sym, ap, subst, ◌∙◌, arith}
+use Rattle.std.proofs.Common.{Some, None, List, [], ◌∷◌, ◌++◌, reverse, refl, sym, ap, ◌∙◌, arith}
 use Rattle.std.specs.Option.{option_map}
 use Rattle.std.proofs.lemmas.Bool.Decides.{nat_tests}
 use Rattle.std.proofs.lemmas.List.{reverse-append}
@@ -14,13 +14,7 @@ use Rattle.irq_base.specs.declared.calls.Flags.{Flags}
 use Rattle.irq_model.specs.Valid.{requests_dev, frees_dev}
 use Rattle.board_def.specs.Rules.{is_owning, first_owning, is_a_request}
 use Rattle.board_def.specs.declared.rows.ScriptCall.{ScriptCall}
-use Rattle.board_def.specs.Seen.{BoardSeen}
-use Rattle.board_stated.specs.Stated.{call_of_words, script_call, with_statement}
-use Rattle.board_words.specs.declared.statements.CallWords.{CallWords}
-use Rattle.board_words.specs.declared.statements.CallWords.TheVariants as words
-use Rattle.board_words.specs.declared.statements.Statement.{Statement}
-use Rattle.board_words.specs.declared.statements.Statement.TheVariants as statements
-use Rattle.board_text.specs.Owned.{owner_in, is_requested, Owns, owner_noted, tells_owner}
+use Rattle.board_text.specs.Owned.{owner_in, is_requested, Owns, owner_noted}
 use Rattle.board_text.specs.declared.owners.Owner.{Owner}
 
 -- a look-up after an insertion, by the numbers
@@ -168,21 +162,3 @@ owns_none d c (inr (inr (inr (inr (inr (inr (at, is))))))) = rw is refl
 pub other_noted : (owners : List (DevNo × Owner)) (calls : List ScriptCall) (c : ScriptCall)
     → IsOther c.call → Owns owners calls → Owns owners (calls ++ c ∷ [])
 other_noted owners calls c other h = unnoted owners calls c (λ d. owns_none d c.call other) h
-
--- the words of a call that neither requests nor frees a device
-
-untold_is : (c : CallWords) → tells_owner c ≡ false → IsOther (call_of_words c)
-untold_is (words.Request dev flags twice) told = cc
-untold_is (words.Free dev) told = cc
-untold_is (words.Ask dev) told = inl (dev, refl)
-untold_is (words.Disable line) told = inr (inl refl)
-untold_is (words.DisableNosync line) told = inr (inr (inl refl))
-untold_is (words.Enable line) told = inr (inr (inr (inl refl)))
-untold_is (words.Sync line) told = inr (inr (inr (inr (inl refl))))
-untold_is (words.Affinity line mask) told = inr (inr (inr (inr (inr (inl (mask, refl))))))
-untold_is (words.Moment line at) told = inr (inr (inr (inr (inr (inr (at, refl))))))
-
-pub untold : (owners : List (DevNo × Owner)) (b : BoardSeen) (s : Statement) (call : CallWords)
-    → s ≡ statements.Call call → tells_owner call ≡ false → Owns owners b.calls → Owns owners (with_statement s b).calls
-untold owners b s call is none h =
-    subst (λ (s : Statement). Owns owners (with_statement s b).calls) (sym is) (other_noted owners b.calls (script_call b call) (untold_is call none) h)

@@ -1,11 +1,12 @@
 -- Reading a text line.
-use Rattle.std.proofs.Common.{◌≡◌, ℕ, Bool, false, cond, not, ◌&&◌, Option, Some, None, List, [], ◌∷◌, refl, sym, ap, subst, arith}
+use Rattle.std.proofs.Common.{◌≡◌, ℕ, Bool, false, cond, not, ◌&&◌, Option, Some, None, Result, Ok, Err, List, [], ◌∷◌, refl, sym, ap, subst, arith}
 use Rattle.board_stated.specs.FaultsAfter.{is_empty, fault_after}
 use Rattle.board_stated.specs.Sections.{has_moments}
 use Rattle.board_stated.specs.Sound.{IsWellFormed, IsSound}
 use Rattle.board_stated.specs.TextOf.{begins_with_board, or_else, fault_of_statement, fault_of_line, with_line}
 use Rattle.board_stated.proofs.WellFormed.{statement_is_well_formed}
-use Rattle.board_text.specs.Kept.{Agrees}
+use Rattle.board_text.specs.Given.{Takes, ReadsLine}
+use Rattle.board_text.specs.Kept.{Agrees, Keeps}
 use Rattle.board_text.specs.declared.reader.Reader.{Reader}
 use Rattle.board_text.specs.declared.stood.Stood.{Stood}
 use Rattle.board_words.specs.Forms.{fault_of_words}
@@ -15,6 +16,8 @@ use Rattle.board_words.specs.Statements.{statement_of}
 use Rattle.board_words.specs.declared.faults.FaultKind.{FaultKind}
 use Rattle.board_words.specs.declared.faults.FaultKind.TheVariants as faults
 use Rattle.board_words.specs.declared.statements.Statement.{Statement}
+use Rattle.board_words.specs.declared.statements.StatementRefused.{StatementRefused}
+use Rattle.board_words.specs.declared.statements.StatementRefused.TheVariants as lines
 
 pub none_same : (words : List (List ℕ)) → is_empty words ≡ are_none words
 none_same [] = refl
@@ -49,13 +52,26 @@ line_added past line words s e none is =
     let P : List (List ℕ) → Type 0 = λ ws. cond (is_empty ws) past (statement_of ws ∷ past) ≡ s ∷ past in
     subst P e (rw (there, is) refl)
 
--- they have no fault
-pub sound_next : (past : List Statement) (words : List (List ℕ)) (s : Statement) → IsSound past
-    → fault_of_words (has_moments past) words ≡ None → s ≡ statement_of words → None ≡ fault_after past s
-    → IsSound (s ∷ past)
-sound_next past words s sound own is after = (sound, subst IsWellFormed (sym is) (statement_is_well_formed (has_moments past) words own), sym after)
+-- the next one's numbers and names are right
+pub formed_next : (past : List Statement) (words : List (List ℕ)) (s : Statement) → fault_of_words (has_moments past) words ≡ None
+    → s ≡ statement_of words → IsWellFormed s
+formed_next past words s own is = subst IsWellFormed (sym is) (statement_is_well_formed (has_moments past) words own)
 
 -- the version that the reader keeps is the text's
 pub own_fault : (past : List Statement) (r : Reader) (words : List (List ℕ)) (o : Option FaultKind) → Agrees past r
     → fault_of_words r.stood.moments words ≡ o → fault_of_words (has_moments past) words ≡ o
 own_fault past r words o h is = subst (λ (m : Bool). fault_of_words m words ≡ o) (ap (λ (s : Stood). s.moments) h.stood) is
+
+-- a line is read by taking its statement
+pub line_taken : (past : List Statement) (line : List ℕ) (words : List (List ℕ)) (s : Statement) (q : Reader) (result : Result Unit StatementRefused)
+    → words ≡ words_of line → has_bad_byte line ≡ false → are_none words ≡ false → (is_empty past && not (begins_with_board words)) ≡ false
+    → fault_of_words (has_moments past) words ≡ None → s ≡ statement_of words → IsSound past → Takes past s q result
+    → ReadsLine past line q result
+line_taken past line words s q (Ok done) e bad none lacks own is sound told = (
+  line_told past line words s None e bad none lacks own is (sym told.0),
+  subst (λ (p : List Statement). Keeps p q) (sym (line_added past line words s e none is))
+      (record { agrees = told.1; sound = (sound, formed_next past words s own is, told.0) }),
+)
+line_taken past line words s q (Err (lines.Fault kind)) e bad none lacks own is sound told =
+    line_told past line words s (Some kind) e bad none lacks own is (sym told)
+line_taken past line words s q (Err lines.NoMemory) e bad none lacks own is sound told = tt

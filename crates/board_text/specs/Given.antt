@@ -1,16 +1,22 @@
 -- What reading a text gives.
-use Rattle.std.specs.Prelude.{◌≡◌, ℕ, false, nat_lt, Some, None, Result, Ok, Err, List, [], length}
+use Rattle.std.specs.Prelude.{◌≡◌, ℕ, false, nat_lt, Some, None, Result, Ok, Err, List, []}
+use Rattle.std.specs.Prelude.{◌∷◌, length}
 use Rattle.board_def.specs.Seen.{BoardSeen}
+use Rattle.board_def.specs.declared.rows.ScriptCall.{ScriptCall}
 use Rattle.board_words.specs.declared.faults.FaultKind.{FaultKind}
+use Rattle.board_words.specs.declared.statements.CallWords.{CallWords}
 use Rattle.board_words.specs.declared.statements.Statement.{Statement}
+use Rattle.board_words.specs.declared.statements.Statement.TheVariants as statements
 use Rattle.board_words.specs.declared.statements.StatementRefused.{StatementRefused}
 use Rattle.board_words.specs.declared.statements.StatementRefused.TheVariants as lines
+use Rattle.board_stated.specs.FaultsAfter.{fault_after}
+use Rattle.board_stated.specs.Stated.{board_of, script_call}
 use Rattle.board_stated.specs.TextOf.{fault_of_line, with_line, first_fault, with_lines, whole}
 use Rattle.board_stated.specs.TextOf.{board_unless, fault_of_lines, longest_text, statements_of}
 use Rattle.board_stated.specs.TextOf.{board_of_text}
 use Rattle.board_words.specs.TextLines.{text_lines}
 use Rattle.board_words.specs.declared.faults.BoardFault.{BoardFault}
-use Rattle.board_text.specs.Kept.{Keeps}
+use Rattle.board_text.specs.Kept.{Agrees, Keeps}
 use Rattle.board_text.specs.declared.reader.Reader.{Reader}
 use Rattle.board_text.specs.declared.reading.BoardRefused.{BoardRefused}
 use Rattle.board_text.specs.declared.reading.BoardRefused.TheVariants as texts
@@ -20,6 +26,19 @@ abbrev pub Gives : Result BoardSeen BoardFault → Result BoardSeen BoardRefused
 Gives told (Ok board) = told ≡ Ok board
 Gives told (Err (texts.Fault fault)) = told ≡ Err fault
 Gives told (Err texts.NoMemory) = Unit {0}
+
+-- a statement was taken after these: it has no fault there, and the reader keeps it too; or the
+-- answer is its fault
+abbrev pub Takes : List Statement → Statement → Reader → Result Unit StatementRefused → Type 0
+Takes past s reader (Ok done) = (fault_after past s ≡ None) × Agrees (s ∷ past) reader
+Takes past s reader (Err (lines.Fault kind)) = fault_after past s ≡ Some kind
+Takes past s reader (Err lines.NoMemory) = Unit {0}
+
+-- the call that the words say, which has no fault after these statements; or its fault
+abbrev pub Makes : List Statement → CallWords → Result ScriptCall FaultKind → Type 0
+Makes past words (Ok call) = (fault_after past (statements.Call words) ≡ None)
+    × (call ≡ script_call (board_of past) words)
+Makes past words (Err kind) = fault_after past (statements.Call words) ≡ Some kind
 
 -- a text line was read after these statements: it has no fault, and the reader keeps what it says;
 -- or the answer is its fault

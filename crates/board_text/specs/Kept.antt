@@ -1,13 +1,14 @@
 -- What the reader keeps of the statements so far, the newest first.
-use Rattle.std.specs.Prelude.{◌≡◌, ℕ, Bool, false, not, List, ◌∷◌}
+use Rattle.std.specs.Prelude.{◌≡◌, ℕ, Bool, false, not, List, [], ◌∷◌, ◌++◌}
 use Rattle.std.specs.List.{list_any}
 use Rattle.board_def.specs.Seen.{BoardSeen}
+use Rattle.board_def.specs.declared.rows.ScriptCall.{ScriptCall}
 use Rattle.board_words.specs.declared.statements.Statement.{Statement}
 use Rattle.board_words.specs.declared.statements.Statement.TheVariants as statements
 use Rattle.board_stated.specs.FaultsAfter.{is_empty}
 use Rattle.board_stated.specs.Sections.{section_reached, has_moments, is_header, is_cpus}
 use Rattle.board_stated.specs.Sections.{is_spurious, is_log}
-use Rattle.board_stated.specs.Sound.{IsSound, draft_of}
+use Rattle.board_stated.specs.Sound.{IsSound, IsWellFormed, draft_of}
 use Rattle.board_stated.specs.Stated.{board_of, with_statement}
 use Rattle.board_text.specs.Owned.{Owns}
 use Rattle.board_text.specs.declared.reader.Reader.{Reader}
@@ -48,6 +49,10 @@ is_setting_again past _ = false
 abbrev pub drafted : Statement → BoardSeen → BoardSeen
 drafted s b = record (with_statement s b) { log = b.log }
 
+-- the board with one call more
+abbrev pub with_call : ScriptCall → BoardSeen → BoardSeen
+with_call call b = record b { calls = b.calls ++ call ∷ [] }
+
 abbrev pub log_after : ℕ → Statement → ℕ
 log_after log (statements.Log new) = new
 log_after log _ = log
@@ -75,3 +80,9 @@ pub record IsNext (r : Reader) (s : Statement) : Type 0 where
   pub past : List Statement
   pub agrees : Agrees past r
   pub sound : IsSound (s ∷ past)
+
+-- the reader keeps some statements, and the numbers and names of the next one are right
+pub record IsTold (r : Reader) (s : Statement) : Type 0 where
+  pub past : List Statement
+  pub keeps : Keeps past r
+  pub formed : IsWellFormed s

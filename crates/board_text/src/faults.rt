@@ -1,19 +1,21 @@
 //! What is wrong with a statement on the board so far.
 ghost use Rattle.std.specs.Prelude.{◌≡◌, ◌<◌, not, nat_lt, ◌+◌, is_none, is_some};
+ghost use Rattle.std.specs.Prelude.{IfSome, Some, None, if◌then◌else◌};
 ghost use Rattle.std.specs.List.{list_any};
 ghost use Rattle.board_def.specs.Rules.{has_name, has_line, has_driver};
 ghost use Rattle.board_stated.specs.FaultsAfter.{is_misplaced, is_not_there, names_nothing};
-ghost use Rattle.board_stated.specs.FaultsAfter.{picks_nothing, has_no_device, has_bad_parent};
+ghost use Rattle.board_stated.specs.FaultsAfter.{picks_nothing, has_bad_parent};
 ghost use Rattle.board_stated.specs.FaultsAfter.{has_bad_unlazy, has_bad_mask, is_mask_empty};
 ghost use Rattle.board_stated.specs.FaultsAfter.{is_one_too_many, count_of_picks};
 ghost use Rattle.board_stated.specs.FaultsAfter.{is_parent_missing};
 ghost use Rattle.board_def.specs.Find.{place_of_name};
 ghost use Rattle.board_stated.specs.Stated.{driver_writing, parent_place, place_or_first};
+ghost use Rattle.board_stated.specs.Stated.{line_of_call};
 
 use affinity::has_processor;
 use board_def::{Board, Name};
 use board_words::{CallWords, PickList, Picked, Statement};
-use irq_base::{DevNo, DriverNo, LineNo};
+use irq_base::{DriverNo, LineNo};
 
 /// The most domains of a board.
 const MOST_DOMAINS: usize = 32;
@@ -28,7 +30,7 @@ const MOST_DEVICES: usize = 256;
 const MOST_DRIVERS: usize = 64;
 
 /// The most calls of a board's scripts.
-const MOST_CALLS: usize = 16_384;
+pub(crate) const MOST_CALLS: usize = 16_384;
 
 /// The most picks of a board.
 const MOST_PICKS: usize = 65_536;
@@ -94,27 +96,40 @@ fn has_line(board: &Board, line: LineNo) -> bool
     board.find_line(line).is_some()
 }
 
-/// Whether no device has this number.
-fn has_no_device(board: &Board, dev: DevNo) -> bool
-    ensures { result ≡ has_no_device board.now dev }
-{
-    board.find_device(dev).is_none()
-}
-
 /// Whether the call names a device or a line that the board doesn't have.
 fn names_nothing(board: &Board, call: CallWords) -> bool
     ensures { result ≡ names_nothing board.now call }
 {
+    line_named(board, call).is_none()
+}
+
+/// The line that the call is about; none if it names a device or a line that the board doesn't
+/// have.
+pub(crate) fn line_named(board: &Board, call: CallWords) -> Option<LineNo>
+    ensures none { is_none result ≡ names_nothing board.now call }
+    ensures line { IfSome result (λ line. line ≡ line_of_call board.now.devices call) }
+{
     match call {
         CallWords::Request { dev, .. } | CallWords::Free { dev } | CallWords::Ask { dev } => {
-            has_no_device(board, dev)
+            Some(board.find_device(dev)?.line)
         }
         CallWords::Disable { line }
         | CallWords::DisableNosync { line }
         | CallWords::Enable { line }
         | CallWords::Sync { line }
         | CallWords::Affinity { line, .. }
-        | CallWords::Moment { line, .. } => !has_line(board, line),
+        | CallWords::Moment { line, .. } => if_there(board, line),
+    }
+}
+
+/// The line, if the board has it.
+fn if_there(board: &Board, line: LineNo) -> Option<LineNo>
+    ensures { result ≡ (if has_line board.now.lines line then Some line else None) }
+{
+    if has_line(board, line) {
+        Some(line)
+    } else {
+        None
     }
 }
 

@@ -1,28 +1,31 @@
 //! The reader: the board that the statements so far state, and what the reader keeps of them to
 //! judge the next one.
-ghost use Rattle.std.specs.Prelude.{◌≡◌, List, [], ◌∷◌, ◌&&◌, not, OnOk};
+ghost use Rattle.std.specs.Prelude.{◌≡◌, ℕ, false, List, [], ◌∷◌, ◌&&◌, not, OnOk};
 ghost use Rattle.board_stated.specs.FaultsAfter.{is_empty, is_out_of_order, is_twice};
-ghost use Rattle.board_stated.specs.FaultsAfter.{has_bad_owner, has_flag_twice, fault_after};
-ghost use Rattle.board_stated.specs.Stated.{board_of, with_statement};
+ghost use Rattle.board_stated.specs.FaultsAfter.{has_flag_twice, fault_after};
+ghost use Rattle.board_stated.specs.Stated.{board_of, script_call};
 ghost use Rattle.board_stated.specs.TextOf.{begins_with_board};
 ghost use Rattle.board_words.specs.Seen.{words_left};
-ghost use Rattle.board_text.specs.Kept.{Agrees, Keeps, IsKept, IsNext, log_after};
-ghost use Rattle.board_text.specs.Given.{Ends, ReadsLine};
-ghost use Rattle.board_text.specs.Owned.{Owns, tells_owner};
+ghost use Rattle.board_words.specs.TextLines.{words_of, has_bad_byte};
+ghost use Rattle.board_def.specs.Rules.{IsBoard};
+ghost use Rattle.board_text.specs.Kept.{Agrees, Keeps, IsKept, IsNext, IsTold, with_call};
+ghost use Rattle.board_text.specs.Kept.{log_after};
+ghost use Rattle.board_text.specs.Given.{Ends, ReadsLine, Takes, Makes};
+ghost use Rattle.board_text.specs.Owned.{tells_owner};
+ghost use Rattle.board_words.specs.declared.statements.CallWords.{CallWords};
 ghost use Rattle.board_words.specs.declared.statements.Statement.{Statement};
+ghost use Rattle.board_words.specs.declared.statements.Statement.TheVariants as statements;
 
 use crate::adding::{add_statement, call_of_words, script_call};
 use crate::faults::{
-    driver_writing, has_bad_mask, has_bad_parent, has_bad_unlazy, has_name, is_misplaced,
-    is_not_there, is_one_too_many,
+    MOST_CALLS, driver_writing, has_bad_mask, has_bad_parent, has_bad_unlazy, has_name,
+    is_misplaced, is_not_there, is_one_too_many, line_named,
 };
 use crate::owners::Owners;
 use crate::sections::Section;
 use crate::stood::Stood;
-use board_def::Board;
-use board_words::{
-    CallWords, FaultKind, Statement, StatementRefused, Words, has_bad_byte, read_statement,
-};
+use board_def::{Board, ScriptCall};
+use board_words::{CallWords, FaultKind, Statement, StatementRefused, Words, read_statement};
 use irq_base::NoMemory;
 use std::alloc::Global;
 
@@ -62,27 +65,59 @@ impl Reader {
         }
     }
 
-    /// Reads a text line. After a fault, or if memory was refused, the reader is of no more use.
-    pub fn read_line(&mut self, alloc: Global, line: &[u8]) -> Result<(), StatementRefused>
+    /// Reads the words of a text line in which no byte is bad. After a fault, or if memory was
+    /// refused, the reader is of no more use.
+    pub(crate) fn read_words(
+        &mut self,
+        alloc: Global,
+        words: Words<'_>,
+    ) -> Result<(), StatementRefused>
         requires { IsKept self.old }
-        ensures { (past : List Statement) → Keeps past self.old
-            → ReadsLine past line.now self.new result }
+        ensures { (past : List Statement) (line : List ℕ) → Keeps past self.old
+            → words_left words.entry ≡ words_of line → has_bad_byte line ≡ false
+            → ReadsLine past line self.new result }
     {
-        if has_bad_byte(line) {
-            return Err(StatementRefused::Fault(FaultKind::BadByte));
-        }
-        let words = Words::of_line(line);
         if words.is_empty() {
             return Ok(());
         }
         if self.lacks_header(words) {
             return Err(StatementRefused::Fault(FaultKind::NoHeader));
         }
-        let statement = read_statement(alloc, words, self.stood.moments)?;
-        if let Some(kind) = self.fault_of(&statement) {
+        match read_statement(alloc, words, self.stood.moments)? {
+            // most statements are calls, and a call alone is small
+            Statement::Call(call) => self.take_call(call),
+            statement => self.take(&statement),
+        }
+    }
+
+    /// Takes a statement, unless it has a fault after the statements so far. It stands apart: most
+    /// statements are calls.
+    #[inline(never)]
+    fn take(&mut self, statement: &Statement) -> Result<(), StatementRefused>
+        requires { IsTold self.old statement.now }
+        ensures { (past : List Statement) → Agrees past self.old
+            → Takes past statement.now self.new result }
+    {
+        if let Some(kind) = self.fault_of(statement) {
             return Err(StatementRefused::Fault(kind));
         }
-        match self.add(&statement) {
+        match self.add(statement) {
+            Ok(()) => Ok(()),
+            Err(_) => Err(StatementRefused::NoMemory),
+        }
+    }
+
+    /// Takes a call, unless it has a fault after the statements so far.
+    fn take_call(&mut self, words: CallWords) -> Result<(), StatementRefused>
+        requires { IsKept self.old }
+        ensures { (past : List Statement) → Agrees past self.old
+            → Takes past (statements.Call words) self.new result }
+    {
+        let call = match self.call_made(words) {
+            Ok(call) => call,
+            Err(kind) => return Err(StatementRefused::Fault(kind)),
+        };
+        match self.add_call(call) {
             Ok(()) => Ok(()),
             Err(_) => Err(StatementRefused::NoMemory),
         }
@@ -98,11 +133,17 @@ impl Reader {
     }
 
     /// What is wrong with the statement after the statements so far.
-    #[tactic(auto, using(crate::proofs::Drafts::not_there_read, crate::proofs::Drafts::parent_read, crate::proofs::Drafts::unlazy_read, crate::proofs::Drafts::mask_read, crate::proofs::Drafts::room_read))]
+    #[tactic(auto, using(crate::proofs::Drafts::not_there_read, crate::proofs::Drafts::parent_read, crate::proofs::Drafts::unlazy_read, crate::proofs::Drafts::mask_read, crate::proofs::Drafts::room_read, crate::proofs::Made::no_owner))]
     fn fault_of(&self, statement: &Statement) -> Option<FaultKind>
         ensures { (past : List Statement) → Agrees past self.now
             → result ≡ fault_after past statement.now }
     {
+        if let Statement::Call(words) = statement {
+            return match self.call_made(*words) {
+                Ok(_) => None,
+                Err(kind) => Some(kind),
+            };
+        }
         if self.is_out_of_order(statement) {
             return Some(FaultKind::OutOfOrder);
         }
@@ -120,9 +161,6 @@ impl Reader {
         }
         if has_bad_mask(&self.board, statement) {
             return Some(FaultKind::BadMask);
-        }
-        if self.has_bad_owner(statement) {
-            return Some(FaultKind::BadOwner);
         }
         if is_one_too_many(&self.board, statement) {
             return Some(FaultKind::TooMany);
@@ -151,33 +189,60 @@ impl Reader {
         }
     }
 
-    /// Whether the statement breaks the rule of ownership.
-    fn has_bad_owner(&self, statement: &Statement) -> bool
-        ensures { (past : List Statement) → Agrees past self.now
-            → result ≡ has_bad_owner (board_of past) statement.now }
-    {
-        match statement {
-            Statement::Call(call) => {
-                tells_owner(*call)
-                    && self
-                        .owners
-                        .forbid(driver_writing(&self.board), call_of_words(*call))
-            }
-            _ => false,
-        }
-    }
-
     /// Adds a statement without a fault.
     fn add(&mut self, statement: &Statement) -> Result<(), NoMemory>
         requires { IsNext self.old statement.now }
         ensures { (past : List Statement) → Agrees past self.old
             → OnOk result (Agrees (statement.now ∷ past) self.new) }
     {
-        note_owner(&mut self.owners, &self.board, statement)?;
+        if let Statement::Call(words) = statement {
+            let call = script_call(&self.board, *words);
+            return self.add_call(call);
+        }
         add_statement(&mut self.board, statement)?;
         self.log = log_after(self.log, statement);
         self.section = Section::of(statement);
         self.stood = self.stood.with(statement);
+        Ok(())
+    }
+
+    /// The call that the last driver makes by these words, or what is wrong with it after the
+    /// statements so far.
+    #[tactic(auto, using(crate::proofs::Made::fault_read))]
+    fn call_made(&self, words: CallWords) -> Result<ScriptCall, FaultKind>
+        ensures { (past : List Statement) → Agrees past self.now → Makes past words result }
+    {
+        if Section::Scripts.is_before(self.section) || self.board.drivers_len() == 0 {
+            return Err(FaultKind::OutOfOrder);
+        }
+        if has_flag_twice(words) {
+            return Err(FaultKind::Twice);
+        }
+        let Some(line) = line_named(&self.board, words) else {
+            return Err(FaultKind::NotThere);
+        };
+        let driver = driver_writing(&self.board);
+        let call = call_of_words(words);
+        if tells_owner(words) && self.owners.forbid(driver, call) {
+            return Err(FaultKind::BadOwner);
+        }
+        if self.board.calls_len() >= MOST_CALLS {
+            return Err(FaultKind::TooMany);
+        }
+        Ok(ScriptCall { driver, line, call })
+    }
+
+    /// Adds a call without a fault.
+    fn add_call(&mut self, call: ScriptCall) -> Result<(), NoMemory>
+        requires { IsBoard (with_call call self.old.board) }
+        ensures { (past : List Statement) (words : CallWords) → Agrees past self.old
+            → call ≡ script_call (board_of past) words
+            → OnOk result (Agrees (statements.Call words ∷ past) self.new) }
+    {
+        self.owners.note(&call)?;
+        self.board.add_call(call)?;
+        self.section = Section::Scripts;
+        self.stood.begun = true;
         Ok(())
     }
 
@@ -203,23 +268,6 @@ fn has_flag_twice(call: CallWords) -> bool
     match call {
         CallWords::Request { twice, .. } => twice,
         _ => false,
-    }
-}
-
-/// Takes note of the statement's call, if it is one.
-fn note_owner(owners: &mut Owners, board: &Board, statement: &Statement) -> Result<(), NoMemory>
-    ensures { Owns owners.old board.now.calls
-        → OnOk result (Owns owners.new (with_statement statement.now board.now).calls) }
-{
-    match statement {
-        Statement::Call(call) => {
-            if tells_owner(*call) {
-                owners.note(&script_call(board, *call))
-            } else {
-                Ok(())
-            }
-        }
-        _ => Ok(()),
     }
 }
 

@@ -1,12 +1,14 @@
 -- How a text falls into text lines, and a text line into words.
-use Rattle.std.proofs.Common.{◌≡◌, ℕ, suc, ◌+◌, ◌<◌, ◌≤◌, Bool, true, false, not, cond, ◌||◌, List, [], ◌∷◌, length}
-use Rattle.std.proofs.Common.{take, drop, Some, None, refl, sym, ap, ◌∙◌, subst, arith}
-use Rattle.std.specs.List.{position, position_or_len, slice_get}
+use Rattle.std.proofs.Common.{◌≡◌, ℕ, suc, ◌+◌, ◌<◌, ◌≤◌, nat_lt, Bool, true, false, not, cond, ◌&&◌, ◌||◌, List, [], ◌∷◌, length}
+use Rattle.std.proofs.Common.{take, drop, get_or, Some, None, refl, sym, ap, ◌∙◌, subst, arith}
+use Rattle.std.specs.List.{list_all, position, position_or_len, slice_get}
 use Rattle.std.proofs.lemmas.Bool.Decides.{nat_tests}
 use Rattle.std.proofs.lemmas.List.{take_all, drop_all}
+use Rattle.std.proofs.lemmas.List.Sums.{position_or_len_is}
 use Rattle.std.proofs.lemmas.Option.{same_Some}
 use Rattle.board_words.specs.TextLines.{text_lines, words_of, onto_first, is_line_feed, is_blank, is_hash, without_comment, split_at_blanks, is_within_word}
-use Rattle.board_words.specs.Ends.{starts_word, ends_word}
+use Rattle.board_words.specs.TextLines.{is_printable, is_allowed, has_bad_byte}
+use Rattle.board_words.specs.Ends.{starts_word, ends_word, ends_printable}
 use Rattle.board_words.specs.Seen.{are_none}
 
 take_front : (b : ℕ) (bs : List ℕ) (n : ℕ) → take (1 + n) (b ∷ bs) ≡ b ∷ take n bs
@@ -54,6 +56,44 @@ line_alone text h some =
     let past : length text ≤ n = grind (arith, nat_tests, not_found _ n h) in
     let past_one : length text ≤ n + 1 = omega arith in
     line_cut text some ∙ rw (take_all n text past, drop_all (n + 1) text past_one) refl
+
+-- a line that is printable up to its line feed
+
+printed_if : (t : Bool) (b : ℕ) (bs : List ℕ) (n : ℕ) → is_printable b ≡ t
+    → (get_or bs n 0 ≡ 10 → (position_or_len is_line_feed bs ≡ n) × (list_all is_allowed (take n bs) ≡ true))
+    → get_or (b ∷ bs) (cond (not (not t)) (1 + n) 0) 0 ≡ 10
+    → (position_or_len is_line_feed (b ∷ bs) ≡ cond (not (not t)) (1 + n) 0)
+    × (list_all is_allowed (take (cond (not (not t)) (1 + n) 0) (b ∷ bs)) ≡ true)
+printed_if true b bs n printed rest at =
+    let e : 1 + n ≡ suc n = omega arith in
+    let known = rest (ap (λ m. get_or (b ∷ bs) m 0) (sym e) ∙ at) in
+    let no_feed : is_line_feed b ≡ false = grind (arith, nat_tests) in
+    let allowed : is_allowed b ≡ true = grind (arith, nat_tests) in (
+      ap (λ t. cond (not t) (1 + position_or_len is_line_feed bs) 0) no_feed ∙ ap (λ m. 1 + m) known.0,
+      ap (list_all is_allowed) (take_front b bs n) ∙ ap (λ t. t && list_all is_allowed (take n bs)) allowed ∙ known.1,
+    )
+printed_if false b bs n printed rest at =
+    let feed : is_line_feed b ≡ true = grind (arith, nat_tests) in
+    (ap (λ t. cond (not t) (1 + position_or_len is_line_feed bs) 0) feed, refl)
+
+printed : (text : List ℕ) → get_or text (position_or_len ends_printable text) 0 ≡ 10
+    → (position_or_len is_line_feed text ≡ position_or_len ends_printable text)
+    × (list_all is_allowed (take (position_or_len ends_printable text) text) ≡ true)
+printed [] at = cc
+printed (b ∷ bs) at = printed_if (is_printable b) b bs (position_or_len ends_printable bs) refl (printed bs) at
+
+pub printed_line : (text : List ℕ) (i : ℕ) → i < length text → get_or text i 0 ≡ 10
+    → ((k : ℕ) → k < i → ends_printable (get_or text k 0) ≡ false)
+    → (Some i ≡ position is_line_feed text) × (has_bad_byte (take i text) ≡ false)
+printed_line text i within at before =
+    let ends : ends_printable (get_or text i 0) ≡ true = ap ends_printable at in
+    let first = position_or_len_is ends_printable text i 0 (omega arith) before (λ h. ends) in
+    let known = printed text (ap (λ m. get_or text m 0) first ∙ at) in
+    let feed = known.0 ∙ first in
+    let there : nat_lt i (length text) ≡ true = grind (arith, nat_tests) in (
+      sym (ap (λ m. cond (nat_lt m (length text)) (Some m) None) feed ∙ ap (λ t. cond t (Some i) None) there),
+      ap (λ m. has_bad_byte (take m text)) (sym first) ∙ ap not known.1,
+    )
 
 -- words
 

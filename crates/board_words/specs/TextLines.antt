@@ -25,6 +25,10 @@ abbrev pub text_lines : List ℕ → List (List ℕ)
 text_lines [] = []
 text_lines (b ∷ bs) = if is_line_feed b then [] ∷ text_lines bs else onto_first b (text_lines bs)
 
+-- 0x20 to 0x7E
+abbrev pub is_printable : ℕ → Bool
+is_printable b = nat_le 32 b && nat_le b 126
+
 -- a byte that may stand in a text line: a tab, a carriage return, or 0x20 to 0x7E
 abbrev pub is_allowed : ℕ → Bool
 is_allowed b = (b == 9) || ((b == 13) || (nat_le 32 b && nat_le b 126))

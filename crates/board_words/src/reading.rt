@@ -57,7 +57,9 @@ fn is_unknown_moment(call: CallWord, has_moments: bool) -> bool
     !has_moments && matches!(call, CallWord::Moment)
 }
 
-/// What a statement on a part says, by its first word and the words after it.
+/// What a statement on a part says, by its first word and the words after it. It stands apart: most
+/// statements are calls.
+#[inline(never)]
 fn read_named_part(word: &[u8], words: Words<'_>) -> Result<Statement, FaultKind>
     requires picks { forms.is word.now (codes "picks") ≡ false }
     requires call { list_any (forms.is word.now) call_texts ≡ false }
@@ -71,6 +73,7 @@ fn read_named_part(word: &[u8], words: Words<'_>) -> Result<Statement, FaultKind
 }
 
 /// The picks that the words spell.
+#[inline(never)]
 fn read_picks(alloc: Global, words: Words<'_>) -> Result<Statement, StatementRefused>
     ensures { Tells (forms.picks_form (words_left words.entry))
         (statements.Picks (said.picks_of (words_left words.entry))) result }

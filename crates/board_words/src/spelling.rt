@@ -1,6 +1,6 @@
 //! How numbers, names and picks are spelled.
 ghost use Rattle.std.specs.Prelude.{◌≡◌, ℕ, Some, None, ◌&&◌, nat_le, nat_lt, if◌then◌else◌};
-ghost use Rattle.std.specs.Prelude.{length};
+ghost use Rattle.std.specs.Prelude.{length, true, IfSome};
 ghost use Rattle.std.specs.List.{list_all, position};
 ghost use Rattle.std.specs.Option.{option_copied};
 ghost use Rattle.board_def.specs.Names.{is_digit, is_letter, is_name_byte, is_name, name_of};
@@ -19,11 +19,37 @@ const LONGEST_NUMBER: usize = 10;
 pub fn number(word: &[u8], low: u32, high: u32) -> Option<u32>
     ensures { result ≡ number_between low high word.now }
 {
-    if !is_decimal(word) {
-        return None;
+    // most numbers of a board have one digit
+    let value = match one_digit(word) {
+        Some(value) => value,
+        None => number_up_to(word, high)?,
+    };
+    if low <= value && value <= high {
+        Some(value)
+    } else {
+        None
     }
-    let value = value_up_to(word, high)?;
-    if low <= value { Some(value) } else { None }
+}
+
+/// The value of a word that is one digit.
+fn one_digit(word: &[u8]) -> Option<u32>
+    ensures { IfSome result (λ value. (is_decimal word.now ≡ true) × (value ≡ value_of word.now)) }
+{
+    match word {
+        [digit] if is_digit(*digit) => Some(u32::from(*digit - b'0')),
+        _ => None,
+    }
+}
+
+/// The number that the word spells, if it is at most `high`.
+fn number_up_to(word: &[u8], high: u32) -> Option<u32>
+    ensures { result ≡ number_between 0 high word.now }
+{
+    if is_decimal(word) {
+        value_up_to(word, high)
+    } else {
+        None
+    }
 }
 
 /// Whether the word is a number without a leading zero.
