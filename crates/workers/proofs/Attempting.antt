@@ -126,7 +126,8 @@ module _ {lines : List LockSeen} {j : JobSeen} {place : ℕ} (h : AtHand lines j
       ∙ (ap (λ (i : ℕ). slice_get (numbers_of lines) i) k_is ∙ at_map (λ (l : LockSeen). l.def.line) lines (j.first + place) h.at.line h.at.at_line)))
 
   -- the line and the pass, as the code has them
-  module _ {line : LockSeen} (is_line : line ≡ get_or h.here (h.inside.first + place) line) {post : PostSeen} (is_post : post ≡ get_or h.inside.posts place post) where
+  module _ {line : LockSeen} (is_line : line ≡ get_or h.here (h.inside.first + place) line)
+      {post : PostSeen} (is_post : post ≡ get_or h.inside.posts place post) where
     pub can_step : CanStep line post
     can_step =
         let p = h.at.is_post in

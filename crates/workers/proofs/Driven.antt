@@ -218,7 +218,8 @@ module _ {board : BoardSeen} {lines : List LockSeen} {r : DriverNo} {j : JobSeen
   same_posts = subst (λ (x : JobSeen). KeepsPosts lines j x) (sym is)
       (record { actor = refl; first = refl; as_many = refl; posted = d.posted; grew = posts_self j.posts })
 
-  pub driver_done : (wanted : LineDef → List Entry → Actor → Type 0) → IsDriven board lines r now → slice_get board.calls q ≡ None → AttemptsDriver wanted board lines r attempts.NotYet j now
+  pub driver_done : (wanted : LineDef → List Entry → Actor → Type 0) → IsDriven board lines r now → slice_get board.calls q ≡ None
+      → AttemptsDriver wanted board lines r attempts.NotYet j now
   driver_done wanted e none =
       record {
         keeps = same_posts;

@@ -146,7 +146,7 @@ module _ {lines : List LockSeen} {j : JobSeen} {old mid : List PassSeen} {left b
                     | inr none ↦
                         inr (
                           (λ i from less is.
-                          none.0 i (one_on i from (λ same. other.0 (is ∙ (ap (λ (n : ℕ). j.first + n) same ∙ sym t.place_is)))) less is),
+                              none.0 i (one_on i from (λ same. other.0 (is ∙ (ap (λ (n : ℕ). j.first + n) same ∙ sym t.place_is)))) less is),
                           none.1,
                         )
                   ],

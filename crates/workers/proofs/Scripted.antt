@@ -1,5 +1,5 @@
 -- A driver's own entries are those of its calls.
-use Rattle.std.proofs.Common.{◌≡◌, ℕ, ◌+◌, IsSomeAnd, Option, Some, None, List, map, slice_get, reverse, refl, sym, ap, ◌∙◌, subst}
+use Rattle.std.proofs.Common.{◌≡◌, ℕ, ◌+◌, IsSomeAnd, Option, Some, None, List, map, slice_get, reverse, sym, ap, ◌∙◌, subst}
 use Rattle.irq_base.specs.declared.entries.Actor.{Actor}
 use Rattle.irq_base.specs.declared.entries.Actor.TheVariants as actors
 use Rattle.irq_base.specs.declared.entries.Entry.{Entry}

@@ -1,7 +1,7 @@
 use Rattle.std.proofs.Common.{List, ◌∷◌, [], ap, subst, ◌∙◌, slice_get}
 use Rattle.workers.specs.Gathers.{Gathers}
 use Rattle.workers.specs.Seen.{JobSeen}
-use Rattle.workers.proofs.Gathering.{gathers_on, none_came, one_came, all_came}
+use Rattle.workers.proofs.Gathering.{gathers_on, none_came, one_came}
 use Rattle.workers.proofs.Lists.{at_old}
 use Rattle.workers.proofs.gathers.meet_all.Goals as goal
 
