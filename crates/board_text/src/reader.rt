@@ -209,6 +209,7 @@ impl Reader {
     /// The call that the last driver makes by these words, or what is wrong with it after the
     /// statements so far.
     #[tactic(auto, using(crate::proofs::Made::fault_read))]
+    #[inline(always)]
     fn call_made(&self, words: CallWords) -> Result<ScriptCall, FaultKind>
         ensures { (past : List Statement) → Agrees past self.now → Makes past words result }
     {
@@ -233,6 +234,7 @@ impl Reader {
     }
 
     /// Adds a call without a fault.
+    #[inline(always)]
     fn add_call(&mut self, call: ScriptCall) -> Result<(), NoMemory>
         requires { IsBoard (with_call call self.old.board) }
         ensures { (past : List Statement) (words : CallWords) → Agrees past self.old
