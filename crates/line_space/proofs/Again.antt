@@ -10,9 +10,8 @@ use Rattle.irq_base.specs.declared.entries.LinkAnswer.TheVariants as links
 use Rattle.irq_base.specs.declared.lines.LineDef.{LineDef}
 use Rattle.irq_base.specs.declared.numbers.DevNo.{DevNo}
 use Rattle.irq_base.specs.declared.numbers.DriverNo.{DriverNo}
-use Rattle.irq_model.specs.Legal.{IsDue, IsLegalPast}
+use Rattle.irq_model.specs.Legal.{IsDue}
 use Rattle.irq_model.specs.Next.{next_past}
-use Rattle.irq_model.specs.Valid.{IsValid}
 use Rattle.irq_laws.specs.LogLimit.{with_log}
 use Rattle.device_table.proofs.Lowest.{own_by}
 use Rattle.device_table.specs.Rows.{at, HasOwnKeys}
@@ -20,7 +19,7 @@ use Rattle.device_table.specs.Sums.{one_if}
 use Rattle.act_list.specs.Actions.{has, answer_by}
 use Rattle.ask_counts.specs.Rows.{HasRoom}
 use Rattle.ask_counts.specs.declared.rows.AskRow.{AskRow}
-use Rattle.line_scripts.specs.Rows.{RowSeen, place_of, within_of}
+use Rattle.line_scripts.specs.Rows.{RowSeen}
 use Rattle.line_marks.proofs.Bounds.{has_space}
 use Rattle.line_marks.proofs.CellFollows.{is_of, is_open}
 use Rattle.line_marks.proofs.DueIs.{due_is}
@@ -31,7 +30,6 @@ use Rattle.line_marks.specs.DriversDue.{request_to}
 use Rattle.line_marks.specs.Expected.{IsExpected, IsOpen}
 use Rattle.line_marks.specs.Kinds.{kind_at}
 use Rattle.line_marks.specs.Next.{due_by}
-use Rattle.line_marks.specs.Scripts.{IsAt}
 use Rattle.line_marks.specs.State.{StateSeen, IsOf, state_of, state_after}
 use Rattle.line_state.specs.Entries.{entry_by, call_entry, CanMake, CanMakeOfCpu, CanMakeOfThread, CanMakeOfCall}
 use Rattle.line_state.specs.Seen.{IsAimOf, taker_of}
@@ -52,7 +50,7 @@ use Rattle.line_futures.specs.Made.{IsMade, MayFollow}
 use Rattle.line_words.proofs.Looking.{asks_at}
 use Rattle.line_words.proofs.Past.{longer, shaped}
 use Rattle.line_words.specs.Again.{unbitted}
-use Rattle.line_words.specs.Scripts.{AreScripts}
+use Rattle.line_space.proofs.ReadAt.{ReadAt}
 
 -- ---- thread bits decide nothing
 
@@ -92,11 +90,7 @@ room_canon : (v h t : Bool) (o : Option AskRow) → HasRoom o → HasRoom (optio
 room_canon v h t None room = tt
 room_canon v h t (Some r) room = (room.0, kept_few v r.fresh room.1)
 
-module _ (def : LineDef) (valid : IsValid def) (g : List Entry) (legal : IsLegalPast def g) (t : StateSeen)
-    (again : unbitted t ≡ canon (state_of def g)) where
-  abbrev s : StateSeen
-  s = state_of def g
-
+module _ (def : LineDef) (g : List Entry) (t : StateSeen) (again : unbitted t ≡ canon (state_of def g)) where
   canon_again : canon t ≡ canon (canon (state_of def g))
   canon_again = sym (unbitted_canon t) ∙ ap canon again
 
@@ -110,112 +104,113 @@ module _ (def : LineDef) (valid : IsValid def) (g : List Entry) (legal : IsLegal
   pub taker_same : taker_of t ≡ taker_of (state_of def g)
   taker_same = ap taker_of again
 
+module _ {def : LineDef} {g : List Entry} {t : StateSeen} {scripts : List (DriverNo × RowSeen)} (read : ReadAt def g t scripts) where
   -- ---- what is due
 
-  module _ (scripts : List (DriverNo × RowSeen)) (are : AreScripts def scripts)
-      (at_places : (r : DriverNo) → IsAt def g r (place_of scripts r) (within_of scripts r)) where
-    pub due_again : (a : Actor) → due_by def t scripts a ≡ next_past def g a
-    due_again a =
-        sym (due_same def t scripts a)
-        ∙ (ap (λ (x : StateSeen). due_by def x scripts a) canon_again
-        ∙ (due_same def (canon (state_of def g)) scripts a
-        ∙ (due_same def (state_of def g) scripts a
-        ∙ sym (due_is def g scripts are.calls at_places a valid legal))))
+  pub due_again : (a : Actor) → due_by def t scripts a ≡ next_past def g a
+  due_again a =
+      sym (due_same def t scripts a)
+      ∙ (ap (λ (x : StateSeen). due_by def x scripts a) (canon_again def g t read.again)
+      ∙ (due_same def (canon (state_of def g)) scripts a
+      ∙ (due_same def (state_of def g) scripts a
+      ∙ sym (due_is def g scripts read.are.calls read.places a read.valid read.legal))))
 
   -- ---- what the functions of the state ask for
 
   pub is_of_again : IsOf def t
   is_of_again =
-      let o = is_of def g valid legal in
+      let o = is_of def g read.valid read.legal in
       record {
-        trigger = ap (λ (x : StateSeen). x.cell.trigger) again ∙ o.trigger;
-        retriggers = ap (λ (x : StateSeen). x.cell.retriggers) again ∙ o.retriggers;
+        trigger = ap (λ (x : StateSeen). x.cell.trigger) read.again ∙ o.trigger;
+        retriggers = ap (λ (x : StateSeen). x.cell.retriggers) read.again ∙ o.retriggers;
       }
 
   pub aim_again : IsAimOf def t.aim
-  aim_again = record { cpus = ap (λ (x : StateSeen). x.aim.cpus) again; later = ap (λ (x : StateSeen). x.aim.later) again }
+  aim_again = record { cpus = ap (λ (x : StateSeen). x.aim.cpus) read.again; later = ap (λ (x : StateSeen). x.aim.later) read.again }
 
-  module _ (short : length g ≤ 100000000) where
-    space : HasSpace (state_of def g)
-    space = has_space (with_log def 100000000) g (longer def valid) short
+  short : length g ≤ 100000000
+  short = let few = read.few in omega (arith, few)
 
-    room_again : (d : DevNo) → HasRoom (at t.asks d)
-    room_again d =
-        let P : Option AskRow → Type 0 = λ o. HasRoom o in
-        subst P (sym (ap (λ (x : StateSeen). at x.asks d) again
-        ∙ asks_at (serves_at (state_of def g)) (is_working (state_of def g).round.working)
-        (is_thread_working (state_of def g).threads) (state_of def g).asks d))
-        (room_canon (serves_at (state_of def g) d) (is_working (state_of def g).round.working d) (is_thread_working (state_of def g).threads d)
-        (at (state_of def g).asks d) (space.asks d))
+  space : HasSpace (state_of def g)
+  space = has_space (with_log def 100000000) g (longer def read.valid) short
 
-    depth_again : t.desc.depth < 2 ^ 32 - 1
-    depth_again = let P : ℕ → Type 0 = λ n. n < 2 ^ 32 - 1 in subst P (sym (ap (λ (x : StateSeen). x.desc.depth) again)) space.depth
+  room_again : (d : DevNo) → HasRoom (at t.asks d)
+  room_again d =
+      let P : Option AskRow → Type 0 = λ o. HasRoom o in
+      subst P (sym (ap (λ (x : StateSeen). at x.asks d) read.again
+      ∙ asks_at (serves_at (state_of def g)) (is_working (state_of def g).round.working)
+      (is_thread_working (state_of def g).threads) (state_of def g).asks d))
+      (room_canon (serves_at (state_of def g) d) (is_working (state_of def g).round.working d) (is_thread_working (state_of def g).threads d)
+      (at (state_of def g).asks d) (space.asks d))
 
-    rounds_again : t.list.rounds < 2 ^ 32 - 2
-    rounds_again = let P : ℕ → Type 0 = λ n. n < 2 ^ 32 - 2 in subst P (sym (ap (λ (x : StateSeen). x.list.rounds) again)) (omega arith)
+  depth_again : t.desc.depth < 2 ^ 32 - 1
+  depth_again = let P : ℕ → Type 0 = λ n. n < 2 ^ 32 - 1 in subst P (sym (ap (λ (x : StateSeen). x.desc.depth) read.again)) space.depth
 
-    handled_again : t.counts.counts.threads_handled < 2 ^ 32 - 1
-    handled_again =
-        let P : ℕ → Type 0 = λ n. n < 2 ^ 32 - 1 in
-        subst P (sym (ap (λ (x : StateSeen). x.counts.counts.threads_handled) again))
-        (one_few (not ((state_of def g).counts.counts.threads_handled == (state_of def g).counts.counts.last)))
+  rounds_again : t.list.rounds < 2 ^ 32 - 2
+  rounds_again = let P : ℕ → Type 0 = λ n. n < 2 ^ 32 - 2 in subst P (sym (ap (λ (x : StateSeen). x.list.rounds) read.again)) (omega arith)
 
-    open_again : IsOpen def t
-    open_again edge eoi zero =
-        ap (λ (x : StateSeen). x.cell.masked) again
-        ∙ is_open def g valid legal edge eoi (sym (ap (λ (x : StateSeen). x.desc.depth) again) ∙ zero)
+  handled_again : t.counts.counts.threads_handled < 2 ^ 32 - 1
+  handled_again =
+      let P : ℕ → Type 0 = λ n. n < 2 ^ 32 - 1 in
+      subst P (sym (ap (λ (x : StateSeen). x.counts.counts.threads_handled) read.again))
+      (one_few (not ((state_of def g).counts.counts.threads_handled == (state_of def g).counts.counts.last)))
 
-    absent_again : (d : DevNo) → has d (state_of def g).list.actions ≡ false → has d t.list.actions ≡ false
-    absent_again d h =
-        sym (has_same d t.list.actions) ∙ (ap (λ (x : StateSeen). has d x.list.actions) again ∙ (has_same d (state_of def g).list.actions ∙ h))
+  open_again : IsOpen def t
+  open_again edge eoi zero =
+      ap (λ (x : StateSeen). x.cell.masked) read.again
+      ∙ is_open def g read.valid read.legal edge eoi (sym (ap (λ (x : StateSeen). x.desc.depth) read.again) ∙ zero)
 
-    of_cpu_again : (step : CpuStep) → CanMakeOfCpu def step t
-    of_cpu_again (cpus.Take way) = rounds_again
-    of_cpu_again cpus.End = (rounds_again, depth_again, open_again)
-    of_cpu_again _ = tt
+  absent_again : (d : DevNo) → has d (state_of def g).list.actions ≡ false → has d t.list.actions ≡ false
+  absent_again d h =
+      sym (has_same d t.list.actions) ∙ (ap (λ (x : StateSeen). has d x.list.actions) read.again ∙ (has_same d (state_of def g).list.actions ∙ h))
 
-    of_thread_again : (step : ThreadStep) → CanMakeOfThread step t
-    of_thread_again threads.Return = handled_again
-    of_thread_again _ = tt
+  of_cpu_again : (step : CpuStep) → CanMakeOfCpu def step t
+  of_cpu_again (cpus.Take way) = rounds_again
+  of_cpu_again cpus.End = (rounds_again, depth_again, open_again)
+  of_cpu_again _ = tt
 
-    of_call_again : (r : DriverNo) (step : CallStep) → IsExpected def (call_entry def t r step) (state_of def g) → CanMakeOfCall step t
-    of_call_again r (calls.Ask dev) x = room_again dev
-    of_call_again r calls.Disable x = depth_again
-    of_call_again r (calls.Request dev flags) x =
-        absent_again dev (requested def t (state_of def g) r dev flags (answer_by (kind_at t.kinds dev) flags t.list.actions) x)
-    of_call_again r _ x = tt
+  of_thread_again : (step : ThreadStep) → CanMakeOfThread step t
+  of_thread_again threads.Return = handled_again
+  of_thread_again _ = tt
 
-    can_again : (step : DueStep) → IsExpected def (entry_by def t step) (state_of def g) → CanMake def step t
-    can_again (steps.Cpu cpu step) x = of_cpu_again step
-    can_again (steps.Thread dev step) x = of_thread_again step
-    can_again (steps.Call driver step) x = of_call_again driver step x
+  of_call_again : (r : DriverNo) (step : CallStep) → IsExpected def (call_entry def t r step) (state_of def g) → CanMakeOfCall step t
+  of_call_again r (calls.Ask dev) x = room_again dev
+  of_call_again r calls.Disable x = depth_again
+  of_call_again r (calls.Request dev flags) x =
+      absent_again dev (requested def t (state_of def g) r dev flags (answer_by (kind_at t.kinds dev) flags t.list.actions) x)
+  of_call_again r _ x = tt
 
-    pub can_due : (step : DueStep) → IsDue def (entry_by def t step) g → CanMake def step t
-    can_due step due = can_again step (expected (with_log def 100000000) g (longer def valid) legal short (entry_by def t step) due)
+  can_again : (step : DueStep) → IsExpected def (entry_by def t step) (state_of def g) → CanMake def step t
+  can_again (steps.Cpu cpu step) x = of_cpu_again step
+  can_again (steps.Thread dev step) x = of_thread_again step
+  can_again (steps.Call driver step) x = of_call_again driver step x
+
+  pub can_due : (step : DueStep) → IsDue def (entry_by def t step) g → CanMake def step t
+  can_due step due = can_again step (expected (with_log def 100000000) g (longer def read.valid) read.legal short (entry_by def t step) due)
 
   -- ---- what an entry makes of it
 
   module _ (e : Entry) (due : IsDue def e g) where
     follows : MayFollow e (state_of def g)
-    follows = may_follow def g valid legal e due
+    follows = may_follow def g read.valid read.legal e due
 
     canon_follows : MayFollow e (canon (state_of def g))
     canon_follows = record {
       made = made_canon e (state_of def g) follows.made;
       served = omega arith;
       own = let P : List (DevNo × AskRow) → Type 0 = λ a. HasOwnKeys a in
-          subst P (sym (shaped def g valid legal).asks) (own_by _ def.devices valid.distinct);
+          subst P (sym (shaped def g read.valid read.legal).asks) (own_by _ def.devices read.valid.distinct);
     }
 
     again_follows : MayFollow e t
     again_follows =
-        let f = told (λ (x : StateSeen). MayFollow e x) canon_follows in
+        let f = told def g t read.again (λ (x : StateSeen). MayFollow e x) canon_follows in
         record { made = made_bits e t f.made; served = f.served; own = f.own }
 
     pub after_again : canon (state_after def e t) ≡ canon (state_of def (e ∷ g))
     after_again =
         sym (canon_after def t e again_follows)
-        ∙ (ap (λ (x : StateSeen). canon (state_after def e x)) canon_again
+        ∙ (ap (λ (x : StateSeen). canon (state_after def e x)) (canon_again def g t read.again)
         ∙ (canon_after def (canon (state_of def g)) e canon_follows
         ∙ (canon_after def (state_of def g) e follows
-        ∙ ap canon (sym (state_follows def e g valid (due, legal))))))
+        ∙ ap canon (sym (state_follows def e g read.valid (due, read.legal))))))

@@ -1,4 +1,5 @@
 pub mod Once
+pub mod ReadAt
 pub mod Again
 pub mod Stepped
 pub mod Actors

@@ -19,11 +19,12 @@ use Rattle.irq_laws.specs.LogLimit.{with_log}
 use Rattle.line_scripts.specs.Rows.{RowSeen, place_of, within_of}
 use Rattle.line_marks.specs.Line.{IsLine}
 use Rattle.line_marks.specs.Scripts.{IsAt}
-use Rattle.line_marks.specs.State.{state_of, state_after}
+use Rattle.line_marks.specs.State.{StateSeen, state_of, state_after}
 use Rattle.line_core.proofs.More.{newest, can_move, line_more}
 use Rattle.line_core.specs.Moves.{Moves, CanMove}
 use Rattle.line_words.proofs.Past.{longer}
 use Rattle.line_words.specs.Scripts.{AreScripts}
+use Rattle.line_space.proofs.ReadAt.{ReadAt}
 
 none_laid : (cs : List Call) (es : List Entry) (p k : ℕ) → cs ≡ [] → Laid cs es p k → (p ≡ 0) × (k ≡ 0)
 none_laid [] es zero k none h = (refl, h.1)
@@ -52,10 +53,9 @@ module _ (def : LineDef) (valid : IsValid def) (g : List Entry) where
       let all = valid.few_calls in
       omega (arith, few, own, all)
 
-module _ (def : LineDef) (valid : IsValid def) (g : List Entry) (legal : IsLegalPast def g) (few : length g < 100000000)
-    (scripts : List (DriverNo × RowSeen)) (are : AreScripts def scripts)
-    (at_places : (r : DriverNo) → IsAt def g r (place_of scripts r) (within_of scripts r))
-    (a : Actor) (e : Entry) (due : next_past def g a ≡ Some e) where
+-- an entry that is next of an actor there
+module _ {def : LineDef} {g : List Entry} {t : StateSeen} {scripts : List (DriverNo × RowSeen)} (read : ReadAt def g t scripts)
+    {a : Actor} {e : Entry} (due : next_past def g a ≡ Some e) where
   pub is_due : IsDue def e g
   is_due = ap (next_past def g) (due_is_own_past def g a e due) ∙ due
 
@@ -63,12 +63,13 @@ module _ (def : LineDef) (valid : IsValid def) (g : List Entry) (legal : IsLegal
   line =
       let back = reverse-reverse g in
       let long = length-reverse g in
+      let few = read.few in
       record {
-        valid = longer def valid;
-        legal = subst (λ (x : List Entry). IsLegalPast def x) (sym back) legal;
+        valid = longer def read.valid;
+        legal = subst (λ (x : List Entry). IsLegalPast def x) (sym back) read.legal;
         state = ap (state_of def) (sym back);
-        calls = are.calls;
-        at = λ r. subst (λ (x : List Entry). IsAt def x r (place_of scripts r) (within_of scripts r)) (sym back) (at_places r);
+        calls = read.are.calls;
+        at = λ r. subst (λ (x : List Entry). IsAt def x r (place_of scripts r) (within_of scripts r)) (sym back) (read.places r);
         room = omega (arith, long, few);
       }
 
@@ -82,6 +83,7 @@ module _ (def : LineDef) (valid : IsValid def) (g : List Entry) (legal : IsLegal
     more : IsLine (with_log def 100000000) (reverse g ++ e ∷ []) (state_after (with_log def 100000000) e (state_of def g)) after
     more =
         let long = length-reverse g in
+        let few = read.few in
         line_more (with_log def 100000000) (reverse g) (state_of def g) scripts after e line a due_there (omega (arith, long, few)) moves
 
     back_more : reverse (reverse g ++ e ∷ []) ≡ e ∷ g
@@ -97,4 +99,4 @@ module _ (def : LineDef) (valid : IsValid def) (g : List Entry) (legal : IsLegal
     }
 
     pub few_more : (r : DriverNo) → place_of after r < 2 ^ 32
-    few_more r = places_few def valid (e ∷ g) (place_of after r) (within_of after r) r (at_more r)
+    few_more r = places_few def read.valid (e ∷ g) (place_of after r) (within_of after r) r (at_more r)

@@ -40,8 +40,8 @@ returns-clause-steps c =
     (λ past legal same.
     let again = c.in_ok-read.ensures.read.state past legal same in
     c.as_slice.ensures.value ∙ (c.in_ok-push_actors.ensures
-    ∙ (ap (λ (o : Option CpuNo). actors_by def o (taker_of t) c.as_slice-drivers.result.now) (flow_same def valid past legal t again)
-    ∙ (ap (λ (o : Option CpuNo). actors_by def (state_of def past).desc.flow o c.as_slice-drivers.result.now) (taker_same def valid past legal t again)
+    ∙ (ap (λ (o : Option CpuNo). actors_by def o (taker_of t) c.as_slice-drivers.result.now) (flow_same def past t again)
+    ∙ (ap (λ (o : Option CpuNo). actors_by def (state_of def past).desc.flow o c.as_slice-drivers.result.now) (taker_same def past t again)
     ∙ ap (λ (rs : List DriverNo). actors_by def (state_of def past).desc.flow (taker_of (state_of def past)) rs) drivers))))
     added))
     c.add_all.ensures.found
