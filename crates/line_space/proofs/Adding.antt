@@ -48,10 +48,10 @@ module _ {def : LineDef} {g : List Entry} {t : StateSeen} {scripts : List (Drive
     due_step = due_so ∙ ap (λ (x : Option DueStep). option_map (entry_by def t) x) is
 
     pub can : CanMake def step t
-    can = can_due due.read step (is_due due.read due_step)
+    can = can_due due.read step (is_due due.read a due_step)
 
     pub moves_may : CanMove a scripts
-    moves_may = may_move due.read due_step
+    moves_may = may_move due.read a due_step
 
 -- The entry `e` was made of the step that is due of the actor, and the scripts have moved on.
 pub record MadeAt (def : LineDef) (g : List Entry) (t : StateSeen) (scripts : List (DriverNo × RowSeen)) (a : Actor) (e : Entry)
@@ -68,18 +68,18 @@ made_at due is made moves = record { read = due.read; due = due_step due is ∙ 
 module _ {def : LineDef} {g : List Entry} {t : StateSeen} {scripts : List (DriverNo × RowSeen)} {a : Actor} {e : Entry}
     {after : List (DriverNo × RowSeen)} (made : MadeAt def g t scripts a e after) where
   pub few_after : (r : DriverNo) → place_of after r < 4294967296
-  few_after = few_more made.read made.due after made.moves
+  few_after = few_more made.read a made.due after made.moves
 
   pub are_after : AreScripts def after
-  are_after = are_more made.read made.due after made.moves
+  are_after = are_more made.read a made.due after made.moves
 
   pub words_after : (u : StateSeen) → u ≡ state_after def e t → (ds : List DriverNo) → ds ≡ drivers_in def.calls
       → state_told def (canon u) (places_told after ds) ≡ node def (e ∷ g)
   words_after u next ds d =
-      let due = is_due made.read made.due in
+      let due = is_due made.read a made.due in
       ap (λ (x : StateSeen). state_told def x (places_told after ds)) (ap canon next ∙ after_again made.read e due)
       ∙ (ap (λ (x : List DriverNo). state_told def (canon (state_of def (e ∷ g))) (places_told after x)) d
-      ∙ told_is def (e ∷ g) after made.read.valid (due, made.read.legal) are_after (at_more made.read made.due after made.moves))
+      ∙ told_is def (e ∷ g) after made.read.valid (due, made.read.legal) are_after (at_more made.read a made.due after made.moves))
 
   pub one_added : (found new : List (Entry × List ℕ)) (ws : List ℕ) → new ≡ found ++ (e, ws) ∷ [] → ws ≡ node def (e ∷ g)
       → new ≡ found ++ steps_of def g a
@@ -89,5 +89,5 @@ module _ {def : LineDef} {g : List Entry} {t : StateSeen} {scripts : List (Drive
   -- numbers can be read into the state after it
   pub tables_after : (u : StateSeen) → u ≡ state_after def e t → HasTables def u
   tables_after u next =
-      let due = is_due made.read made.due in
+      let due = is_due made.read a made.due in
       tables_of_canon def (e ∷ g) made.read.valid (due, made.read.legal) u (ap canon next ∙ after_again made.read e due)

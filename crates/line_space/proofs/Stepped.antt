@@ -55,7 +55,7 @@ module _ (def : LineDef) (valid : IsValid def) (g : List Entry) where
 
 -- an entry that is next of an actor there
 module _ {def : LineDef} {g : List Entry} {t : StateSeen} {scripts : List (DriverNo × RowSeen)} (read : ReadAt def g t scripts)
-    {a : Actor} {e : Entry} (due : next_past def g a ≡ Some e) where
+    (a : Actor) {e : Entry} (due : next_past def g a ≡ Some e) where
   pub is_due : IsDue def e g
   is_due = ap (next_past def g) (due_is_own_past def g a e due) ∙ due
 
