@@ -58,7 +58,8 @@ pub fn run<
 where
     M::Line: Send + Sync,
     ensures status { result.status ≡ status_of result.outcome.ending }
-    ensures buffer { result.output ≡ None → result.outcome.ending ≡ Ending.NoMemory WantedFor.Making }
+    ensures buffer { result.output ≡ None
+        → result.outcome.ending ≡ Ending.NoMemory WantedFor.Making }
     ensures form { (asked : Command) → IsForm args asked
         → result.outcome.ending ≡ Ending.Usage → ⊥ }
     ensures usage { IsNoForm args
