@@ -1,8 +1,8 @@
 //! Whether a text begins with a row: eight bytes at a time.
 ghost use Rattle.std.specs.Prelude.{◌≡◌, ℕ, ◌++◌, List, MatchOption, false, length, true};
 
-/// What follows the row, if the text begins with it. That is `strip_prefix`, in half as many
-/// instructions for a row of some twenty bytes.
+/// What follows the row, if the text begins with it. It says what `strip_prefix` of std says, and a
+/// row of some twenty bytes takes two thirds of its instructions.
 pub(crate) fn strip_row<'t>(text: &'t [u8], row: &[u8]) -> Option<&'t [u8]>
     ensures { MatchOption result ((rest : List ℕ) → text.now ≡ row.now ++ rest → ⊥)
         (λ after. text.now ≡ row.now ++ after.now) }
@@ -54,7 +54,7 @@ fn are_same_eights(a: &[u8; 8], b: &[u8; 8]) -> bool
     a == b
 }
 
-/// Whether the bytes are the same, of which there are fewer than eight.
+/// Whether the bytes are the same. There are fewer than eight.
 fn are_same(a: &[u8], b: &[u8]) -> bool
     ensures same { result ≡ true → a.now ≡ b.now }
     ensures differ { result ≡ false → a.now ≡ b.now → ⊥ }
