@@ -1,2 +1,3 @@
+pub mod AddsDue
 pub mod OneAnswer
 pub mod Waits

@@ -59,3 +59,9 @@ Answers old who said (Ok (stepped.Run run)) new = WantsRun old who said run × (
 Answers old who said (Ok stepped.NotYet) new = (next old.def old.entries who ≡ None) × (new ≡ old)
 Answers old who said (Err (refusals.Full len)) new = IsFull old who len × (new ≡ old)
 Answers old who said (Err refusals.NoMemory) new = new ≡ old
+
+-- what a step answers that has the handlers at hand, as an answer of a step
+abbrev pub as_stepped : Result (Option Entry) StepRefused → Result Stepped StepRefused
+as_stepped (Ok (Some entry)) = Ok (stepped.Added entry)
+as_stepped (Ok None) = Ok stepped.NotYet
+as_stepped (Err refusal) = Err refusal

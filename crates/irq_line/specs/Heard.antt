@@ -25,9 +25,3 @@ Heard old who (Ok (Some entry)) new = Adds old who entry new
 Heard old who (Ok None) new = (next old.def old.entries who ≡ None) × (new ≡ old)
 Heard old who (Err (refusals.Full len)) new = IsFull old who len × (new ≡ old)
 Heard old who (Err refusals.NoMemory) new = new ≡ old
-
--- What the step that ends an answered run answers and leaves: the run's entry was due, so it is
--- added, unless there is no room for it.
-abbrev pub EndsRun : LineSeen → Actor → Result Entry StepRefused → LineSeen → Type 0
-EndsRun old who (Ok entry) new = Adds old who entry new
-EndsRun old who (Err refusal) new = Heard old who (Err refusal) new

@@ -1,15 +1,13 @@
 //! The trait.
-ghost use Rattle.std.specs.Prelude.{◌≡◌, ◌≤◌, ◌↔◌, IsTrue, Option, Some, OnOk, OnErr};
+ghost use Rattle.std.specs.Prelude.{◌≡◌, ◌≤◌, ◌↔◌, IsTrue, Option, None, OnOk, OnErr};
 ghost use Rattle.irq_base.specs.declared.entries.Entry.{Entry};
-ghost use Rattle.irq_line.specs.Answers.{Answers};
-ghost use Rattle.irq_line.specs.Heard.{EndsRun};
+ghost use Rattle.irq_line.specs.Answers.{Answers, as_stepped};
 ghost use Rattle.irq_line.specs.Memory.{WantsMemory};
 ghost use Rattle.irq_line.specs.Queries.{IsPresented, IsTaker, IsLowestThread, flow_of, blocks_of};
-ghost use Rattle.irq_line.specs.Runs.{run_of};
 ghost use Rattle.irq_line.specs.Seen.{LineSeen, IsSound};
 
 use crate::answers::{StepRefused, Stepped};
-use callbacks::Said;
+use callbacks::{Callbacks, Handler, Said};
 use irq_base::{Actor, Blocks, CpuNo, DevNo, Entry, History, LineDef, NoMemory};
 
 /// An interrupt line (`struct irq_desc`, `include/linux/irqdesc.h`). Contracts see what `seen`
@@ -36,16 +34,24 @@ pub trait IrqLine: Drop {
         ensures answer { Answers (seen self.old) actor said result (seen self.new) }
         ensures memory { WantsMemory may_want (seen self.old) actor result };
 
-    /// Adds the entry that ends this run, which is due of the actor and was answered: the step with
-    /// that answer, for who knows that nothing came between. So nothing is decided a second time.
+    /// Adds the entry that is due of the actor, if there is one, and answers it: `step` with the
+    /// answer of the run that the entry ends, whose handler is called. `said`, which is empty,
+    /// becomes that answer. Nothing comes between the call and the step, so nothing is decided a
+    /// second time.
     ///
     /// # Errors
     ///
-    /// Those of `step`. Nothing has changed then.
-    fn step_answered(&mut self, actor: Actor, said: Said) -> Result<Entry, StepRefused>
-        requires due { run_of (seen self.old).def (seen self.old).entries actor ≡ Some said.run }
+    /// Those of `step`. Nothing of the line has changed then.
+    fn step_heard<H: Handler>(
+        &mut self,
+        actor: Actor,
+        handlers: &Callbacks<H>,
+        said: &mut Option<Said>,
+    ) -> Result<Option<Entry>, StepRefused>
+        requires { said.old ≡ None }
         ensures def { (seen self.new).def ≡ (seen self.old).def }
-        ensures answer { EndsRun (seen self.old) actor result (seen self.new) }
+        ensures answer { Answers (seen self.old) actor said.new (as_stepped result)
+            (seen self.new) }
         ensures memory { WantsMemory may_want (seen self.old) actor result };
 
     /// Makes room for one more entry. With room to spare it isn't refused; if it is refused, all is

@@ -1,8 +1,7 @@
 -- What is added to a line with room made beforehand is added to the line as it was.
-use Rattle.std.proofs.Common.{◌≡◌, ◌<◌, ◌≤◌, true, is_some, Ok, Err, Option, Some, None, List, [], ◌∷◌, ◌++◌, length, reverse}
+use Rattle.std.proofs.Common.{◌≡◌, ◌<◌, ◌≤◌, true, is_some, Ok, Err, Option, Some, None, List, [], ◌∷◌, ◌++◌, length}
 use Rattle.std.proofs.Common.{refl, sym, ap, subst, ◌∙◌, arith}
 use Rattle.std.proofs.lemmas.Bool.{false≢true}
-use Rattle.std.proofs.lemmas.Option.{none-some}
 use Rattle.std.specs.Prelude.{IfSome}
 use Rattle.irq_base.specs.Who.{actor_of}
 use Rattle.irq_base.specs.declared.devices.Run.{Run}
@@ -11,16 +10,16 @@ use Rattle.irq_base.specs.declared.entries.Entry.{Entry}
 use Rattle.irq_base.specs.declared.lines.LineDef.{LineDef}
 use Rattle.irq_model.specs.Next.{next}
 use Rattle.callbacks.specs.Seen.{SaidSeen}
-use Rattle.irq_line.specs.Answers.{Answers, IsDueOf, IsSaidFor}
-use Rattle.irq_line.specs.Heard.{Adds, EndsRun}
+use Rattle.irq_line.specs.Answers.{AddsEntry, Answers, IsDueOf, IsSaidFor}
+use Rattle.irq_line.specs.Heard.{Adds}
 use Rattle.irq_line.specs.Memory.{WantsMemory}
-use Rattle.irq_line.specs.Runs.{run_of, run_of_entry}
+use Rattle.irq_line.specs.Runs.{run_of}
 use Rattle.irq_line.specs.Seen.{LineSeen}
 use Rattle.irq_line.specs.declared.answers.StepRefused.{StepRefused}
 use Rattle.irq_line.specs.declared.answers.StepRefused.TheVariants as refusals
 use Rattle.irq_line.specs.declared.answers.Stepped.{Stepped}
 use Rattle.irq_line.specs.declared.answers.Stepped.TheVariants as stepped
-use Rattle.line_core.specs.Room.{HasRoom, IsReady, IsWanted, IsRefusal, links_next}
+use Rattle.line_core.specs.Room.{HasRoom, FitsDue, IsReady, IsWanted, IsRefusal, links_next}
 
 -- ---- what makes ready
 
@@ -43,6 +42,13 @@ ready_idle line who said none = record {
   unheard = λ _ _ _. refl;
 }
 
+pub fits_idle : (line : LineSeen) (who : Actor) → next line.def line.entries who ≡ None → FitsDue line who line
+fits_idle line who none = record {
+  room = λ due. absurd (false≢true (sym (ap is_some none) ∙ due));
+  spare = omega arith;
+  idle = λ _. refl;
+}
+
 pub ready_with_room : (line : LineSeen) (who : Actor) (said : Option SaidSeen) (new : LineSeen) → IsWanted line who said
     → 1 ≤ new.spare → line.spare ≤ new.spare → IsReady line who said new
 ready_with_room line who said new wanted room more = record {
@@ -60,10 +66,6 @@ pub refused_told : (old : LineSeen) (who : Actor) (said : Option SaidSeen) (r : 
 refused_told old who said (refusals.Full len) new h = h
 refused_told old who said refusals.NoMemory new h = h.1
 
-pub refused_run : (old : LineSeen) (who : Actor) (r : StepRefused) (new : LineSeen) → IsRefusal old who r new → EndsRun old who (Err r) new
-refused_run old who (refusals.Full len) new h = h
-refused_run old who refusals.NoMemory new h = h.1
-
 pub refused_memory : (A : Type 0) (old : LineSeen) (who : Actor) (r : StepRefused) (new : LineSeen)
     → IsRefusal old who r new → WantsMemory {A = A} (λ due. links_next due ≡ true) old who (Err r)
 refused_memory A old who (refusals.Full len) new h = tt
@@ -71,8 +73,7 @@ refused_memory A old who refusals.NoMemory new h = λ room. let none = h.0 in ab
 
 -- ---- a step after it
 
-module _ (old mid : LineSeen) (who : Actor) (said : Option SaidSeen) (ready : IsReady old who said mid)
-    (def : mid.def ≡ old.def) (entries : mid.entries ≡ old.entries) where
+module _ (old mid : LineSeen) (who : Actor) (def : mid.def ≡ old.def) (entries : mid.entries ≡ old.entries) where
   same_next : next mid.def mid.entries who ≡ next old.def old.entries who
   same_next = ap (λ (d : LineDef). next d mid.entries who) def ∙ ap (λ (h : List Entry). next old.def h who) entries
 
@@ -82,46 +83,12 @@ module _ (old mid : LineSeen) (who : Actor) (said : Option SaidSeen) (ready : Is
   due_old : (e : Entry) → next mid.def mid.entries who ≡ Some e → IsDueOf old who
   due_old e due = ap is_some (sym same_next ∙ due)
 
-  pub below_mid : (e : Entry) → next mid.def mid.entries who ≡ Some e → length mid.entries < mid.def.log
-  below_mid e due = subst (λ (d : LineDef). length mid.entries < d.log) (sym def)
-      (subst (λ (h : List Entry). length h < old.def.log) (sym entries) (ready.below (due_old e due)))
-
-  pub room_mid : (e : Entry) → next mid.def mid.entries who ≡ Some e → IfSome (run_of mid.def mid.entries who) (IsSaidFor said) → 1 ≤ mid.spare
-  room_mid e due heard = ready.room (due_old e due) (subst (λ (o : Option Run). IfSome o (IsSaidFor said)) same_run heard)
-
   below_old : length mid.entries < mid.def.log → length old.entries < old.def.log
   below_old b = subst (λ (d : LineDef). length old.entries < d.log) def (subst (λ (h : List Entry). length h < mid.def.log) entries b)
 
-  -- the run that is due is due as before
-  pub run_mid : (run : Run) → run_of old.def old.entries who ≡ Some run → run_of mid.def mid.entries who ≡ Some run
-  run_mid run told = same_run ∙ told
-
-  pub has_room : (run : Run) → run_of old.def old.entries who ≡ Some run → IsSaidFor said run → (e : Entry) → next mid.def mid.entries who ≡ Some e
-      → HasRoom mid
-  has_room run told heard e due = record {
-    below = below_mid e due;
-    spare = room_mid e due (subst (λ (o : Option Run). IfSome o (IsSaidFor said)) (sym (run_mid run told)) heard);
-  }
-
-  pub never_idle : (run : Run) → run_of old.def old.entries who ≡ Some run → next mid.def mid.entries who ≡ None → ⊥
-  never_idle run told none = none-some run (sym (ap (run_of_entry mid.def (reverse mid.entries)) none) ∙ run_mid run told)
-
-  pub adds_old : (new : LineSeen) (e : Entry) → Adds mid who e new → Adds old who e new
-  adds_old new e a =
-      let more = ready.spare in
-      let less = a.spare in
-      record {
-        due = sym same_next ∙ a.due;
-        actor = subst (λ (d : LineDef). actor_of d.line e ≡ who) def a.actor;
-        below = below_old a.below;
-        def = a.def ∙ def;
-        entries = a.entries ∙ ap (λ (h : List Entry). h ++ e ∷ []) entries;
-        spare = omega (arith, more, less);
-      }
-
-  pub answers_old : (new : LineSeen) (s : Stepped) → Answers mid who said (Ok s) new → Answers old who said (Ok s) new
-  answers_old new (stepped.Added e) a =
-      let more = ready.spare in
+  added_old : (said : Option SaidSeen) (e : Entry) (new : LineSeen) → old.spare ≤ mid.spare → AddsEntry mid who said e new
+      → AddsEntry old who said e new
+  added_old said e new more a =
       let less = a.spare in
       record {
         due = sym same_next ∙ a.due;
@@ -132,7 +99,58 @@ module _ (old mid : LineSeen) (who : Actor) (said : Option SaidSeen) (ready : Is
         entries = a.entries ∙ ap (λ (h : List Entry). h ++ e ∷ []) entries;
         spare = omega (arith, more, less);
       }
+
+  -- what is due has room, whether it ends a run or not
+  pub fits_room : FitsDue old who mid → (e : Entry) → next mid.def mid.entries who ≡ Some e → HasRoom mid
+  fits_room fits e due = fits.room (due_old e due)
+
+  pub fits_adds : FitsDue old who mid → (said : Option SaidSeen) (e : Entry) (new : LineSeen) → AddsEntry mid who said e new
+      → AddsEntry old who said e new
+  fits_adds fits said e new = added_old said e new fits.spare
+
+  pub fits_rests : FitsDue old who mid → (said : Option SaidSeen) → next mid.def mid.entries who ≡ None → Answers old who said (Ok stepped.NotYet) mid
+  fits_rests fits said none = let none_old : next old.def old.entries who ≡ None = sym same_next ∙ none in (none_old, fits.idle none_old)
+
+module _ (old mid : LineSeen) (who : Actor) (said : Option SaidSeen) (ready : IsReady old who said mid)
+    (def : mid.def ≡ old.def) (entries : mid.entries ≡ old.entries) where
+  pub below_mid : (e : Entry) → next mid.def mid.entries who ≡ Some e → length mid.entries < mid.def.log
+  below_mid e due = subst (λ (d : LineDef). length mid.entries < d.log) (sym def)
+      (subst (λ (h : List Entry). length h < old.def.log) (sym entries) (ready.below (due_old old mid who def entries e due)))
+
+  pub room_mid : (e : Entry) → next mid.def mid.entries who ≡ Some e → IfSome (run_of mid.def mid.entries who) (IsSaidFor said) → 1 ≤ mid.spare
+  room_mid e due heard = ready.room (due_old old mid who def entries e due)
+      (subst (λ (o : Option Run). IfSome o (IsSaidFor said)) (same_run old mid who def entries) heard)
+
+  pub answers_old : (new : LineSeen) (s : Stepped) → Answers mid who said (Ok s) new → Answers old who said (Ok s) new
+  answers_old new (stepped.Added e) a = added_old old mid who def entries said e new ready.spare a
   answers_old new (stepped.Run run) a =
-      let told : run_of old.def old.entries who ≡ Some run = sym same_run ∙ a.0.due in
-      (record { due = told; unheard = a.0.unheard; below = below_old a.0.below }, a.1 ∙ ready.unheard run told a.0.unheard)
-  answers_old new stepped.NotYet a = let none : next old.def old.entries who ≡ None = sym same_next ∙ a.0 in (none, a.1 ∙ ready.idle none)
+      let told : run_of old.def old.entries who ≡ Some run = sym (same_run old mid who def entries) ∙ a.0.due in (
+        record { due = told; unheard = a.0.unheard; below = below_old old mid who def entries a.0.below },
+        a.1 ∙ ready.unheard run told a.0.unheard,
+      )
+  answers_old new stepped.NotYet a =
+      let none : next old.def old.entries who ≡ None = sym (same_next old mid who def entries) ∙ a.0 in
+      (none, a.1 ∙ ready.idle none)
+
+-- ---- what is added, with what was said
+
+-- an entry that is added is added with what was said, if that is the answer of the run that it ends
+pub with_heard : (line : LineSeen) (who : Actor) (said : Option SaidSeen) (e : Entry) (new : LineSeen)
+    → IfSome (run_of line.def line.entries who) (IsSaidFor said) → Adds line who e new → AddsEntry line who said e new
+with_heard line who said e new heard a = record {
+  due = a.due;
+  actor = a.actor;
+  heard = heard;
+  below = a.below;
+  def = a.def;
+  entries = a.entries;
+  spare = a.spare;
+}
+
+pub ends_run : (line : LineSeen) (who : Actor) (said : Option SaidSeen) (run : Run) (e : Entry) (new : LineSeen)
+    → run_of line.def line.entries who ≡ Some run → IsSaidFor said run → Adds line who e new → AddsEntry line who said e new
+ends_run line who said run e new due is a = with_heard line who said e new (subst (λ (o : Option Run). IfSome o (IsSaidFor said)) (sym due) is) a
+
+pub ends_none : (line : LineSeen) (who : Actor) (said : Option SaidSeen) (e : Entry) (new : LineSeen)
+    → run_of line.def line.entries who ≡ None → Adds line who e new → AddsEntry line who said e new
+ends_none line who said e new none a = with_heard line who said e new (subst (λ (o : Option Run). IfSome o (IsSaidFor said)) (sym none) tt) a

@@ -11,6 +11,7 @@ use Rattle.irq_base.specs.declared.entries.Actor.TheVariants as actors
 use Rattle.irq_base.specs.declared.entries.Entry.{Entry}
 use Rattle.irq_base.specs.declared.lines.LineDef.{LineDef}
 use Rattle.irq_base.specs.declared.numbers.CpuNo.{CpuNo}
+use Rattle.irq_base.specs.declared.numbers.DevNo.{DevNo}
 use Rattle.irq_base.specs.declared.numbers.DriverNo.{DriverNo}
 use Rattle.irq_laws.proofs.OwnLaws.{due_is_own}
 use Rattle.irq_laws.proofs.ServedLaws.{has_target}
@@ -19,6 +20,7 @@ use Rattle.irq_model.specs.Next.{next, next_of_call}
 use Rattle.irq_model.specs.Signal.{target}
 use Rattle.callbacks.specs.Seen.{SaidSeen}
 use Rattle.irq_line.specs.Answers.{AddsEntry, WantsRun, IsSaidFor}
+use Rattle.irq_line.specs.Heard.{Adds}
 use Rattle.irq_line.specs.Memory.{WantsMemory}
 use Rattle.irq_line.specs.Runs.{run_of, run_of_entry, run_ended}
 use Rattle.irq_line.specs.Seen.{LineSeen}
@@ -34,6 +36,10 @@ use Rattle.line_core.proofs.More.{Beside, due_past, due_call_is}
 use Rattle.line_core.proofs.Runs.{run_is}
 use Rattle.line_state.specs.Entries.{entry_by, call_entry}
 use Rattle.line_state.specs.declared.due.CallStep.{CallStep}
+use Rattle.line_state.specs.declared.due.CpuStep.{CpuStep}
+use Rattle.line_state.specs.declared.due.CpuStep.TheVariants as cpus
+use Rattle.line_state.specs.declared.due.ThreadStep.{ThreadStep}
+use Rattle.line_state.specs.declared.due.ThreadStep.TheVariants as threads
 use Rattle.line_state.specs.declared.due.DueStep.TheVariants as steps
 use Rattle.line_state.specs.declared.due.DueStep.{DueStep}
 use Rattle.line_core.specs.Entries.{entry_at}
@@ -134,6 +140,33 @@ module _ (line : LineSeen) (b : Beside line.def line.entries) (who : Actor) (ste
     entries = added.entries;
     spare = added.spare;
   }
+
+  -- the same, whatever was said
+  pub adds_due : (e : Entry) (new : LineSeen) → IsAdded line step e new → Adds line who e new
+  adds_due e new added = record {
+    due = due ∙ ap Some (sym added.made);
+    actor = due_is_own line.def line.entries who e (due ∙ ap Some (sym added.made));
+    below = added.below;
+    def = added.def;
+    entries = added.entries;
+    spare = added.spare;
+  }
+
+-- ---- a step that ends no run needs no answer
+
+pub unheard_of_cpu : (def : LineDef) (s : StateSeen) (c : CpuNo) (step : CpuStep) (said : Option SaidSeen)
+    → ((d : DevNo) → step ≡ cpus.Return d → ⊥) → IfSome (run_by def s (steps.Cpu c step)) (IsSaidFor said)
+unheard_of_cpu def s c (cpus.Take way) said other = tt
+unheard_of_cpu def s c (cpus.Begin d) said other = tt
+unheard_of_cpu def s c (cpus.Return d) said other = absurd (other d refl)
+unheard_of_cpu def s c cpus.End said other = tt
+
+pub unheard_of_thread : (def : LineDef) (s : StateSeen) (d : DevNo) (step : ThreadStep) (said : Option SaidSeen)
+    → (step ≡ threads.Return → ⊥) → IfSome (run_by def s (steps.Thread d step)) (IsSaidFor said)
+unheard_of_thread def s d threads.Begin said other = tt
+unheard_of_thread def s d threads.Return said other = absurd (other refl)
+unheard_of_thread def s d threads.Finish said other = tt
+unheard_of_thread def s d threads.Done said other = tt
 
 -- ---- a step that was refused memory
 

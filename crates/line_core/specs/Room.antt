@@ -30,6 +30,13 @@ pub record IsReady (old : LineSeen) (who : Actor) (said : Option SaidSeen) (new 
   pub unheard : (run : Run) → run_of old.def old.entries who ≡ Some run
       → (IsSaidFor said run → ⊥) → new ≡ old
 
+-- the entry that is due of the actor, if there is one, may be added; a line that adds none is as it
+-- was
+pub record FitsDue (old : LineSeen) (who : Actor) (new : LineSeen) : Type 0 where
+  pub room : IsDueOf old who → HasRoom new
+  pub spare : old.spare ≤ new.spare
+  pub idle : next old.def old.entries who ≡ None → new ≡ old
+
 -- an entry of the actor is to be added, and may be
 pub record IsWanted (line : LineSeen) (who : Actor) (said : Option SaidSeen) : Type 0 where
   pub due : IsDueOf line who

@@ -5,6 +5,7 @@ ghost use Rattle.std.specs.Prelude.{Option, reverse};
 ghost use Rattle.irq_base.specs.Cell.{fresh_cell};
 ghost use Rattle.irq_base.specs.declared.calls.Call.TheVariants as calls;
 ghost use Rattle.irq_base.specs.declared.entries.Actor.TheVariants as actors;
+ghost use Rattle.irq_base.specs.declared.numbers.DevNo.{DevNo};
 ghost use Rattle.irq_model.specs.Due.{due_call};
 ghost use Rattle.irq_model.specs.Kinds.{is_linked_request};
 ghost use Rattle.irq_model.specs.Lines.{serves};
@@ -14,12 +15,14 @@ ghost use Rattle.irq_model.specs.Up.{is_up};
 ghost use Rattle.irq_model.specs.Valid.{IsValid};
 ghost use Rattle.irq_laws.specs.Driven.{cell_after};
 ghost use Rattle.callbacks.specs.Seen.{SaidSeen};
-ghost use Rattle.irq_line.specs.Answers.{AddsEntry, Answers, IsSaidFor};
-ghost use Rattle.irq_line.specs.Heard.{Adds, EndsRun};
+ghost use Rattle.irq_line.specs.Answers.{AddsEntry, Answers, IsSaidFor, as_stepped};
+ghost use Rattle.irq_line.specs.Heard.{Adds};
 ghost use Rattle.irq_line.specs.Memory.{WantsMemory};
 ghost use Rattle.irq_line.specs.Runs.{run_of};
-ghost use Rattle.line_core.specs.Room.{HasRoom, IsReady, IsRefused, WillAdd, links_next};
+ghost use Rattle.line_core.specs.Room.{HasRoom, FitsDue, IsReady, IsRefused, WillAdd, links_next};
+ghost use Rattle.line_state.specs.declared.due.CpuStep.TheVariants as cpus;
 ghost use Rattle.line_state.specs.declared.due.DueStep.TheVariants as steps;
+ghost use Rattle.line_state.specs.declared.due.ThreadStep.TheVariants as threads;
 ghost use Rattle.line_core.specs.Entries.{entry_at};
 ghost use Rattle.line_core.specs.Blocking.{freed_in, blocks_by};
 
@@ -27,7 +30,7 @@ use crate::due::{due_by, due_of_thread};
 use crate::putting::{put_ask, put_of_call, put_of_cpu, put_of_thread, put_return};
 use crate::room::{make_place, make_room};
 use crate::running::unanswered;
-use callbacks::Said;
+use callbacks::{Callbacks, Handler, Said};
 use irq_base::{
     Actor, Blocks, Call, Chip, CpuNo, DevNo, DriverNo, Entry, History, LineDef, LineNo, NoMemory,
     Run,
@@ -195,15 +198,7 @@ impl<C: Chip> Line<C> {
         if let Some(run) = unanswered(&self.def, &self.state, DueStep::Cpu { cpu, step }, said) {
             return Stepped::Run(run);
         }
-        let entry = put_of_cpu(
-            &self.def,
-            &mut self.history,
-            &mut self.state,
-            &self.scripts,
-            cpu,
-            step,
-        );
-        Stepped::Added(entry)
+        Stepped::Added(self.add_of_cpu(cpu, step))
     }
 
     /// The same for a step of a thread.
@@ -231,7 +226,43 @@ impl<C: Chip> Line<C> {
         if let Some(run) = unanswered(&self.def, &self.state, DueStep::Thread { dev, step }, said) {
             return Stepped::Run(run);
         }
-        let entry = put_of_thread(
+        Stepped::Added(self.add_of_thread(line, dev, step))
+    }
+
+    /// Adds the entry that is due of the processor, where the history has room. Only a return ends
+    /// a run.
+    #[inline(always)]
+    fn add_of_cpu(&mut self, cpu: CpuNo, step: CpuStep) -> Entry
+        requires due { next self.old.line.def self.old.line.entries (actors.Cpu cpu)
+            ≡ Some (entry_at self.old.line (steps.Cpu cpu step)) }
+        requires room { HasRoom self.old.line }
+        ensures adds { Adds self.old.line (actors.Cpu cpu) result self.new.line }
+        ensures unheard { ((dev : DevNo) → step ≡ cpus.Return dev → ⊥) → (said : Option SaidSeen)
+            → AddsEntry self.old.line (actors.Cpu cpu) said result self.new.line }
+        ensures wiring { self.new.wiring ≡ self.old.wiring }
+    {
+        put_of_cpu(
+            &self.def,
+            &mut self.history,
+            &mut self.state,
+            &self.scripts,
+            cpu,
+            step,
+        )
+    }
+
+    /// The same for a thread.
+    #[inline(always)]
+    fn add_of_thread(&mut self, line: LineNo, dev: DevNo, step: ThreadStep) -> Entry
+        requires due { next self.old.line.def self.old.line.entries (actors.Thread line dev)
+            ≡ Some (entry_at self.old.line (steps.Thread dev step)) }
+        requires room { HasRoom self.old.line }
+        ensures adds { Adds self.old.line (actors.Thread line dev) result self.new.line }
+        ensures unheard { (step ≡ threads.Return → ⊥) → (said : Option SaidSeen)
+            → AddsEntry self.old.line (actors.Thread line dev) said result self.new.line }
+        ensures wiring { self.new.wiring ≡ self.old.wiring }
+    {
+        put_of_thread(
             &self.def,
             &mut self.history,
             &mut self.state,
@@ -239,8 +270,7 @@ impl<C: Chip> Line<C> {
             line,
             dev,
             step,
-        );
-        Stepped::Added(entry)
+        )
     }
 
     /// The step that is due of the actor and ends this run, where the history has room. The run was
@@ -265,29 +295,187 @@ impl<C: Chip> Line<C> {
         )
     }
 
-    /// The step that ends this run, which is due of the actor and was answered.
+    /// Has the handler of this run called, which the step that is due of the actor ends, and adds
+    /// the entry, where the history has room.
     #[inline(always)]
-    fn step_run(
+    fn hear_run<H: Handler>(
         &mut self,
         actor: Actor,
+        step: DueStep,
         run: Run,
-        said: &Option<Said>,
-    ) -> Result<Entry, StepRefused>
-        requires due { run_of self.old.line.def self.old.line.entries actor ≡ Some run }
-        requires heard { IsSaidFor said.now run }
-        ensures def { self.new.line.def ≡ self.old.line.def }
-        ensures answer { EndsRun self.old.line actor result self.new.line }
-        ensures memory { WantsMemory (λ due. links_next due ≡ true) self.old.line actor result }
+        handlers: &Callbacks<H>,
+        said: &mut Option<Said>,
+    ) -> Entry
+        requires due { next self.old.line.def self.old.line.entries actor
+            ≡ Some (entry_at self.old.line step) }
+        requires run { run_of self.old.line.def self.old.line.entries actor ≡ Some run }
+        requires room { HasRoom self.old.line }
+        ensures adds { AddsEntry self.old.line actor said.new result self.new.line }
         ensures wiring { self.new.wiring ≡ self.old.wiring }
     {
-        if let Err(refusal) = self.prepare(actor, said) {
+        *said = Some(handlers.call(run));
+        self.end_run(actor, step, run)
+    }
+
+    /// A return, which is due of the processor, where the history has room.
+    #[inline(always)]
+    fn return_of_cpu<H: Handler>(
+        &mut self,
+        cpu: CpuNo,
+        dev: DevNo,
+        handlers: &Callbacks<H>,
+        said: &mut Option<Said>,
+    ) -> Entry
+        requires due { next self.old.line.def self.old.line.entries (actors.Cpu cpu)
+            ≡ Some (entry_at self.old.line (steps.Cpu cpu (cpus.Return dev))) }
+        requires room { HasRoom self.old.line }
+        ensures adds { AddsEntry self.old.line (actors.Cpu cpu) said.new result self.new.line }
+        ensures wiring { self.new.wiring ≡ self.old.wiring }
+    {
+        let run = self.handler_run(cpu, dev);
+        let step = DueStep::Cpu {
+            cpu,
+            step: CpuStep::Return { dev },
+        };
+        self.hear_run(Actor::Cpu(cpu), step, run, handlers, said)
+    }
+
+    /// The run that the return ends, which is due of the processor.
+    #[inline(always)]
+    fn handler_run(&self, _cpu: CpuNo, dev: DevNo) -> Run
+        requires { next self.now.line.def self.now.line.entries (actors.Cpu _cpu)
+            ≡ Some (entry_at self.now.line (steps.Cpu _cpu (cpus.Return dev))) }
+        ensures { run_of self.now.line.def self.now.line.entries (actors.Cpu _cpu) ≡ Some result }
+    {
+        self.state.handler_run(self.def.line, dev)
+    }
+
+    /// A return of a thread, which is due of it, where the history has room.
+    #[inline(always)]
+    fn return_of_thread<H: Handler>(
+        &mut self,
+        line: LineNo,
+        dev: DevNo,
+        handlers: &Callbacks<H>,
+        said: &mut Option<Said>,
+    ) -> Entry
+        requires due { next self.old.line.def self.old.line.entries (actors.Thread line dev)
+            ≡ Some (entry_at self.old.line (steps.Thread dev threads.Return)) }
+        requires room { HasRoom self.old.line }
+        ensures adds { AddsEntry self.old.line (actors.Thread line dev) said.new result
+            self.new.line }
+        ensures wiring { self.new.wiring ≡ self.old.wiring }
+    {
+        let run = self.thread_run(line, dev);
+        let step = DueStep::Thread {
+            dev,
+            step: ThreadStep::Return,
+        };
+        self.hear_run(Actor::Thread(line, dev), step, run, handlers, said)
+    }
+
+    /// The run that the thread's return ends, which is due of it.
+    #[inline(always)]
+    fn thread_run(&self, _line: LineNo, dev: DevNo) -> Run
+        requires { next self.now.line.def self.now.line.entries (actors.Thread _line dev)
+            ≡ Some (entry_at self.now.line (steps.Thread dev threads.Return)) }
+        ensures { run_of self.now.line.def self.now.line.entries (actors.Thread _line dev)
+            ≡ Some result }
+    {
+        self.state.thread_run(self.def.line, dev)
+    }
+
+    /// Makes room for the entry that is due of the actor, if there is one.
+    #[inline(always)]
+    fn prepare_heard(&mut self, actor: Actor) -> Result<(), StepRefused>
+        ensures def { self.new.line.def ≡ self.old.line.def }
+        ensures entries { self.new.line.entries ≡ self.old.line.entries }
+        ensures fits { OnOk result (FitsDue self.old.line actor self.new.line) }
+        ensures refused { IsRefused self.old.line actor result self.new.line }
+        ensures wiring { self.new.wiring ≡ self.old.wiring }
+    {
+        if self.has_room() {
+            return Ok(());
+        }
+        self.make_room_heard(actor)
+    }
+
+    /// The same where no room is at hand.
+    #[inline(never)]
+    fn make_room_heard(&mut self, actor: Actor) -> Result<(), StepRefused>
+        ensures def { self.new.line.def ≡ self.old.line.def }
+        ensures entries { self.new.line.entries ≡ self.old.line.entries }
+        ensures fits { OnOk result (FitsDue self.old.line actor self.new.line) }
+        ensures refused { IsRefused self.old.line actor result self.new.line }
+        ensures wiring { self.new.wiring ≡ self.old.wiring }
+    {
+        if self.due(actor).is_none() {
+            return Ok(());
+        }
+        let len = self.history.len();
+        if len >= self.def.log as usize {
+            return Err(StepRefused::Full { len: len as u32 });
+        }
+        match make_place(&mut self.history) {
+            Ok(()) => Ok(()),
+            Err(_refused) => Err(StepRefused::NoMemory),
+        }
+    }
+
+    /// A step of a processor, with the handlers at hand.
+    #[inline(always)]
+    fn hear_cpu<H: Handler>(
+        &mut self,
+        cpu: CpuNo,
+        handlers: &Callbacks<H>,
+        said: &mut Option<Said>,
+    ) -> Result<Option<Entry>, StepRefused>
+        ensures def { self.new.line.def ≡ self.old.line.def }
+        ensures answer { Answers self.old.line (actors.Cpu cpu) said.new (as_stepped result)
+            self.new.line }
+        ensures memory { WantsMemory (λ due. links_next due ≡ true) self.old.line
+            (actors.Cpu cpu) result }
+        ensures wiring { self.new.wiring ≡ self.old.wiring }
+    {
+        if let Err(refusal) = self.prepare_heard(Actor::Cpu(cpu)) {
             return Err(refusal);
         }
-        match self.due(actor) {
-            Some(step) => Ok(self.end_run(actor, step, run)),
-            // the run is due
-            None => unreachable!(),
+        let Some(step) = self.due_of_cpu(cpu) else {
+            return Ok(None);
+        };
+        if let CpuStep::Return { dev } = step {
+            return Ok(Some(self.return_of_cpu(cpu, dev, handlers, said)));
         }
+        Ok(Some(self.add_of_cpu(cpu, step)))
+    }
+
+    /// A step of a thread, with the handlers at hand. It stands apart, as that of a driver, so that
+    /// a step of a processor is short where it is made.
+    #[inline(never)]
+    fn hear_thread<H: Handler>(
+        &mut self,
+        line: LineNo,
+        dev: DevNo,
+        handlers: &Callbacks<H>,
+        said: &mut Option<Said>,
+    ) -> Result<Option<Entry>, StepRefused>
+        ensures def { self.new.line.def ≡ self.old.line.def }
+        ensures answer { Answers self.old.line (actors.Thread line dev) said.new
+            (as_stepped result) self.new.line }
+        ensures memory { WantsMemory (λ due. links_next due ≡ true) self.old.line
+            (actors.Thread line dev) result }
+        ensures wiring { self.new.wiring ≡ self.old.wiring }
+    {
+        if let Err(refusal) = self.prepare_heard(Actor::Thread(line, dev)) {
+            return Err(refusal);
+        }
+        let Some(step) = self.due_of_thread(line, dev) else {
+            return Ok(None);
+        };
+        if let ThreadStep::Return = step {
+            return Ok(Some(self.return_of_thread(line, dev, handlers, said)));
+        }
+        Ok(Some(self.add_of_thread(line, dev, step)))
     }
 
     /// A step of a processor.
@@ -391,20 +579,21 @@ impl<C: Chip> Line<C> {
     /// A step of a driver. No handler is heard. Most calls are asks: an ask is made here, with its
     /// due call at hand, if there is room for its entry.
     #[inline(never)]
-    fn step_driver(&mut self, driver: DriverNo) -> Result<Stepped, StepRefused>
+    fn step_driver(&mut self, driver: DriverNo) -> Result<Option<Entry>, StepRefused>
         ensures def { self.new.line.def ≡ self.old.line.def }
         ensures answer { (said : Option SaidSeen)
-            → Answers self.old.line (actors.Driver driver) said result self.new.line }
+            → Answers self.old.line (actors.Driver driver) said (as_stepped result)
+            self.new.line }
         ensures memory { WantsMemory (λ due. links_next due ≡ true) self.old.line
             (actors.Driver driver) result }
         ensures wiring { self.new.wiring ≡ self.old.wiring }
     {
         let Some((call, within)) = self.scripts.due(driver) else {
-            return Ok(Stepped::NotYet);
+            return Ok(None);
         };
         if let Call::Ask { dev } = call {
             if self.has_room() {
-                return Ok(Stepped::Added(self.ask(driver, dev)));
+                return Ok(Some(self.ask(driver, dev)));
             }
         }
         self.step_call(driver, call, within)
@@ -438,25 +627,26 @@ impl<C: Chip> Line<C> {
         driver: DriverNo,
         call: Call,
         within: u32,
-    ) -> Result<Stepped, StepRefused>
+    ) -> Result<Option<Entry>, StepRefused>
         requires call { due_call self.old.line.def driver (reverse self.old.line.entries)
             ≡ Some (call, within) }
         ensures def { self.new.line.def ≡ self.old.line.def }
         ensures answer { (said : Option SaidSeen)
-            → Answers self.old.line (actors.Driver driver) said result self.new.line }
+            → Answers self.old.line (actors.Driver driver) said (as_stepped result)
+            self.new.line }
         ensures memory { WantsMemory (λ due. links_next due ≡ true) self.old.line
             (actors.Driver driver) result }
         ensures wiring { self.new.wiring ≡ self.old.wiring }
     {
         let Some(step) = self.state.due_of_call(driver, call, within) else {
-            return Ok(Stepped::NotYet);
+            return Ok(None);
         };
         let len = self.history.len();
         if len >= self.def.log as usize {
             return Err(StepRefused::Full { len: len as u32 });
         }
         match self.add(driver, call, step) {
-            Ok(entry) => Ok(Stepped::Added(entry)),
+            Ok(entry) => Ok(Some(entry)),
             Err(_refused) => Err(StepRefused::NoMemory),
         }
     }
@@ -515,19 +705,30 @@ impl<C: Chip + Drop> IrqLine for Line<C> {
         match actor {
             Actor::Cpu(cpu) => self.step_cpu(cpu, &said),
             Actor::Thread(line, dev) => self.step_thread(line, dev, &said),
-            Actor::Driver(driver) => self.step_driver(driver),
+            Actor::Driver(driver) => match self.step_driver(driver)? {
+                Some(entry) => Ok(Stepped::Added(entry)),
+                None => Ok(Stepped::NotYet),
+            },
         }
     }
 
-    fn step_answered(&mut self, actor: Actor, said: Said) -> Result<Entry, StepRefused>
-        requires due { run_of self.old.line.def self.old.line.entries actor ≡ Some said.run }
+    #[inline(always)]
+    fn step_heard<H: Handler>(
+        &mut self,
+        actor: Actor,
+        handlers: &Callbacks<H>,
+        said: &mut Option<Said>,
+    ) -> Result<Option<Entry>, StepRefused>
         ensures def { self.new.line.def ≡ self.old.line.def }
-        ensures answer { EndsRun self.old.line actor result self.new.line }
+        ensures answer { Answers self.old.line actor said.new (as_stepped result) self.new.line }
         ensures memory { WantsMemory (λ due. links_next due ≡ true) self.old.line actor result }
         ensures wiring { self.new.wiring ≡ self.old.wiring }
     {
-        let run = said.run();
-        self.step_run(actor, run, &Some(said))
+        match actor {
+            Actor::Cpu(cpu) => self.hear_cpu(cpu, handlers, said),
+            Actor::Thread(line, dev) => self.hear_thread(line, dev, handlers, said),
+            Actor::Driver(driver) => self.step_driver(driver),
+        }
     }
 
     fn reserve(&mut self) -> Result<(), NoMemory>

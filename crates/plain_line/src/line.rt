@@ -6,8 +6,8 @@ ghost use Rattle.irq_model.specs.Valid.{IsValid};
 ghost use Rattle.plain_line.specs.Line.{IsPlain};
 
 use crate::looking::{Looked, look};
-use crate::running::unanswered;
-use callbacks::Said;
+use crate::running::{hear, unanswered};
+use callbacks::{Callbacks, Handler, Said};
 use irq_base::{Actor, Blocks, CpuNo, DevNo, Entry, History, LineDef, NoMemory};
 use irq_line::{IrqLine, StepRefused, Stepped};
 use plain_next::{newest_first, next_past};
@@ -122,12 +122,25 @@ impl IrqLine for PlainLine {
         Ok(Stepped::Added(entry))
     }
 
-    fn step_answered(&mut self, actor: Actor, said: Said) -> Result<Entry, StepRefused> {
-        match self.step(actor, Some(said))? {
-            Stepped::Added(entry) => Ok(entry),
-            // what was said is the answer of the run that is due
-            Stepped::NotYet | Stepped::Run(_) => unreachable!(),
+    #[tactic(auto, using(crate::proofs::Steps::due_there, crate::proofs::Steps::adds))]
+    fn step_heard<H: Handler>(
+        &mut self,
+        actor: Actor,
+        handlers: &Callbacks<H>,
+        said: &mut Option<Said>,
+    ) -> Result<Option<Entry>, StepRefused> {
+        let past = newest_first(self.alloc, &self.history)?;
+        let Some(entry) = next_past(self.alloc, &self.def, &past, actor)? else {
+            return Ok(None);
+        };
+        if self.history.len() >= self.def.log as usize {
+            return Err(StepRefused::Full {
+                len: self.history.len() as u32,
+            });
         }
+        *said = hear(&self.def, &past, entry, handlers);
+        self.add(&past, entry)?;
+        Ok(Some(entry))
     }
 
     fn reserve(&mut self) -> Result<(), NoMemory> {

@@ -3,7 +3,7 @@ ghost use Rattle.std.specs.Prelude.{◌≡◌, ◌≤◌, length, ◌↔◌, IsT
 ghost use Rattle.irq_line.specs.Answers.{IsSaidFor};
 ghost use Rattle.irq_line.specs.Runs.{device_of, run_ended};
 
-use callbacks::Said;
+use callbacks::{Callbacks, Handler, Said};
 use irq_base::{DevNo, DeviceDef, Entry, LineDef, Part, Run};
 use plain_next::{asks_of_handler, asks_of_thread, kind_of};
 
@@ -34,6 +34,20 @@ pub(crate) fn unanswered(
         return None;
     }
     Some(run)
+}
+
+/// What the handler says whose run the entry ends, if it ends one.
+pub(crate) fn hear<H: Handler>(
+    def: &LineDef,
+    past: &[Entry],
+    entry: Entry,
+    handlers: &Callbacks<H>,
+) -> Option<Said>
+    requires { length past.now ≤ 100000000 }
+    ensures { IfSome (run_ended def.now past.now entry) (IsSaidFor result) }
+{
+    let run = run_ended(def, past, entry)?;
+    Some(handlers.call(run))
 }
 
 /// The line's device with this number.
