@@ -6,7 +6,7 @@ use Rattle.plain_line.proofs.Steps.{adds, due_on, heard_on}
 use Rattle.plain_line.proofs.line.PlainLineIrqLine.step_heard.Goals as goal
 
 pub returns-clause-answer : goal.returns-clause-answer
-returns-clause-answer c =
+returns-clause-answer g c =
     let past : c.deref.result.now ≡ reverse c.args.self.now.entries = search rules in
     let past3 : c.deref-2.result.now ≡ reverse c.args.self.now.entries = search rules in
     let looked : c.in_ok-entry.field-0 ≡ next_past c.args.self.now.def c.deref.result.now c.args.actor = search rules in
