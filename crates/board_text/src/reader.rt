@@ -279,10 +279,10 @@ impl Reader {
         if has_flag_twice(words) {
             return Err(FaultKind::Twice);
         }
+        let driver = driver_writing(&self.board);
         let Some(line) = line_named(&self.board, words) else {
             return Err(FaultKind::NotThere);
         };
-        let driver = driver_writing(&self.board);
         let call = call_of_words(words);
         if tells_owner(words) && self.owners.forbid(driver, call) {
             return Err(FaultKind::BadOwner);
