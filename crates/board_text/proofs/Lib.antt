@@ -9,3 +9,4 @@ pub mod Made
 pub mod Ending
 pub mod ReadLines
 pub mod LinesRead
+pub mod Asks

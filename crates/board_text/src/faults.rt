@@ -105,6 +105,7 @@ fn names_nothing(board: &Board, call: CallWords) -> bool
 
 /// The line that the call is about; none if it names a device or a line that the board doesn't
 /// have.
+#[inline(always)]
 pub(crate) fn line_named(board: &Board, call: CallWords) -> Option<LineNo>
     ensures none { is_none result ≡ names_nothing board.now call }
     ensures line { IfSome result (λ line. line ≡ line_of_call board.now.devices call) }

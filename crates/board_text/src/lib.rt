@@ -7,6 +7,7 @@
 
 pub mod adding;
 pub mod faults;
+mod lines;
 pub mod masks;
 pub mod owners;
 pub mod reader;

@@ -1,15 +1,17 @@
 //! The reader: the board that the statements so far state, and what the reader keeps of them to
 //! judge the next one.
-ghost use Rattle.std.specs.Prelude.{◌≡◌, ℕ, false, List, [], ◌∷◌, ◌&&◌, not, OnOk};
+ghost use Rattle.std.specs.Prelude.{◌≡◌, ◌==◌, ℕ, false, List, [], ◌∷◌, ◌&&◌, not, Ok, OnOk};
+ghost use Rattle.std.specs.Prelude.{IfOk};
+ghost use Rattle.std.specs.Result.{result_and};
 ghost use Rattle.board_stated.specs.FaultsAfter.{is_empty, is_out_of_order, is_twice};
 ghost use Rattle.board_stated.specs.FaultsAfter.{has_flag_twice, fault_after};
 ghost use Rattle.board_stated.specs.Stated.{board_of, script_call};
 ghost use Rattle.board_stated.specs.TextOf.{begins_with_board};
 ghost use Rattle.board_words.specs.Seen.{words_left};
-ghost use Rattle.board_words.specs.TextLines.{words_of, has_bad_byte};
+ghost use Rattle.board_words.specs.TextLines.{text_lines, words_of, has_bad_byte};
 ghost use Rattle.board_def.specs.Rules.{IsBoard};
 ghost use Rattle.board_text.specs.Kept.{Agrees, Keeps, IsKept, IsNext, IsTold, with_call};
-ghost use Rattle.board_text.specs.Kept.{log_after};
+ghost use Rattle.board_text.specs.Kept.{log_after, place_of};
 ghost use Rattle.board_text.specs.Given.{Ends, ReadsLine, Takes, Makes};
 ghost use Rattle.board_text.specs.Owned.{tells_owner};
 ghost use Rattle.board_words.specs.declared.statements.CallWords.{CallWords};
@@ -21,11 +23,14 @@ use crate::faults::{
     MOST_CALLS, driver_writing, has_bad_mask, has_bad_parent, has_bad_unlazy, has_name,
     is_misplaced, is_not_there, is_one_too_many, line_named,
 };
+use crate::lines::{after_line, device_asked};
 use crate::owners::Owners;
 use crate::sections::Section;
 use crate::stood::Stood;
 use board_def::{Board, ScriptCall};
-use board_words::{CallWords, FaultKind, Statement, StatementRefused, Words, read_statement};
+use board_words::{
+    CallWords, FaultKind, Statement, StatementRefused, TextLines, Words, read_statement,
+};
 use irq_base::NoMemory;
 use std::alloc::Global;
 
@@ -65,13 +70,67 @@ impl Reader {
         }
     }
 
-    /// Reads the words of a text line in which no byte is bad. After a fault, or if memory was
-    /// refused, the reader is of no more use.
-    pub(crate) fn read_words(
+    /// Reads the first text line of a text, and answers what follows it. After a fault, or if memory
+    /// was refused, the reader is of no more use.
+    #[inline(always)]
+    pub(crate) fn read_line<'a>(
         &mut self,
         alloc: Global,
-        words: Words<'_>,
-    ) -> Result<(), StatementRefused>
+        text: &'a [u8],
+    ) -> Result<&'a [u8], StatementRefused>
+        requires { IsKept self.old }
+        ensures read { (past : List Statement) (line : List ℕ) (left : List (List ℕ))
+            → Keeps past self.old → text_lines text.now ≡ line ∷ left
+            → ReadsLine past line self.new (result_and result (Ok tt)) }
+        ensures left { (line : List ℕ) (left : List (List ℕ)) → text_lines text.now ≡ line ∷ left
+            → IfOk result (λ rest. text_lines rest.now ≡ left) }
+    {
+        // a long text is mostly asks of a few devices
+        if let Some((dev, rest)) = device_asked(text)
+            && self.is_in_scripts()
+        {
+            return match self.take_call(CallWords::Ask { dev }) {
+                Ok(()) => Ok(rest),
+                Err(refused) => Err(refused),
+            };
+        }
+        self.read_any_line(alloc, text)
+    }
+
+    /// The same, whatever the text line says. It stands apart: most text lines are asks.
+    #[inline(never)]
+    fn read_any_line<'a>(
+        &mut self,
+        alloc: Global,
+        text: &'a [u8],
+    ) -> Result<&'a [u8], StatementRefused>
+        requires { IsKept self.old }
+        ensures read { (past : List Statement) (line : List ℕ) (left : List (List ℕ))
+            → Keeps past self.old → text_lines text.now ≡ line ∷ left
+            → ReadsLine past line self.new (result_and result (Ok tt)) }
+        ensures left { (line : List ℕ) (left : List (List ℕ)) → text_lines text.now ≡ line ∷ left
+            → IfOk result (λ rest. text_lines rest.now ≡ left) }
+    {
+        let mut lines = TextLines::new(text);
+        let Some((line, is_bad)) = lines.next_checked() else {
+            return Ok(text);
+        };
+        if is_bad {
+            return Err(StatementRefused::Fault(FaultKind::BadByte));
+        }
+        self.read_words(alloc, Words::of_line(line))?;
+        Ok(after_line(text, line))
+    }
+
+    /// Whether the last statement was a driver or a call.
+    fn is_in_scripts(&self) -> bool
+        ensures { result ≡ (place_of self.now.section == 5) }
+    {
+        matches!(self.section, Section::Scripts)
+    }
+
+    /// Reads the words of a text line in which no byte is bad.
+    fn read_words(&mut self, alloc: Global, words: Words<'_>) -> Result<(), StatementRefused>
         requires { IsKept self.old }
         ensures { (past : List Statement) (line : List ℕ) → Keeps past self.old
             → words_left words.entry ≡ words_of line → has_bad_byte line ≡ false
@@ -108,6 +167,7 @@ impl Reader {
     }
 
     /// Takes a call, unless it has a fault after the statements so far.
+    #[inline(always)]
     fn take_call(&mut self, words: CallWords) -> Result<(), StatementRefused>
         requires { IsKept self.old }
         ensures { (past : List Statement) → Agrees past self.old
@@ -219,10 +279,10 @@ impl Reader {
         if has_flag_twice(words) {
             return Err(FaultKind::Twice);
         }
+        let driver = driver_writing(&self.board);
         let Some(line) = line_named(&self.board, words) else {
             return Err(FaultKind::NotThere);
         };
-        let driver = driver_writing(&self.board);
         let call = call_of_words(words);
         if tells_owner(words) && self.owners.forbid(driver, call) {
             return Err(FaultKind::BadOwner);

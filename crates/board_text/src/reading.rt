@@ -81,14 +81,11 @@ fn read_lines(alloc: Global, bytes: &[u8]) -> Result<Reader, BoardRefused>
     ensures { ReadsLines (text_lines bytes.now) result }
 {
     let mut reader = Reader::new(alloc);
-    let mut lines = TextLines::new(bytes);
+    let mut rest = bytes;
     let mut at: u32 = 1;
-    while let Some((line, is_bad)) = lines.next_checked() {
-        if is_bad {
-            return Err(fault_at(at, FaultKind::BadByte));
-        }
-        match reader.read_words(alloc, Words::of_line(line)) {
-            Ok(()) => {}
+    while !rest.is_empty() {
+        match reader.read_line(alloc, rest) {
+            Ok(after) => rest = after,
             Err(StatementRefused::Fault(kind)) => return Err(fault_at(at, kind)),
             Err(StatementRefused::NoMemory) => return Err(BoardRefused::NoMemory),
         }
