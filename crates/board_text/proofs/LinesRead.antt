@@ -1,5 +1,6 @@
 -- Reading text lines, one after another.
-use Rattle.std.proofs.Common.{◌≡◌, ℕ, suc, ◌+◌, ◌<◌, ◌≤◌, Bool, true, false, cond, Some, None, Ok, Err, List, [], ◌∷◌, length, drop, refl, sym, ap, ◌∙◌, subst, arith}
+use Rattle.std.proofs.Common.{◌≡◌, ℕ, suc, ◌+◌, ◌<◌, ◌≤◌, Bool, true, false, cond, Some, None}
+use Rattle.std.proofs.Common.{Ok, Err, List, [], ◌∷◌, length, drop, refl, sym, ap, ◌∙◌, subst, arith}
 use Rattle.std.proofs.lemmas.List.{drop_all}
 use Rattle.board_stated.specs.TextOf.{fault_of_line, with_line, fault_or, first_fault, with_lines}
 use Rattle.board_words.specs.TextLines.{text_lines, is_line_feed, onto_first}

@@ -70,8 +70,8 @@ impl Reader {
         }
     }
 
-    /// Reads the first text line of a text, and answers what follows it. After a fault, or if memory
-    /// was refused, the reader is of no more use.
+    /// Reads the first text line of a text, and answers what follows it. After a fault, or if
+    /// memory was refused, the reader is of no more use.
     #[inline(always)]
     pub(crate) fn read_line<'a>(
         &mut self,
