@@ -20,12 +20,21 @@ pub(crate) fn device_asked(text: &[u8]) -> Option<(DevNo, &[u8])>
         [b'a', b's', b'k', b' ', digit, b'\n', rest @ ..] if is_above_zero(*digit) => {
             Some((DevNo(value_of(*digit)), rest))
         }
-        [b'a', b's', b'k', b' ', rest @ ..] => {
-            let (number, rest) = longer_number(rest)?;
-            Some((DevNo(number), rest))
-        }
-        _ => None,
+        _ => longer_asked(text),
     }
+}
+
+/// The same, if the number has two or three digits.
+fn longer_asked(text: &[u8]) -> Option<(DevNo, &[u8])>
+    ensures { IfSome result (λ x. (digits : List ℕ)
+        × (text.now ≡ codes "ask " ++ digits ++ 10 ∷ x.1.now)
+        × (number_between 1 65535 digits ≡ Some x.0.0)) }
+{
+    let [b'a', b's', b'k', b' ', rest @ ..] = text else {
+        return None;
+    };
+    let (number, rest) = longer_number(rest)?;
+    Some((DevNo(number), rest))
 }
 
 /// If the first text line is a number of two or three digits: the number, and what follows it.

@@ -1,4 +1,4 @@
-use Rattle.std.proofs.Common.{rules, ◌≡◌, ℕ, ◌≤◌, length, get_or, sym, ◌∙◌, arith}
+use Rattle.std.proofs.Common.{rules, ◌≡◌, ◌≤◌, length, get_or, sym, ◌∙◌}
 use Rattle.board_text.proofs.Asks.{two_read, three_read}
 use Rattle.board_text.proofs.lines.longer_number.Goals as goal
 
