@@ -16,38 +16,44 @@ add_of_cpu-requires-clause-due g c =
 pub add_of_cpu-requires-clause-room : goal.add_of_cpu-requires-clause-room
 add_of_cpu-requires-clause-room g c =
     let mid = c.prepare_heard.new.self.line in
-    fits_room c.args.self.now.line mid (actors.Cpu c.args.cpu) c.prepare_heard.ensures.def c.prepare_heard.ensures.entries c.in_default.ensures.fits
-    (entry_at mid (steps.Cpu c.args.cpu c.in-Some.step))
-    (sym c.due_of_cpu.ensures ∙ ap (option_map (λ (x : CpuStep). entry_at mid (steps.Cpu c.args.cpu x))) c.in-Some.is)
+    fits_room c.args.self.now.line mid (actors.Cpu c.args.cpu)
+    c.prepare_heard.ensures.def c.prepare_heard.ensures.entries c.in_default.ensures.fits
+    (entry_at mid (steps.Cpu c.args.cpu c.in-Some.step)) (sym c.due_of_cpu.ensures ∙ ap (option_map (λ (x : CpuStep). entry_at mid (steps.Cpu c.args.cpu x))) c.in-Some.is)
+
+pub return_of_cpu-requires-clause-room : goal.return_of_cpu-requires-clause-room
+return_of_cpu-requires-clause-room g c =
+    let mid = c.prepare_heard.new.self.line in
+    fits_room c.args.self.now.line mid (actors.Cpu c.args.cpu)
+    c.prepare_heard.ensures.def c.prepare_heard.ensures.entries c.in_default.ensures.fits
+    (entry_at mid (steps.Cpu c.args.cpu c.in-Some.step)) (sym c.due_of_cpu.ensures ∙ ap (option_map (λ (x : CpuStep). entry_at mid (steps.Cpu c.args.cpu x))) c.in-Some.is)
 
 pub returns-in-Err-clause-answer : goal.returns-in-Err-clause-answer
 returns-in-Err-clause-answer g c =
-    refused_told c.args.self.now.line (actors.Cpu c.args.cpu) c.args.said.now c.in-Err.refusal c.prepare_heard.new.self.line c.in-Err.ensures.refused
+    refused_told c.args.self.now.line (actors.Cpu c.args.cpu) c.args.said.now c.in-Err.refusal
+    c.prepare_heard.new.self.line c.in-Err.ensures.refused
 
 pub returns-in-Err-clause-memory : goal.returns-in-Err-clause-memory
 returns-in-Err-clause-memory g c =
-    refused_memory (Option Entry) c.args.self.now.line (actors.Cpu c.args.cpu) c.in-Err.refusal c.prepare_heard.new.self.line c.in-Err.ensures.refused
+    refused_memory (Option Entry) c.args.self.now.line (actors.Cpu c.args.cpu) c.in-Err.refusal
+    c.prepare_heard.new.self.line c.in-Err.ensures.refused
 
 pub returns-in_default-due_of_cpu-clause-answer : goal.returns-in_default-due_of_cpu-clause-answer
 returns-in_default-due_of_cpu-clause-answer g c =
     let mid = c.prepare_heard.new.self.line in
     let none : next mid.def mid.entries (actors.Cpu c.args.cpu) ≡ None
     = sym c.due_of_cpu.ensures ∙ ap (option_map (λ (x : CpuStep). entry_at mid (steps.Cpu c.args.cpu x))) c.in_default-due_of_cpu.is in
-    fits_rests c.args.self.now.line mid (actors.Cpu c.args.cpu) c.prepare_heard.ensures.def c.prepare_heard.ensures.entries c.in_default.ensures.fits c.args.said.now none
-
-pub return_of_cpu-requires-clause-room : goal.return_of_cpu-requires-clause-room
-return_of_cpu-requires-clause-room g c =
-    let mid = c.prepare_heard.new.self.line in
-    fits_room c.args.self.now.line mid (actors.Cpu c.args.cpu) c.prepare_heard.ensures.def c.prepare_heard.ensures.entries c.in_default.ensures.fits
-    (entry_at mid (steps.Cpu c.args.cpu c.in-Some.step))
-    (sym c.due_of_cpu.ensures ∙ ap (option_map (λ (x : CpuStep). entry_at mid (steps.Cpu c.args.cpu x))) c.in-Some.is)
+    fits_rests c.args.self.now.line mid (actors.Cpu c.args.cpu)
+    c.prepare_heard.ensures.def c.prepare_heard.ensures.entries c.in_default.ensures.fits c.args.said.now none
 
 pub returns-in-Return-clause-answer : goal.returns-in-Return-clause-answer
 returns-in-Return-clause-answer g c =
-    fits_adds c.args.self.now.line c.prepare_heard.new.self.line (actors.Cpu c.args.cpu) c.prepare_heard.ensures.def c.prepare_heard.ensures.entries
-    c.in_default.ensures.fits c.return_of_cpu.new.said c.return_of_cpu.result c.return_of_cpu.new.self.line c.return_of_cpu.ensures.adds
+    fits_adds c.args.self.now.line c.prepare_heard.new.self.line (actors.Cpu c.args.cpu)
+    c.prepare_heard.ensures.def c.prepare_heard.ensures.entries c.in_default.ensures.fits
+    c.return_of_cpu.new.said c.return_of_cpu.result c.return_of_cpu.new.self.line c.return_of_cpu.ensures.adds
 
 pub returns-clause-answer : goal.returns-clause-answer
 returns-clause-answer g c =
-    fits_adds c.args.self.now.line c.prepare_heard.new.self.line (actors.Cpu c.args.cpu) c.prepare_heard.ensures.def c.prepare_heard.ensures.entries
-    c.in_default.ensures.fits c.args.said.now c.add_of_cpu.result c.add_of_cpu.new.self.line (c.add_of_cpu.ensures.unheard c.in_default-step.not-Return c.args.said.now)
+    let said = c.args.said.now in
+    fits_adds c.args.self.now.line c.prepare_heard.new.self.line (actors.Cpu c.args.cpu)
+    c.prepare_heard.ensures.def c.prepare_heard.ensures.entries c.in_default.ensures.fits
+    said c.add_of_cpu.result c.add_of_cpu.new.self.line (c.add_of_cpu.ensures.unheard c.in_default-step.not-Return said)
