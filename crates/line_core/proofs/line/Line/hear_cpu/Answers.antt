@@ -18,14 +18,16 @@ add_of_cpu-requires-clause-room g c =
     let mid = c.prepare_heard.new.self.line in
     fits_room c.args.self.now.line mid (actors.Cpu c.args.cpu)
     c.prepare_heard.ensures.def c.prepare_heard.ensures.entries c.in_default.ensures.fits
-    (entry_at mid (steps.Cpu c.args.cpu c.in-Some.step)) (sym c.due_of_cpu.ensures ∙ ap (option_map (λ (x : CpuStep). entry_at mid (steps.Cpu c.args.cpu x))) c.in-Some.is)
+    (entry_at mid (steps.Cpu c.args.cpu c.in-Some.step))
+    (sym c.due_of_cpu.ensures ∙ ap (option_map (λ (x : CpuStep). entry_at mid (steps.Cpu c.args.cpu x))) c.in-Some.is)
 
 pub return_of_cpu-requires-clause-room : goal.return_of_cpu-requires-clause-room
 return_of_cpu-requires-clause-room g c =
     let mid = c.prepare_heard.new.self.line in
     fits_room c.args.self.now.line mid (actors.Cpu c.args.cpu)
     c.prepare_heard.ensures.def c.prepare_heard.ensures.entries c.in_default.ensures.fits
-    (entry_at mid (steps.Cpu c.args.cpu c.in-Some.step)) (sym c.due_of_cpu.ensures ∙ ap (option_map (λ (x : CpuStep). entry_at mid (steps.Cpu c.args.cpu x))) c.in-Some.is)
+    (entry_at mid (steps.Cpu c.args.cpu c.in-Some.step))
+    (sym c.due_of_cpu.ensures ∙ ap (option_map (λ (x : CpuStep). entry_at mid (steps.Cpu c.args.cpu x))) c.in-Some.is)
 
 pub returns-in-Err-clause-answer : goal.returns-in-Err-clause-answer
 returns-in-Err-clause-answer g c =
