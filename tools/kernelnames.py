@@ -40,7 +40,7 @@ def forms_of(name):
     yield rf"^(?!EXPORT_)[A-Za-z_ ]*[A-Z_]+\((?:[^\n()]*, )?{name}\b"
     yield rf"^[A-Za-z_][\w \t*]*[ \t*]{name}(?:\[[^\n]*|[ \t]*=[^\n]*|;| [_a-z]+ = )"
     yield rf"\b(?:struct|enum|union)[ \t]+{name}[ \t]*\{{"
-    yield rf"^[ \t]+[A-Za-z_][\w \t*]*[ \t*]{name}(?:\[[^\]]*\])?(?:[ \t]*:[ \t]*\d+)?;"
+    yield rf"^[ \t]+(?!return|goto)[A-Za-z_][\w \t*]*[ \t*]{name}(?:\[[^\]]*\])?(?:[ \t]*:[ \t]*\d+)?;"
     yield rf"\(\*{name}\)\("
     if name.upper() == name:
         yield rf"^[ \t]+{name}[ \t]*(?:=|,|$)"
@@ -81,15 +81,20 @@ def boards_of(text):
     return {it for pair in named for it in re.findall(r"`([a-z_]+)`", "".join(pair))}
 
 
+def others(text, ours):
+    """The names of Linux that the sections on differences have without a file."""
+    listed = sections(text)
+    return set(re.findall(r"`(\w+_\w*)`", listed)) - {name for name, _ in citations(text)} - boards_of(listed) - ours
+
+
 def look_at_linux(text, ours):
-    """Yields each name of Linux that a page cites, with what is wrong of it, and whether it is there."""
+    """Yields each name of Linux that a page cites, with what is wrong of it, and whether it is there; None without a source."""
+    found = os.path.isdir(f"{SOURCE}/kernel/irq")
     pairs = sorted(set(citations(text)))
     for name, file in pairs:
-        yield f"`{name}`: {file} doesn't declare it" if text_of(file) else f"`{name}`: no file {file}", declares(file, name)
-    listed = sections(text)
-    others = set(re.findall(r"`(\w+_\w*)`", listed)) - {name for name, _ in pairs} - boards_of(listed) - ours
-    for name in sorted(others):
-        yield f"`{name}`: neither ours nor of kernel/irq", is_there(name, {file for _, file in pairs})
+        yield f"`{name}`: " + (f"{file} doesn't declare it" if text_of(file) else f"no file {file}"), declares(file, name) if found else None
+    for name in sorted(others(text, ours)):
+        yield f"`{name}`: neither ours nor of kernel/irq", is_there(name, {file for _, file in pairs}) if found else None
 
 
 def look_at_differences(text):
