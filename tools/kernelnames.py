@@ -49,7 +49,8 @@ def forms_of(name):
 @functools.cache
 def declares(file, name):
     """Whether the file declares the name: a function, a type, a macro, a constant, a field, a variable."""
-    return any(re.search(form, text_of(file), re.M) for form in forms_of(name))
+    text = text_of(file)
+    return name in text and any(re.search(form, text, re.M) for form in forms_of(name))
 
 
 def is_there(name, cited):
