@@ -4,7 +4,7 @@ A citation of Linux is names with a file behind: `NAME`, `NAME` (`FILE`), (`NAME
 folder is one of kernel/irq, or one that the page names with its folder too; each name has to be declared in it. In the
 sections on differences of DEFINITIONS each other name with an underscore that isn't ours has to be declared in
 kernel/irq, in its headers or in a file that is cited there. There too each difference has an anchor of its own, and the
-boards that are named are those of kernel/boards, each of them.
+boards and the rules of the harness's profile that are named are those of kernel/, each of them.
 """
 
 import functools
@@ -82,6 +82,17 @@ def boards_of(text):
     return {it for pair in named for it in re.findall(r"`([a-z_]+)`", "".join(pair))}
 
 
+def rules_of(text):
+    """The rules of the harness's profile that are named."""
+    return set(re.findall(r"`([a-z-]+)`", "".join(re.findall(r"in the profile ((?:`[a-z-]+`(?:, )?)+)", text))))
+
+
+def both_ways(place, what, named, there):
+    """Yields each that is named or there, and whether it is both."""
+    for it in sorted(named | there):
+        yield f"{what} {it}: " + ("no difference names it" if it in there else f"not in {place}"), it in named & there
+
+
 def others(text, ours):
     """The names of Linux that the sections on differences have without a file."""
     listed = sections(text)
@@ -101,9 +112,11 @@ def look_at_linux(text, ours):
 def look_at_differences(text):
     """Yields what is wrong of an item of the list of differences, and whether it is right."""
     listed = sections(text)
-    named, there = boards_of(listed), {it.stem for it in (TOP / "kernel" / "boards").glob("*.board")}
-    for board in sorted(named | there if listed else ()):
-        yield f"the board {board}: " + ("no difference names it" if board in there else "not in kernel/boards"), board in named & there
+    if listed:
+        boards = {it.stem for it in (TOP / "kernel" / "boards").glob("*.board")}
+        yield from both_ways("kernel/boards", "the board", boards_of(listed), boards)
+        rules = re.search(r"^RULES = \((.*?)^\)", (TOP / "kernel" / "boardtext.py").read_text(), re.M | re.S)
+        yield from both_ways("kernel/boardtext.py", "the rule", rules_of(listed), set(re.findall(r'"([a-z-]+)"', rules[1] if rules else "")))
     for anchor in sorted(set(re.findall(ANCHOR, text))):
         yield f"the anchor {anchor}: more than one of it", len(re.findall(rf'<a id="{anchor}">', text)) == 1
     list_, items = listed.partition(ITEMS)[2].partition(TABLES)[0], listed.partition(TABLES)[2]
