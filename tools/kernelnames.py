@@ -87,6 +87,12 @@ def rules_of(text):
     return set(re.findall(r"`([a-z-]+)`", "".join(re.findall(r"in the profile ((?:`[a-z-]+`(?:, )?)+)", text))))
 
 
+def rules_there():
+    """The rules that the harness has."""
+    found = re.search(r"^RULES = \((.*?)^\)", (TOP / "kernel" / "boardtext.py").read_text(encoding="utf-8"), re.M | re.S)
+    return set(re.findall(r'"([a-z-]+)"', found[1] if found else ""))
+
+
 def both_ways(place, what, named, there):
     """Yields each that is named or there, and whether it is both."""
     for it in sorted(named | there):
@@ -115,8 +121,7 @@ def look_at_differences(text):
     if listed:
         boards = {it.stem for it in (TOP / "kernel" / "boards").glob("*.board")}
         yield from both_ways("kernel/boards", "the board", boards_of(listed), boards)
-        rules = re.search(r"^RULES = \((.*?)^\)", (TOP / "kernel" / "boardtext.py").read_text(), re.M | re.S)
-        yield from both_ways("kernel/boardtext.py", "the rule", rules_of(listed), set(re.findall(r'"([a-z-]+)"', rules[1] if rules else "")))
+        yield from both_ways("kernel/boardtext.py", "the rule", rules_of(listed), rules_there())
     for anchor in sorted(set(re.findall(ANCHOR, text))):
         yield f"the anchor {anchor}: more than one of it", len(re.findall(rf'<a id="{anchor}">', text)) == 1
     list_, items = listed.partition(ITEMS)[2].partition(TABLES)[0], listed.partition(TABLES)[2]
