@@ -79,7 +79,7 @@ def sections(text):
 def boards_of(text):
     """The boards that are named as showing a difference."""
     named = re.findall(r"\*\*Board\*\*: ([^.;]*)|[Tt]he board (`\w+`) shows", text)
-    return {it for pair in named for it in re.findall(r"`([a-z_]+)`", "".join(pair))}
+    return {it for pair in named for it in re.findall(r"`([a-z0-9_]+)`", "".join(pair))}
 
 
 def rules_of(text):
