@@ -21,9 +21,9 @@ WORDS = {
     "profile": "rules", "rows": "number", "hz": "number", "domains": "", "nextfirst": "", "notefirst": "",
     "resendfirst": "", "maskfirst": "", "realsoft": "", "noaffinity": "", "noirqdebug": "", "oneshotsafe": "",
     "irqdisable": "", "onactivate": "line", "noautoen": "line", "polled": "line", "untyped": "line",
-    "enforced": "line",
+    "enforced": "line", "wakefirst": "", "sentstays": "", "unaimed": "line", "unbalanced": "line",
 }
-WORD_CALLS = {"poll": "", "busychip": "line number"}
+WORD_CALLS = {"poll": "", "busychip": "line number", "default": "mask"}
 
 
 class BadBoard(Exception):
@@ -271,6 +271,9 @@ class Board:
             for need, it in zip(needs, rest):
                 if need == "number":
                     self.number(at, it, 0 if word == "busychip" else 1, 1000000)
+                elif need == "mask":
+                    if not self.number(at, it, 0, 4294967295) & ((1 << self.cpus) - 1):
+                        raise BadBoard(at, "bad mask")
                 else:
                     self.known(at, it, self.lines, need)
         self.words[word] = rest

@@ -68,7 +68,7 @@ static void make_ask(struct actor *driver, struct board_call *call)
 	call->device->open++;
 	line->asks++;
 	if (line->cell.edge)
-		raise_edge(&line->cell);
+		raise_edge(line);
 	else
 		set_high(line);
 	emit_row(line, "d%d ask %d", driver->no, call->device->no);
@@ -178,16 +178,24 @@ static void make_enable(struct actor *driver, struct board_line *line)
 		emit_row(line, "d%d enable started %s", driver->no, resent_by(line));
 }
 
+/* The mask of a call; the last processor of a cpumask is never there. */
+static void mask_of(struct board_call *call, cpumask_t *mask)
+{
+	int i;
+
+	cpumask_clear(mask);
+	for (i = 0; i < 32; i++)
+		if (call->number & BIT(i))
+			cpumask_set_cpu(i < the_board->cpus ? i : NR_CPUS - 1, mask);
+}
+
 static void make_affinity(struct actor *driver, struct board_call *call)
 {
 	struct board_line *line = call->line;
 	cpumask_t mask;
-	int i, ret;
+	int ret;
 
-	cpumask_clear(&mask);
-	for (i = 0; i < 32; i++)
-		if (call->number & BIT(i))	/* the last of the mask is never there */
-			cpumask_set_cpu(i < the_board->cpus ? i : NR_CPUS - 1, &mask);
+	mask_of(call, &mask);
 	if (has_rule(RULE_EMPTY_MASK) && line->later && !cpumask_intersects(&mask, cpu_online_mask))
 		ret = -EINVAL;
 	else
@@ -242,6 +250,9 @@ static void make_call(struct actor *driver, struct board_call *call)
 	case CALL_POLL:
 		run_poll();
 		break;
+	case CALL_DEFAULT:
+		mask_of(call, irq_default_affinity);
+		break;
 	default:
 		break;
 	}
@@ -252,7 +263,7 @@ static void make_call(struct actor *driver, struct board_call *call)
 /* The words of the harness make no step of their own: they go with the call after them. */
 static bool is_word(struct board_call *call)
 {
-	return call->op == CALL_BUSY || call->op == CALL_POLL;
+	return call->op >= CALL_BUSY;
 }
 
 static bool is_passed_over(struct board_call *call)
@@ -364,6 +375,14 @@ static bool step_thread(struct actor *thread)
 	       !irqd_irq_inprogress(&thread->device->line->desc->irq_data) && let_go(thread);
 }
 
+/* The processor that takes the line. */
+static int taker(struct board_line *line)
+{
+	bool stays = has_word(WORD_SENT_STAYS) && line->cell.edge && line->cell.sent;
+
+	return stays ? line->cell.sent_to : line->target;
+}
+
 static bool step_processor(struct actor *cpu)
 {
 	int i;
@@ -374,7 +393,7 @@ static bool step_processor(struct actor *cpu)
 		struct board_line *line = &the_board->lines[i];
 		bool signal = has_signal(&line->cell);
 
-		if (!line->refused && line->target == cpu->no && (signal || line->soft)) {
+		if (!line->refused && taker(line) == cpu->no && (signal || line->soft)) {
 			cpu->line = line;
 			cpu->resend = !signal;
 			return let_go(cpu);

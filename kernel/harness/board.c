@@ -19,12 +19,12 @@ static const char *const rule_names[RULES] = {
 
 static const char *const word_names[WORDS] = {
 	"nextfirst", "notefirst", "resendfirst", "maskfirst", "realsoft", "noaffinity", "noirqdebug",
-	"oneshotsafe", "irqdisable",
+	"oneshotsafe", "irqdisable", "wakefirst", "sentstays",
 };
 
 static const char *const call_names[CALL_OPS] = {
 	"request", "free", "ask", "disable", "disable_nosync", "enable", "sync", "affinity", "moment",
-	"busychip", "poll",
+	"busychip", "poll", "default",
 };
 
 static char *next_word(char **text)
@@ -192,10 +192,11 @@ static void read_call(enum call_op op, char *text)
 	if (op <= CALL_ASK) {
 		call->device = next_device(&text);
 		call->line = call->device->line;
-	} else if (op != CALL_POLL) {
+	} else if (op < CALL_POLL) {
 		call->line = next_line(&text);
 	}
-	if (op == CALL_AFFINITY || op == CALL_MOMENT || op == CALL_BUSY)
+	if (op == CALL_AFFINITY || op == CALL_MOMENT || op == CALL_BUSY ||
+	    op == CALL_DEFAULT)
 		call->number = next_number(&text);
 	while (*(word = next_word(&text))) {
 		if (!strcmp(word, "shared"))
@@ -238,6 +239,10 @@ static bool read_line_word(const char *word, char *text)
 		next_line(&text)->untyped = true;
 	else if (!strcmp(word, "enforced"))
 		next_line(&text)->enforced = true;
+	else if (!strcmp(word, "unaimed"))
+		next_line(&text)->unaimed = true;
+	else if (!strcmp(word, "unbalanced"))
+		next_line(&text)->unbalanced = true;
 	else
 		return false;
 	return true;

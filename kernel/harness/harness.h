@@ -49,6 +49,8 @@ enum word {
 	WORD_NO_DEBUG,		/* as booted with noirqdebug */
 	WORD_ONESHOT_SAFE,	/* the chips have IRQCHIP_ONESHOT_SAFE */
 	WORD_IRQ_DISABLE,	/* the chips have irq_disable and irq_enable */
+	WORD_WAKE_FIRST,	/* the gate after a handler that wakes stands within the wake */
+	WORD_SENT_STAYS,	/* a sent edge stays with the processor of the moment */
 	WORDS
 };
 
@@ -88,6 +90,7 @@ struct actor {
 	bool began;			/* the take was handled */
 	bool ending;			/* the walk is over */
 	bool note_gate;			/* the gate stands after the note */
+	bool past_gate;			/* the gate after the handler is passed */
 	struct board_device *handler;
 	/* drivers */
 	struct board_call *calls;
@@ -117,6 +120,7 @@ struct board_domain {
 struct cell {
 	bool edge, keeps, recalls, retriggers, serves;
 	bool masked, stored, sent, high, in_service;
+	int sent_to;			/* the target when it was sent */
 };
 
 struct board_line {
@@ -124,7 +128,7 @@ struct board_line {
 	struct board_domain *domain;
 	u32 number, mask;
 	bool unlazy, later, fast_edges;
-	bool on_activate, no_autoen, polled, untyped, enforced;
+	bool on_activate, no_autoen, polled, untyped, enforced, unaimed, unbalanced;
 	bool refused, soft;
 	const char *why;
 	struct cell cell;
@@ -155,7 +159,7 @@ enum call_op {
 	CALL_REQUEST, CALL_FREE, CALL_ASK,			/* of a device */
 	CALL_DISABLE, CALL_DISABLE_NOSYNC, CALL_ENABLE, CALL_SYNC,
 	CALL_AFFINITY, CALL_MOMENT, CALL_BUSY,			/* of a line */
-	CALL_POLL,
+	CALL_POLL, CALL_DEFAULT,				/* of neither */
 	CALL_OPS
 };
 
@@ -225,7 +229,7 @@ irqreturn_t board_thread(int virq, void *cookie);
 /* chips.c */
 struct board_line *line_of(struct irq_desc *desc);
 bool has_signal(struct cell *cell);
-void raise_edge(struct cell *cell);
+void raise_edge(struct board_line *line);
 void set_high(struct board_line *line);
 int make_domain(struct board_domain *domain);
 void make_line(struct board_line *line);

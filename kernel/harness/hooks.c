@@ -316,7 +316,9 @@ struct irqaction *harness_next(struct irq_desc *desc, struct irqaction *action)
 	if (!line || !cpu)
 		return next;
 	emit_state(line);
-	if (next || !has_word(WORD_NOTE_FIRST)) {
+	if (cpu->past_gate) {
+		cpu->past_gate = false;
+	} else if (next || !has_word(WORD_NOTE_FIRST)) {
 		pass_gate(cpu, GATE_NEXT);
 		if (!has_word(WORD_NEXT_FIRST))
 			next = READ_ONCE(action->next);
@@ -363,6 +365,18 @@ void harness_exit(struct irqaction *action, int answer)
 		 answer == IRQ_WAKE_THREAD ? "wake" : answer == IRQ_HANDLED ? "handled" : "nothing",
 		 served);
 	cpu->handler = NULL;
+}
+
+/* In __irq_wake_thread(): RUNTHREAD is set, and threads_active isn't raised yet. */
+void harness_wake_gate(void)
+{
+	struct actor *cpu = current_of('c');
+
+	if (!cpu || !has_word(WORD_WAKE_FIRST))
+		return;
+	emit_state(cpu->line);
+	pass_gate(cpu, GATE_NEXT);
+	cpu->past_gate = true;
 }
 
 irqreturn_t board_primary(int virq, void *cookie)
@@ -560,6 +574,7 @@ void run_take(struct actor *cpu)
 	cpu->began = false;
 	cpu->ending = false;
 	cpu->note_gate = false;
+	cpu->past_gate = false;
 	cpu->busy = irqd_irq_inprogress(&line->desc->irq_data);
 	emit_trace("processor %d takes line %d, %s", cpu->no, line->no,
 		   cpu->resend ? "a soft resend" : "its signal");
