@@ -149,6 +149,7 @@ static void make_disable(struct actor *driver, struct board_call *call)
 {
 	disable_irq_nosync(call->line->virq);
 	emit_row(call->line, "d%d disable", driver->no);
+	note_down(driver, call->line);
 	if (call->op == CALL_DISABLE_NOSYNC)
 		return;
 	emit_state(call->line);
@@ -402,19 +403,27 @@ static bool step_processor(struct actor *cpu)
 	return false;
 }
 
+static bool has_call(struct actor *driver)
+{
+	while (driver->pos < driver->call_count && is_passed_over(&driver->calls[driver->pos]))
+		driver->pos++;
+	return driver->pos < driver->call_count;
+}
+
+/* Whether the driver is in such a call, or is to make one next. */
+bool is_next(struct actor *driver, enum call_op op)
+{
+	return has_call(driver) && driver->calls[driver->pos].op == op;
+}
+
 static bool step_driver(struct actor *driver)
 {
-	if (driver->gate == GATE_SCRIPT) {
-		while (driver->pos < driver->call_count &&
-		       is_passed_over(&driver->calls[driver->pos]))
-			driver->pos++;
-		if (driver->pos >= driver->call_count)
-			return false;
-	}
+	if (driver->gate == GATE_SCRIPT && !has_call(driver))
+		return false;
 	return let_go(driver);
 }
 
-static bool step(struct actor *actor)
+bool step(struct actor *actor)
 {
 	if (actor->state != AT_GATE)
 		return false;
@@ -423,8 +432,8 @@ static bool step(struct actor *actor)
 	return actor->letter == 'c' ? step_processor(actor) : step_driver(actor);
 }
 
-/* Threads before processors before drivers. */
-static bool step_lowest(void)
+/* Threads before processors. */
+bool step_inner(void)
 {
 	int i;
 
@@ -434,6 +443,16 @@ static bool step_lowest(void)
 	for (i = 0; i < the_board->cpus; i++)
 		if (step(&the_board->processors[i]))
 			return true;
+	return false;
+}
+
+/* Those before drivers. */
+static bool step_lowest(void)
+{
+	int i;
+
+	if (step_inner())
+		return true;
 	for (i = 0; i < the_board->driver_count; i++)
 		if (step(&the_board->drivers[i]))
 			return true;
@@ -487,7 +506,7 @@ static void start_all(void)
 	wait_for_gates();
 }
 
-static bool goes_on(void)
+bool goes_on(void)
 {
 	return !the_board->full && the_board->total < the_board->rows;
 }
@@ -507,6 +526,8 @@ void play_board(void)
 			if (!step(actor))
 				emit_trace("pick %c%d is passed over", pick->letter, pick->no);
 	}
+	if (the_board->sleeps)
+		play_sleep();
 	while (goes_on() && step_lowest())
 		cond_resched();
 	if (the_board->full)

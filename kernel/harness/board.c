@@ -14,7 +14,7 @@ static const char *const device_kinds[DEVICE_KINDS] = { "direct", "check", "null
 
 static const char *const rule_names[RULES] = {
 	"unlinked-enable", "depth-one", "unlazy-stays", "refuse-later", "empty-mask",
-	"move-each-take", "fast-eoi-resend", "fast-eoi-open",
+	"move-each-take", "fast-eoi-resend", "fast-eoi-open", "leave-full-mask", "keep-mask",
 };
 
 static const char *const word_names[WORDS] = {
@@ -152,13 +152,23 @@ static void read_device(char *text)
 	scnprintf(device->name, sizeof(device->name), "device%d", device->no);
 }
 
-static void read_driver(char *text)
+struct actor *new_driver(int no)
 {
 	struct actor *driver = &the_board->drivers[the_board->driver_count++];
 
 	driver->letter = 'd';
-	driver->no = next_number(&text);
+	driver->no = no;
 	driver->calls = vzalloc(array_size(MAX_CALLS, sizeof(struct board_call)));
+	return driver;
+}
+
+void add_call(struct actor *driver, enum call_op op, struct board_line *line, u32 number)
+{
+	struct board_call *call = &driver->calls[driver->call_count++];
+
+	call->op = op;
+	call->line = line;
+	call->number = number;
 }
 
 static void read_picks(char *text)
@@ -226,6 +236,31 @@ static void read_profile(char *text)
 	}
 }
 
+static void read_hotplug(char *text)
+{
+	char *word, *cpu;
+
+	the_board->vectors = next_number(&text);
+	while (*(word = next_word(&text)) && the_board->event_count < MAX_EVENTS) {
+		struct board_event *event = &the_board->events[the_board->event_count++];
+
+		cpu = strchr(word, ':');
+		if (cpu)
+			*cpu++ = 0;
+		event->off = !strcmp(word, "off");
+		event->cpu = next_number(&cpu);
+	}
+}
+
+static void read_sleep(char *text)
+{
+	char *word;
+
+	the_board->sleeps = true;
+	while (*(word = next_word(&text)))
+		next_line(&word)->armed = true;
+}
+
 /* Words of a line that boards don't have. */
 static bool read_line_word(const char *word, char *text)
 {
@@ -269,6 +304,10 @@ static bool read_setting(const char *word, char *text)
 		the_board->domain_calls = true;
 	else if (!strcmp(word, "profile"))
 		read_profile(text);
+	else if (!strcmp(word, "hotplug"))
+		read_hotplug(text);
+	else if (!strcmp(word, "sleep"))
+		read_sleep(text);
 	else if (!strcmp(word, "spurious")) {
 		harness_window = next_number(&text);
 		harness_limit = next_number(&text);
@@ -293,7 +332,7 @@ static void read_statement(char *text)
 	else if (!strcmp(word, "device"))
 		read_device(text);
 	else if (!strcmp(word, "driver"))
-		read_driver(text);
+		new_driver(next_number(&text));
 	else if (!strcmp(word, "picks"))
 		read_picks(text);
 	else if (!read_setting(word, text) && !read_line_word(word, text))

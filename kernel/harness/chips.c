@@ -158,6 +158,8 @@ static int chip_set_affinity(struct irq_data *data, const struct cpumask *mask, 
 {
 	struct board_line *line = chip_line(data);
 
+	if (the_board->placing)
+		return place_line(line, data, mask);
 	if (line->busy_moves) {
 		line->busy_moves--;
 		emit_trace("chip %d %s set_affinity: EBUSY", line->no, data->chip->name);
@@ -265,6 +267,8 @@ static int domain_activate(struct irq_domain *domain, struct irq_data *data, boo
 	struct board_domain *of = domain->host_data;
 
 	emit_trace("domain %s activate %lu", of->name, data->hwirq);
+	if (the_board->placing && !of->parent)
+		return place_first(chip_line(data), data);
 	return 0;
 }
 
@@ -404,7 +408,7 @@ static void set_first_mask(struct board_line *line)
 		irq_clear_status_flags(line->virq, SETTING_PROCESS_CONTEXT);
 }
 
-static void set_options(struct board_line *line)
+void set_options(struct board_line *line)
 {
 	if (!line->untyped)
 		irq_set_irq_type(line->virq, line->cell.edge ? IRQ_TYPE_EDGE_RISING :
@@ -417,21 +421,28 @@ static void set_options(struct board_line *line)
 		irq_set_status_flags(line->virq, SETTING_POLLED);
 	if (!line->unaimed)
 		set_first_mask(line);
+	else if (!line->later)
+		irq_set_status_flags(line->virq, SETTING_PROCESS_CONTEXT);
 	if (line->unbalanced)
 		irq_set_status_flags(line->virq, SETTING_UNBALANCED);
 	if (line->on_activate)
 		irqd_set_affinity_on_activate(&line->desc->irq_data);
 }
 
-/* A line that isn't aimed gets its mask, if it has one, with the allocation. */
+/* Where processors go, and for a line that isn't aimed, the mask comes with the allocation. */
 static int allocate(struct board_line *line)
 {
 	struct alloc_info info = { .line = line, .number = line->number, .is_own = true };
 	struct irq_affinity_desc affinity = {};
 
-	first_mask(line, &affinity.mask);
+	bool masked = the_board->vectors || (line->unaimed && ~line->mask);
+
+	if (the_board->vectors)
+		machine_mask(line, &affinity.mask);
+	else
+		first_mask(line, &affinity.mask);
 	return __irq_domain_alloc_irqs(line->domain->domain, -1, 1, NUMA_NO_NODE, &info, false,
-				       line->unaimed && ~line->mask ? &affinity : NULL);
+				       masked ? &affinity : NULL);
 }
 
 void make_line(struct board_line *line)
@@ -448,7 +459,10 @@ void make_line(struct board_line *line)
 		return;
 	}
 	line->desc = irq_to_desc(line->virq);
-	set_options(line);
+	if (the_board->vectors)
+		irq_set_status_flags(line->virq, SETTING_PROCESS_CONTEXT);
+	else
+		set_options(line);
 	for (data = &line->desc->irq_data; data; data = data->parent_data) {
 		struct board_domain *of = data->domain->host_data;
 

@@ -591,6 +591,8 @@ void run_take(struct actor *cpu)
 		emit_row(line, "c%d take %s %s", cpu->no, cpu->resend ? "resend" : "line",
 			 cpu->busy ? "busy" : "off");
 		line->takes++;
+		if (!cpu->busy)
+			note_off(line);
 	}
 	emit_state(line);
 }

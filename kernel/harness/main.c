@@ -97,6 +97,10 @@ static void run_board(char *text)
 	if (the_board->domain_calls)
 		call_domains();
 	lay_out();
+	if (the_board->vectors)
+		take_events();
+	if (the_board->sleeps)
+		add_sleep();
 	play_board();
 	emit_summary();
 	emit("=== end");
