@@ -169,6 +169,7 @@ static void make_enable(struct actor *driver, struct board_line *line)
 	if (line->enforced)
 		irqd_set_handle_enforce_irqctx(&desc->irq_data);
 	enable_irq(line->virq);
+	wait_for_tasklet();
 	if (line->enforced)
 		irqd_clear(&desc->irq_data, IRQD_HANDLE_ENFORCE_IRQCTX);
 	if (!before)

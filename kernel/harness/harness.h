@@ -244,6 +244,7 @@ bool is_next(struct actor *driver, enum call_op op);
 void run_take(struct actor *cpu);
 void run_poll(void);
 void forget_resends(void);
+void wait_for_tasklet(void);
 irqreturn_t board_primary(int virq, void *cookie);
 irqreturn_t board_thread(int virq, void *cookie);
 

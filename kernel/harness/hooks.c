@@ -4,6 +4,7 @@
  * Each row of the log is made here, or where a call is made, from what the kernel
  * did: who is linked, the depth before and after, bits, counts, calls of chips.
  */
+#include <linux/delay.h>
 #include "harness.h"
 
 bool harness_floor = true;
@@ -384,6 +385,8 @@ irqreturn_t board_primary(int virq, void *cookie)
 	struct board_device *device = cookie;
 	u32 seen = device->at_begin;
 
+	if (device < the_board->devices || device >= the_board->devices + the_board->device_count)
+		return IRQ_NONE;	/* the poll finds a line of an earlier board */
 	if (!current_of('c')) {
 		/* the poll of spurious.c, or the kernel's own tasklet: no entry of a log */
 		seen = device->open;
@@ -495,6 +498,14 @@ void harness_tasklet(struct tasklet_struct *tasklet)
 	} else {
 		emit("H a soft resend by nobody");
 	}
+}
+
+/* Until the kernel's own tasklet has run, so that the rows have one order. */
+void wait_for_tasklet(void)
+{
+	while (has_word(WORD_REAL_SOFT) && resend_tasklet &&
+	       (resend_tasklet->state & (BIT(TASKLET_STATE_SCHED) | BIT(TASKLET_STATE_RUN))))
+		msleep(1);
 }
 
 bool harness_resend_empty(unsigned long *map, int count)
