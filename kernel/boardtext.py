@@ -313,7 +313,8 @@ class Board:
         if set(self.words) >= {"hotplug", "sleep"}:
             raise BadBoard(0, "hotplug and sleep")
         for word in {"hotplug", "sleep"} & set(self.words):
-            if len(self.drivers) == 64 or 65535 in self.drivers or self.calls > {"hotplug": 12224, "sleep": 16256}[word]:
+            most = 12224 if word == "hotplug" else 16256
+            if len(self.drivers) == 64 or 65535 in self.drivers or self.calls > most:
                 raise BadBoard(0, f"not for {word}")
         if "hotplug" in self.words and (self.moves or self.later):
             raise BadBoard(0, "not for hotplug")

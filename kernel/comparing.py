@@ -17,8 +17,9 @@ Result = namedtuple("Result", ("name", "kernel", "genirq", "place", "verdict", "
 
 def run(program, command, text, error=subprocess.PIPE):
     """What a command of genirq, a list of words, prints, with its status and its row of standard error."""
+    words = [program, *command]
     try:
-        ran = subprocess.run([program, *command], input=text, stdout=subprocess.PIPE, stderr=error, text=True, check=False)
+        ran = subprocess.run(words, input=text, stdout=subprocess.PIPE, stderr=error, text=True, check=False)
     except OSError as fault:
         raise Failed(f"genirq can't be started: {fault}") from None
     return ran.stdout, ran.returncode, (ran.stderr or "").strip()

@@ -22,7 +22,8 @@ class Maker:
     def __init__(self, seed, index, shape):
         self.r = random.Random(seed * 1000003 + index)
         self.shape = shape or SHAPES[index % 3]
-        self.cpus = self.r.choice({"busy": (2, 2, 3), "hotplug": (2, 3, 3, 4, 7)}.get(self.shape, (1, 1, 2, 2, 3, 4, 8)))
+        some = {"busy": (2, 2, 3), "hotplug": (2, 3, 3, 4, 7)}
+        self.cpus = self.r.choice(some.get(self.shape, (1, 1, 2, 2, 3, 4, 8)))
         self.domains, self.lines, self.devices, self.styles, self.wakers = [], [], [], {}, []
         self.moments = self.r.random() < 0.3
 

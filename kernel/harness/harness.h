@@ -140,7 +140,7 @@ struct board_line {
 	int target;
 	int place, vector, aimed;	/* while processors go; aimed: where the last move goes */
 	struct irq_affinity_notify notify;
-	bool armed, down;		/* of a sleep: it may wake; the system's driver disabled it */
+	bool armed, down;		/* in a sleep: it may wake; it was disabled for it */
 	u32 busy_moves;			/* so many moves the chip answers with EBUSY */
 	int unmasks;			/* calls of irq_unmask since the end began */
 	bool sent_again;		/* at this end, by the rule on fast-EOI edge lines */
