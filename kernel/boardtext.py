@@ -14,16 +14,17 @@ DEVICE_CALLS = ("request", "free", "ask")
 LINE_CALLS = ("disable", "disable_nosync", "enable", "sync", "affinity", "moment")
 RULES = (
     "unlinked-enable", "depth-one", "unlazy-stays", "refuse-later", "empty-mask", "move-each-take", "fast-eoi-resend",
-    "fast-eoi-open",
+    "fast-eoi-open", "leave-full-mask", "keep-mask",
 )
 # The harness's words: what follows each of them. A `line` is the number of one.
 WORDS = {
     "profile": "rules", "rows": "number", "hz": "number", "domains": "", "nextfirst": "", "notefirst": "",
     "resendfirst": "", "maskfirst": "", "realsoft": "", "noaffinity": "", "noirqdebug": "", "oneshotsafe": "",
     "irqdisable": "", "onactivate": "line", "noautoen": "line", "polled": "line", "untyped": "line",
-    "enforced": "line",
+    "enforced": "line", "wakefirst": "", "sentstays": "", "unaimed": "line", "unbalanced": "line",
+    "hotplug": "vectors events", "sleep": "lines",
 }
-WORD_CALLS = {"poll": "", "busychip": "line number"}
+WORD_CALLS = {"poll": "", "busychip": "line number", "default": "mask"}
 
 
 class BadBoard(Exception):
@@ -41,6 +42,7 @@ class Board:
         self.cpus, self.version, self.log, self.spurious = 1, None, 10000, False
         self.kinds, self.parents, self.lines, self.devices, self.drivers = {}, {}, {}, {}, set()
         self.owners, self.linked, self.picks, self.calls, self.section = {}, set(), 0, 0, 0
+        self.unlazy, self.later, self.moves = [], False, 0
         self.pure = []  # the text lines without the harness's words
         for at, row in enumerate(text.split("\n"), 1):
             self.read_row(at, row)
@@ -48,6 +50,7 @@ class Board:
             raise BadBoard(1, "no header")
         if self.log * len(self.lines) > 4000000:
             raise BadBoard(0, "log too large")
+        self.fits_command()
 
     def read_row(self, at, row):
         """One text line: its statement, and the harness's word in its comment."""
@@ -194,6 +197,8 @@ class Board:
             elif word not in ("unlazy", "later"):
                 raise BadBoard(at, f"unknown word: {word}")
         masks = [self.kinds[it] for it in self.path(name) if self.kinds[it] not in ("vector", "remap")]
+        self.unlazy += [number] * ("unlazy" in seen)
+        self.later = self.later or "later" in seen
         if "unlazy" in seen and masks[:1] not in (["latch"], ["lpi"], ["msi"], ["level"], ["eoi"]):
             raise BadBoard(at, "bad unlazy")
 
@@ -239,6 +244,7 @@ class Board:
             if len(set(flags)) < len(flags) or not set(flags) <= {"shared", "oneshot", "noauto"}:
                 raise BadBoard(at, f"unknown word or twice: {' '.join(flags)}")
             return
+        self.moves += word == "affinity"
         self.count(at, rest, *((2, 2) if word in ("affinity", "moment") else (1, 1)))
         self.known(at, rest[0], self.lines, "line")
         if rest[1:]:
@@ -266,14 +272,76 @@ class Board:
         if needs == ["rules"]:
             if not set(rest) <= set(RULES):
                 raise BadBoard(at, f"unknown rule: {' '.join(set(rest) - set(RULES))}")
+        elif word == "hotplug":
+            self.read_hotplug(at, rest)
+        elif word == "sleep":
+            self.read_sleep(at, rest)
         else:
             self.count(at, rest, len(needs), len(needs))
             for need, it in zip(needs, rest):
-                if need == "number":
-                    self.number(at, it, 0 if word == "busychip" else 1, 1000000)
-                else:
-                    self.known(at, it, self.lines, need)
+                self.read_need(at, word, need, it)
         self.words[word] = rest
+
+    def read_need(self, at, word, need, it):
+        """What has to follow a word of the harness."""
+        if need == "number":
+            self.number(at, it, 0 if word == "busychip" else 1, 1000000)
+        elif need == "mask":
+            if not self.number(at, it, 0, 4294967295) & ((1 << self.cpus) - 1):
+                raise BadBoard(at, "bad mask")
+        else:
+            self.known(at, it, self.lines, need)
+
+    def read_hotplug(self, at, rest):
+        """hotplug V EVENT.."""
+        self.count(at, rest, 1, 65)
+        self.number(at, rest[0], 1, 64)
+        for event in rest[1:]:
+            found = re.fullmatch("(?:off|on):(0|[1-9][0-9]*)", event)
+            if not found:
+                raise BadBoard(at, f"bad event: {event}")
+            self.number(at, found[1], 0, 31)
+
+    def read_sleep(self, at, rest):
+        """sleep LINE.."""
+        for line in rest:
+            if self.known(at, line, self.lines, "line") in self.unlazy:
+                raise BadBoard(at, f"not for sleep: line {line} is unlazy")
+
+    def fits_command(self):
+        """Fails if genirq's hotplug or sleep doesn't take the board, for other reasons than a line that is refused."""
+        if set(self.words) >= {"hotplug", "sleep"}:
+            raise BadBoard(0, "hotplug and sleep")
+        for word in {"hotplug", "sleep"} & set(self.words):
+            most = 12224 if word == "hotplug" else 16256
+            if len(self.drivers) == 64 or 65535 in self.drivers or self.calls > most:
+                raise BadBoard(0, f"not for {word}")
+        if "hotplug" in self.words and (self.moves or self.later):
+            raise BadBoard(0, "not for hotplug")
+        if "hotplug" in self.words and self.cpus == MOST_CPUS:
+            raise BadBoard(0, f"can't be played: the harness has {MOST_CPUS} processors, one of them for itself")
+
+    def machine_cpus(self):
+        """How many processors the board is played with."""
+        return max(4 * ("realsoft" in self.words), self.cpus + ("hotplug" in self.words))
+
+    def command(self):
+        """The words of genirq that play the board."""
+        return next(([word, *self.words[word]] for word in ("hotplug", "sleep") if word in self.words), ["play"])
+
+    def checked_text(self, rows):
+        """The board that genirq check has to judge rows by: with the system's driver, if its command has one."""
+        lines = [row.split()[2] for row in rows if row.startswith("# irq ") and "refused" not in row]
+        if "sleep" in self.words:
+            calls = [f"{word} {line}" for word in ("disable", "enable") for line in lines]
+        elif "hotplug" in self.words:
+            moves = [row.split() for row in rows if " d65535 affinity " in row]
+            calls = [f"affinity {row[0]} {row[3]}" for row in moves]
+        else:
+            return self.pure_text()
+        picks = [row for row in self.pure if row.split()[:1] == ["picks"]]
+        rest = [row for row in self.pure if row not in picks]
+        return "\n".join(rest + ["driver 65535"] + calls + picks)
 
     def row_limit(self):
         """After how many rows the play stops; None if it doesn't."""

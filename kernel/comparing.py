@@ -9,14 +9,17 @@ from common import TOP, Failed
 
 KEPT = 5  # rows that are shown around the first differing one
 WIDTH = 46
+# How the rows of genirq begin that are none of a line.
+PRINTED = ("# irq ", "# vector ", "# off ", "# on ", "# asleep", "# wake ")
 
 Result = namedtuple("Result", ("name", "kernel", "genirq", "place", "verdict", "fault"))
 
 
 def run(program, command, text, error=subprocess.PIPE):
-    """What a command of genirq prints, with its status and its row of standard error."""
+    """What a command of genirq, a list of words, prints, with its status and its row of standard error."""
+    words = [program, *command]
     try:
-        ran = subprocess.run([program, command], input=text, stdout=subprocess.PIPE, stderr=error, text=True, check=False)
+        ran = subprocess.run(words, input=text, stdout=subprocess.PIPE, stderr=error, text=True, check=False)
     except OSError as fault:
         raise Failed(f"genirq can't be started: {fault}") from None
     return ran.stdout, ran.returncode, (ran.stderr or "").strip()
@@ -27,7 +30,7 @@ def find_genirq():
     """The program: what GENIRQ names, or that of the repository, which the launcher builds where it isn't."""
     named = os.environ.get("GENIRQ")
     program = named or f"{TOP}/genirq"
-    out, status, _ = run(program, "play", "board 1\ndomain a tree latch\nline 1 a 0\n", None)
+    out, status, _ = run(program, ["play"], "board 1\ndomain a tree latch\nline 1 a 0\n", None)
     if status or out != "# irq 1 virq 1 a:0\n":
         raise Failed(f"{program} play doesn't play a small board (status {status}): not genirq, or it can't be built")
     return named or f"{TOP}/crates/irq_prog/out/irq_prog"
@@ -39,29 +42,29 @@ def genirq(command, text):
 
 
 def is_compared(row):
-    """Whether a row is the layout's or the log's; remarks beside the log aren't compared."""
-    return not row.startswith("# ") or row.startswith("# irq ")
+    """Whether a row is one that genirq prints; remarks beside the log aren't compared."""
+    return not row.startswith("# ") or row.startswith(PRINTED)
 
 
 def cut_rows(rows, limit):
-    """The layout's rows, and so many of the log's."""
-    layout = [row for row in rows if row.startswith("#")]
-    return layout + [row for row in rows if not row.startswith("#")][:limit]
+    """The rows up to so many of the log's."""
+    ends = [i + 1 for i, row in enumerate(rows) if not row.startswith("#")]
+    return rows if limit is None or len(ends) < limit else rows[: ends[limit - 1]]
 
 
 def compare(board, played):
     """One board's result."""
-    kernel = [row for row in played.rows if is_compared(row)]
-    out, status, error = genirq("play", board.pure_text())
+    kernel = cut_rows([row for row in played.rows if is_compared(row)], board.row_limit())
+    out, status, error = genirq(board.command(), board.pure_text())
     fault = "; ".join(played.faults)
     if status not in (0, 6):
-        fault = fault or f"genirq play ended with {status}: {error}"
+        fault = fault or f"genirq {board.command()[0]} ended with {status}: {error}"
     rows = cut_rows(out.splitlines(), board.row_limit())
     place = next((i for i, pair in enumerate(zip(kernel, rows)) if pair[0] != pair[1]), min(len(kernel), len(rows)))
     full = status == 6 and f"# {error}" in played.rows  # then genirq prints no rows
     same = (kernel == rows or full) and not fault
     log = "".join(row + "\n" for row in kernel)
-    verdict, status, error = genirq("check", f"{board.pure_text().rstrip()}\n---\n{log}")
+    verdict, status, error = genirq(["check"], f"{board.checked_text(kernel).rstrip()}\n---\n{log}")
     return Result(played.name, kernel, rows, None if same else place, verdict.strip() or error, fault)
 
 

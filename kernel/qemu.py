@@ -152,8 +152,7 @@ def boot(boards, seconds, trace=False, profile=False):
     find_qemu()
     classes, done = {}, {}
     for place, (_, board) in enumerate(boards):
-        least = 4 if "realsoft" in board.words else board.cpus
-        classes.setdefault(1 << (least - 1).bit_length(), []).append(place)
+        classes.setdefault(1 << (board.machine_cpus() - 1).bit_length(), []).append(place)
     for cpus, places in sorted(classes.items()):
         for first in range(0, len(places), MOST_BOARDS):
             part = places[first : first + MOST_BOARDS]

@@ -2,24 +2,29 @@
 """Random boards for the comparison: every kind of line, device, call, flag and domain, by a seed.
 
 Three shapes take turns. `wide` has 3 to 8 lines over paths of several levels and up to four drivers; `busy` has one
-line whose target changes while flows are in progress; `small` has 1 to 3 lines and a free script.
+line whose target changes while flows are in progress; `small` has 1 to 3 lines and a free script. Two more are had by
+name alone: `hotplug` is `wide` with processors that go offline and come online, `sleep` is one that sleeps, with some
+lines that may wake it.
 """
 import random
 
 ROOTS = ("latch", "plain", "level", "eoi", "lpi", "vector")
 STYLES = ("", "shared", "shared oneshot", "shared oneshot", "oneshot", "mix", "noauto")
 MOMENTS = (50, 100, 101, 200, 201, 300, 302, 1000)
+SHAPES = ("wide", "busy", "small")
+NAMED = ("hotplug", "sleep")
 ROWS = 1200  # where a play stops; a level line that nobody serves has more
 
 
 class Maker:
     """One random board in the making."""
 
-    def __init__(self, seed, index):
+    def __init__(self, seed, index, shape):
         self.r = random.Random(seed * 1000003 + index)
-        self.shape = ("wide", "busy", "small")[index % 3]
-        self.cpus = self.r.choice((2, 2, 3)) if self.shape == "busy" else self.r.choice((1, 1, 2, 2, 3, 4, 8))
-        self.domains, self.lines, self.devices, self.styles = [], [], [], {}
+        self.shape = shape or SHAPES[index % 3]
+        some = {"busy": (2, 2, 3), "hotplug": (2, 3, 3, 4, 7)}
+        self.cpus = self.r.choice(some.get(self.shape, (1, 1, 2, 2, 3, 4, 8)))
+        self.domains, self.lines, self.devices, self.styles, self.wakers = [], [], [], {}, []
         self.moments = self.r.random() < 0.3
 
     def chance(self, part):
@@ -34,6 +39,8 @@ class Maker:
         can_mask = kind not in ("vector", "remap")
         masker = kind if can_mask else None if parent is None else self.domains[parent][4]
         form = "tree" if self.chance(0.25) else f"linear {self.r.choice((1, 2)) if self.chance(0.08) else 16}"
+        if self.shape == "sleep":
+            form = "linear 32"  # no number is too large, so that it is known which lines take part
         above = "" if parent is None else f" parent {self.domains[parent][0]}"
         self.domains.append((name, f"domain {name} {form} {kind}{above}", root, depth, masker))
 
@@ -54,7 +61,7 @@ class Maker:
         if self.shape == "busy":
             self.make_busy_domains()
             return
-        wide = self.shape == "wide"
+        wide = self.shape in ("wide", *NAMED)
         for _ in range(self.r.randint(1, 4) if wide else self.r.randint(1, 2)):
             self.add_domain(self.r.choice(ROOTS), None)
         for _ in range(self.r.randint(0, 10) if wide else self.r.randint(0, 2)):
@@ -66,18 +73,21 @@ class Maker:
 
     def make_lines(self):
         """Lines, some of them with numbers that are taken or too large."""
-        most = {"wide": (3, 8), "busy": (1, 1), "small": (1, 3)}[self.shape]
+        most = {"busy": (1, 1), "small": (1, 3)}.get(self.shape, (3, 8))
         for number in range(1, 1 + self.r.randint(*most)):
             busy = self.shape == "busy"
             name, _, _, _, masker = self.domains[-1] if busy else self.r.choice(self.domains)
             options = ""
             if masker not in ("plain", None) and self.chance(0.25):
                 options += " unlazy"
-            if self.chance(0.2):
+            if self.chance(0.2) and self.shape != "hotplug":
                 options += " later"
             if self.chance(0.3):
                 options += f" mask {self.r.randint(1, (1 << self.cpus) - 1)}"
             hw = self.r.choice((0, 0, 0, 0, 1, 2, 3, 64, 4294967295)) if self.chance(0.2) and not busy else number
+            if self.shape == "sleep":
+                hw = 15 + number  # above whatever a parent gives
+                self.wakers += [number] * (masker is not None and "unlazy" not in options and self.chance(0.5))
             self.lines.append(f"line {number} {name} {hw}{options}")
             self.styles[number] = self.r.choice(STYLES)
 
@@ -118,7 +128,7 @@ class Maker:
         device, line, _ = self.r.choice(self.devices)
         mask = self.r.randint(0, 1 << self.cpus)
         calls = [f"ask {device}"] * 8 + [f"disable_nosync {line}"] * 2 + [f"enable {line}"] * 3
-        calls += [f"disable {line}", f"sync {line}", f"affinity {line} {mask}"]
+        calls += [f"disable {line}", f"sync {line}"] + [f"affinity {line} {mask}"] * (self.shape != "hotplug")
         if self.moments:
             calls += [f"moment {line} {self.r.choice(MOMENTS)}"] * 2
         return self.r.choice(calls)
@@ -201,6 +211,16 @@ class Maker:
         words = list((self.busy_picks if self.shape == "busy" else self.free_picks)(drivers, threads))
         return ["picks " + " ".join(words)] if words else []
 
+    def command_word(self):
+        """The harness's word for the command of genirq that plays the board."""
+        if self.shape == "sleep":
+            return ["#kernel sleep " + " ".join(map(str, self.wakers))]
+        if self.shape == "hotplug":
+            events = [f"{self.r.choice(('off', 'off', 'on'))}:{self.r.randrange(self.cpus + self.chance(0.1))}"
+                      for _ in range(self.r.randint(1, 8))]
+            return [f"#kernel hotplug {self.r.choice((1, 2, 2, 3, 4, 8))} {' '.join(events)}"]
+        return []
+
     def text(self):
         """The whole board."""
         self.make_domains()
@@ -212,7 +232,7 @@ class Maker:
         rows += [f"spurious {window} {self.r.randint(0, window - 1)}"]
         rows += [row for _, row, _, _, _ in self.domains] + self.lines
         rows += [f"device {number} {line} {kind}" for number, line, kind in self.devices]
-        rows += scripts + self.picks(sum(row.startswith("driver ") for row in scripts))
+        rows += self.command_word() + scripts + self.picks(sum(row.startswith("driver ") for row in scripts))
         return "\n".join(rows) + "\n"
 
 
@@ -230,6 +250,6 @@ def in_order(calls):
         yield call
 
 
-def random_board(seed, index):
-    """The text of one board of a seed."""
-    return Maker(seed, index).text()
+def random_board(seed, index, shape=None):
+    """The text of one board of a seed, of a shape, or of the one whose turn it is."""
+    return Maker(seed, index, shape).text()

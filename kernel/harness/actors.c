@@ -68,7 +68,7 @@ static void make_ask(struct actor *driver, struct board_call *call)
 	call->device->open++;
 	line->asks++;
 	if (line->cell.edge)
-		raise_edge(&line->cell);
+		raise_edge(line);
 	else
 		set_high(line);
 	emit_row(line, "d%d ask %d", driver->no, call->device->no);
@@ -149,6 +149,7 @@ static void make_disable(struct actor *driver, struct board_call *call)
 {
 	disable_irq_nosync(call->line->virq);
 	emit_row(call->line, "d%d disable", driver->no);
+	note_down(driver, call->line);
 	if (call->op == CALL_DISABLE_NOSYNC)
 		return;
 	emit_state(call->line);
@@ -168,6 +169,7 @@ static void make_enable(struct actor *driver, struct board_line *line)
 	if (line->enforced)
 		irqd_set_handle_enforce_irqctx(&desc->irq_data);
 	enable_irq(line->virq);
+	wait_for_tasklet();
 	if (line->enforced)
 		irqd_clear(&desc->irq_data, IRQD_HANDLE_ENFORCE_IRQCTX);
 	if (!before)
@@ -178,16 +180,24 @@ static void make_enable(struct actor *driver, struct board_line *line)
 		emit_row(line, "d%d enable started %s", driver->no, resent_by(line));
 }
 
+/* The mask of a call; the last processor of a cpumask is never there. */
+static void mask_of(struct board_call *call, cpumask_t *mask)
+{
+	int i;
+
+	cpumask_clear(mask);
+	for (i = 0; i < 32; i++)
+		if (call->number & BIT(i))
+			cpumask_set_cpu(i < the_board->cpus ? i : NR_CPUS - 1, mask);
+}
+
 static void make_affinity(struct actor *driver, struct board_call *call)
 {
 	struct board_line *line = call->line;
 	cpumask_t mask;
-	int i, ret;
+	int ret;
 
-	cpumask_clear(&mask);
-	for (i = 0; i < 32; i++)
-		if (call->number & BIT(i))	/* the last of the mask is never there */
-			cpumask_set_cpu(i < the_board->cpus ? i : NR_CPUS - 1, &mask);
+	mask_of(call, &mask);
 	if (has_rule(RULE_EMPTY_MASK) && line->later && !cpumask_intersects(&mask, cpu_online_mask))
 		ret = -EINVAL;
 	else
@@ -242,6 +252,9 @@ static void make_call(struct actor *driver, struct board_call *call)
 	case CALL_POLL:
 		run_poll();
 		break;
+	case CALL_DEFAULT:
+		mask_of(call, irq_default_affinity);
+		break;
 	default:
 		break;
 	}
@@ -252,7 +265,7 @@ static void make_call(struct actor *driver, struct board_call *call)
 /* The words of the harness make no step of their own: they go with the call after them. */
 static bool is_word(struct board_call *call)
 {
-	return call->op == CALL_BUSY || call->op == CALL_POLL;
+	return call->op >= CALL_BUSY;
 }
 
 static bool is_passed_over(struct board_call *call)
@@ -364,6 +377,14 @@ static bool step_thread(struct actor *thread)
 	       !irqd_irq_inprogress(&thread->device->line->desc->irq_data) && let_go(thread);
 }
 
+/* The processor that takes the line. */
+static int taker(struct board_line *line)
+{
+	bool stays = has_word(WORD_SENT_STAYS) && line->cell.edge && line->cell.sent;
+
+	return stays ? line->cell.sent_to : line->target;
+}
+
 static bool step_processor(struct actor *cpu)
 {
 	int i;
@@ -374,7 +395,7 @@ static bool step_processor(struct actor *cpu)
 		struct board_line *line = &the_board->lines[i];
 		bool signal = has_signal(&line->cell);
 
-		if (!line->refused && line->target == cpu->no && (signal || line->soft)) {
+		if (!line->refused && taker(line) == cpu->no && (signal || line->soft)) {
 			cpu->line = line;
 			cpu->resend = !signal;
 			return let_go(cpu);
@@ -383,19 +404,27 @@ static bool step_processor(struct actor *cpu)
 	return false;
 }
 
+static bool has_call(struct actor *driver)
+{
+	while (driver->pos < driver->call_count && is_passed_over(&driver->calls[driver->pos]))
+		driver->pos++;
+	return driver->pos < driver->call_count;
+}
+
+/* Whether the driver is in such a call, or is to make one next. */
+bool is_next(struct actor *driver, enum call_op op)
+{
+	return has_call(driver) && driver->calls[driver->pos].op == op;
+}
+
 static bool step_driver(struct actor *driver)
 {
-	if (driver->gate == GATE_SCRIPT) {
-		while (driver->pos < driver->call_count &&
-		       is_passed_over(&driver->calls[driver->pos]))
-			driver->pos++;
-		if (driver->pos >= driver->call_count)
-			return false;
-	}
+	if (driver->gate == GATE_SCRIPT && !has_call(driver))
+		return false;
 	return let_go(driver);
 }
 
-static bool step(struct actor *actor)
+bool step(struct actor *actor)
 {
 	if (actor->state != AT_GATE)
 		return false;
@@ -404,8 +433,8 @@ static bool step(struct actor *actor)
 	return actor->letter == 'c' ? step_processor(actor) : step_driver(actor);
 }
 
-/* Threads before processors before drivers. */
-static bool step_lowest(void)
+/* Threads before processors. */
+bool step_inner(void)
 {
 	int i;
 
@@ -415,6 +444,16 @@ static bool step_lowest(void)
 	for (i = 0; i < the_board->cpus; i++)
 		if (step(&the_board->processors[i]))
 			return true;
+	return false;
+}
+
+/* Those before drivers. */
+static bool step_lowest(void)
+{
+	int i;
+
+	if (step_inner())
+		return true;
 	for (i = 0; i < the_board->driver_count; i++)
 		if (step(&the_board->drivers[i]))
 			return true;
@@ -468,7 +507,7 @@ static void start_all(void)
 	wait_for_gates();
 }
 
-static bool goes_on(void)
+bool goes_on(void)
 {
 	return !the_board->full && the_board->total < the_board->rows;
 }
@@ -488,6 +527,8 @@ void play_board(void)
 			if (!step(actor))
 				emit_trace("pick %c%d is passed over", pick->letter, pick->no);
 	}
+	if (the_board->sleeps)
+		play_sleep();
 	while (goes_on() && step_lowest())
 		cond_resched();
 	if (the_board->full)

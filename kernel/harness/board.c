@@ -14,17 +14,17 @@ static const char *const device_kinds[DEVICE_KINDS] = { "direct", "check", "null
 
 static const char *const rule_names[RULES] = {
 	"unlinked-enable", "depth-one", "unlazy-stays", "refuse-later", "empty-mask",
-	"move-each-take", "fast-eoi-resend", "fast-eoi-open",
+	"move-each-take", "fast-eoi-resend", "fast-eoi-open", "leave-full-mask", "keep-mask",
 };
 
 static const char *const word_names[WORDS] = {
 	"nextfirst", "notefirst", "resendfirst", "maskfirst", "realsoft", "noaffinity", "noirqdebug",
-	"oneshotsafe", "irqdisable",
+	"oneshotsafe", "irqdisable", "wakefirst", "sentstays",
 };
 
 static const char *const call_names[CALL_OPS] = {
 	"request", "free", "ask", "disable", "disable_nosync", "enable", "sync", "affinity", "moment",
-	"busychip", "poll",
+	"busychip", "poll", "default",
 };
 
 static char *next_word(char **text)
@@ -152,13 +152,23 @@ static void read_device(char *text)
 	scnprintf(device->name, sizeof(device->name), "device%d", device->no);
 }
 
-static void read_driver(char *text)
+struct actor *new_driver(int no)
 {
 	struct actor *driver = &the_board->drivers[the_board->driver_count++];
 
 	driver->letter = 'd';
-	driver->no = next_number(&text);
+	driver->no = no;
 	driver->calls = vzalloc(array_size(MAX_CALLS, sizeof(struct board_call)));
+	return driver;
+}
+
+void add_call(struct actor *driver, enum call_op op, struct board_line *line, u32 number)
+{
+	struct board_call *call = &driver->calls[driver->call_count++];
+
+	call->op = op;
+	call->line = line;
+	call->number = number;
 }
 
 static void read_picks(char *text)
@@ -192,10 +202,11 @@ static void read_call(enum call_op op, char *text)
 	if (op <= CALL_ASK) {
 		call->device = next_device(&text);
 		call->line = call->device->line;
-	} else if (op != CALL_POLL) {
+	} else if (op < CALL_POLL) {
 		call->line = next_line(&text);
 	}
-	if (op == CALL_AFFINITY || op == CALL_MOMENT || op == CALL_BUSY)
+	if (op == CALL_AFFINITY || op == CALL_MOMENT || op == CALL_BUSY ||
+	    op == CALL_DEFAULT)
 		call->number = next_number(&text);
 	while (*(word = next_word(&text))) {
 		if (!strcmp(word, "shared"))
@@ -225,6 +236,31 @@ static void read_profile(char *text)
 	}
 }
 
+static void read_hotplug(char *text)
+{
+	char *word, *cpu;
+
+	the_board->vectors = next_number(&text);
+	while (*(word = next_word(&text)) && the_board->event_count < MAX_EVENTS) {
+		struct board_event *event = &the_board->events[the_board->event_count++];
+
+		cpu = strchr(word, ':');
+		if (cpu)
+			*cpu++ = 0;
+		event->off = !strcmp(word, "off");
+		event->cpu = next_number(&cpu);
+	}
+}
+
+static void read_sleep(char *text)
+{
+	char *word;
+
+	the_board->sleeps = true;
+	while (*(word = next_word(&text)))
+		next_line(&word)->armed = true;
+}
+
 /* Words of a line that boards don't have. */
 static bool read_line_word(const char *word, char *text)
 {
@@ -238,6 +274,10 @@ static bool read_line_word(const char *word, char *text)
 		next_line(&text)->untyped = true;
 	else if (!strcmp(word, "enforced"))
 		next_line(&text)->enforced = true;
+	else if (!strcmp(word, "unaimed"))
+		next_line(&text)->unaimed = true;
+	else if (!strcmp(word, "unbalanced"))
+		next_line(&text)->unbalanced = true;
 	else
 		return false;
 	return true;
@@ -264,6 +304,10 @@ static bool read_setting(const char *word, char *text)
 		the_board->domain_calls = true;
 	else if (!strcmp(word, "profile"))
 		read_profile(text);
+	else if (!strcmp(word, "hotplug"))
+		read_hotplug(text);
+	else if (!strcmp(word, "sleep"))
+		read_sleep(text);
 	else if (!strcmp(word, "spurious")) {
 		harness_window = next_number(&text);
 		harness_limit = next_number(&text);
@@ -288,7 +332,7 @@ static void read_statement(char *text)
 	else if (!strcmp(word, "device"))
 		read_device(text);
 	else if (!strcmp(word, "driver"))
-		read_driver(text);
+		new_driver(next_number(&text));
 	else if (!strcmp(word, "picks"))
 		read_picks(text);
 	else if (!read_setting(word, text) && !read_line_word(word, text))

@@ -21,10 +21,18 @@ bool has_signal(struct cell *cell)
 	return cell->edge ? cell->sent : cell->high && !cell->masked && !cell->in_service;
 }
 
-void raise_edge(struct cell *cell)
+static void send(struct board_line *line)
 {
+	line->cell.sent = true;
+	line->cell.sent_to = line->target;
+}
+
+void raise_edge(struct board_line *line)
+{
+	struct cell *cell = &line->cell;
+
 	if (!cell->masked)
-		cell->sent = true;
+		send(line);
 	else if (cell->keeps)
 		cell->stored = true;
 }
@@ -67,7 +75,7 @@ static void chip_unmask(struct irq_data *data)
 	cell->masked = false;
 	if (cell->edge && cell->stored) {
 		cell->stored = false;
-		cell->sent = true;
+		send(line);
 	}
 }
 
@@ -120,7 +128,7 @@ static void resend_fast_eoi(struct board_line *line)
 		desc->istate |= IRQS_PENDING;
 	} else if ((desc->istate & IRQS_PENDING) && !irqd_irq_disabled(&desc->irq_data)) {
 		desc->istate &= ~IRQS_PENDING;
-		line->cell.sent = true;
+		send(line);
 		line->sent_again = true;
 	}
 }
@@ -141,7 +149,7 @@ static int chip_retrigger(struct irq_data *data)
 	struct board_line *line = chip_line(data);
 
 	emit_trace("chip %d %s retrigger", line->no, data->chip->name);
-	line->cell.sent = true;
+	send(line);
 	line->retriggered = true;
 	return 1;
 }
@@ -150,6 +158,8 @@ static int chip_set_affinity(struct irq_data *data, const struct cpumask *mask, 
 {
 	struct board_line *line = chip_line(data);
 
+	if (the_board->placing)
+		return place_line(line, data, mask);
 	if (line->busy_moves) {
 		line->busy_moves--;
 		emit_trace("chip %d %s set_affinity: EBUSY", line->no, data->chip->name);
@@ -257,6 +267,8 @@ static int domain_activate(struct irq_domain *domain, struct irq_data *data, boo
 	struct board_domain *of = domain->host_data;
 
 	emit_trace("domain %s activate %lu", of->name, data->hwirq);
+	if (the_board->placing && !of->parent)
+		return place_first(chip_line(data), data);
 	return 0;
 }
 
@@ -370,16 +382,23 @@ static void make_cell(struct board_line *line)
 	line->fast_edges = root->kind == KIND_LPI;
 }
 
-/* The mask of the board is set at once, also where later changes have to wait. */
+/* The board's mask of a line. */
+static void first_mask(struct board_line *line, cpumask_t *mask)
+{
+	int i;
+
+	cpumask_clear(mask);
+	for (i = 0; i < the_board->cpus; i++)
+		if (line->mask & BIT(i))
+			cpumask_set_cpu(i, mask);
+}
+
+/* It is set at once, also where later changes have to wait. */
 static void set_first_mask(struct board_line *line)
 {
 	cpumask_t mask;
-	int i;
 
-	cpumask_clear(&mask);
-	for (i = 0; i < the_board->cpus; i++)
-		if (line->mask & BIT(i))
-			cpumask_set_cpu(i, &mask);
+	first_mask(line, &mask);
 	irq_set_status_flags(line->virq, SETTING_PROCESS_CONTEXT);
 	if (has_word(WORD_NO_AFFINITY))
 		line->target = cpumask_first(&mask);
@@ -389,7 +408,7 @@ static void set_first_mask(struct board_line *line)
 		irq_clear_status_flags(line->virq, SETTING_PROCESS_CONTEXT);
 }
 
-static void set_options(struct board_line *line)
+void set_options(struct board_line *line)
 {
 	if (!line->untyped)
 		irq_set_irq_type(line->virq, line->cell.edge ? IRQ_TYPE_EDGE_RISING :
@@ -400,27 +419,50 @@ static void set_options(struct board_line *line)
 		irq_set_status_flags(line->virq, SETTING_NOAUTOEN);
 	if (line->polled)
 		irq_set_status_flags(line->virq, SETTING_POLLED);
-	set_first_mask(line);
+	if (!line->unaimed)
+		set_first_mask(line);
+	else if (!line->later)
+		irq_set_status_flags(line->virq, SETTING_PROCESS_CONTEXT);
+	if (line->unbalanced)
+		irq_set_status_flags(line->virq, SETTING_UNBALANCED);
 	if (line->on_activate)
 		irqd_set_affinity_on_activate(&line->desc->irq_data);
 }
 
-void make_line(struct board_line *line)
+/* Where processors go, and for a line that isn't aimed, the mask comes with the allocation. */
+static int allocate(struct board_line *line)
 {
 	struct alloc_info info = { .line = line, .number = line->number, .is_own = true };
+	struct irq_affinity_desc affinity = {};
+
+	bool masked = the_board->vectors || (line->unaimed && ~line->mask);
+
+	if (the_board->vectors)
+		machine_mask(line, &affinity.mask);
+	else
+		first_mask(line, &affinity.mask);
+	return __irq_domain_alloc_irqs(line->domain->domain, -1, 1, NUMA_NO_NODE, &info, false,
+				       masked ? &affinity : NULL);
+}
+
+void make_line(struct board_line *line)
+{
 	struct irq_data *data;
 	int count = 0;
 
 	make_cell(line);
 	if (line->refused)
 		return;
-	line->virq = irq_domain_alloc_irqs(line->domain->domain, 1, NUMA_NO_NODE, &info);
+	line->virq = allocate(line);
 	if (line->virq <= 0) {
 		refuse(line, line->virq == -ERANGE ? "out-of-range" : "taken");
 		return;
 	}
 	line->desc = irq_to_desc(line->virq);
-	set_options(line);
+	if (the_board->vectors)
+		irq_set_status_flags(line->virq, SETTING_PROCESS_CONTEXT);
+	else
+		set_options(line);
 	for (data = &line->desc->irq_data; data; data = data->parent_data) {
 		struct board_domain *of = data->domain->host_data;
 

@@ -15,6 +15,7 @@
 #define MAX_DRIVERS	64
 #define MAX_CALLS	(16384 + 4096)
 #define MAX_PICKS	65536
+#define MAX_EVENTS	64
 #define PATH_BYTES	320
 
 enum domain_kind {
@@ -35,6 +36,8 @@ enum rule {
 	RULE_MOVE_EACH_TAKE,	/* a waiting move is made at the next take, whatever its answer */
 	RULE_FAST_EOI_RESEND,	/* a fast-KIND_EOI edge line resends what came during a flow */
 	RULE_FAST_EOI_OPEN,	/* a one-shot fast-KIND_EOI edge line isn't masked at a take */
+	RULE_LEAVE_FULL_MASK,	/* a line whose mask has no vector goes to another processor */
+	RULE_KEEP_MASK,		/* a line's mask stays when a processor goes offline */
 	RULES
 };
 
@@ -49,6 +52,8 @@ enum word {
 	WORD_NO_DEBUG,		/* as booted with noirqdebug */
 	WORD_ONESHOT_SAFE,	/* the chips have IRQCHIP_ONESHOT_SAFE */
 	WORD_IRQ_DISABLE,	/* the chips have irq_disable and irq_enable */
+	WORD_WAKE_FIRST,	/* the gate after a handler that wakes stands within the wake */
+	WORD_SENT_STAYS,	/* a sent edge stays with the processor of the moment */
 	WORDS
 };
 
@@ -88,6 +93,7 @@ struct actor {
 	bool began;			/* the take was handled */
 	bool ending;			/* the walk is over */
 	bool note_gate;			/* the gate stands after the note */
+	bool past_gate;			/* the gate after the handler is passed */
 	struct board_device *handler;
 	/* drivers */
 	struct board_call *calls;
@@ -117,6 +123,7 @@ struct board_domain {
 struct cell {
 	bool edge, keeps, recalls, retriggers, serves;
 	bool masked, stored, sent, high, in_service;
+	int sent_to;			/* the target when it was sent */
 };
 
 struct board_line {
@@ -124,13 +131,16 @@ struct board_line {
 	struct board_domain *domain;
 	u32 number, mask;
 	bool unlazy, later, fast_edges;
-	bool on_activate, no_autoen, polled, untyped, enforced;
+	bool on_activate, no_autoen, polled, untyped, enforced, unaimed, unbalanced;
 	bool refused, soft;
 	const char *why;
 	struct cell cell;
 	int virq;
 	struct irq_desc *desc;
 	int target;
+	int place, vector, aimed;	/* while processors go; aimed: where the last move goes */
+	struct irq_affinity_notify notify;
+	bool armed, down;		/* in a sleep: it may wake; it was disabled for it */
 	u32 busy_moves;			/* so many moves the chip answers with EBUSY */
 	int unmasks;			/* calls of irq_unmask since the end began */
 	bool sent_again;		/* at this end, by the rule on fast-EOI edge lines */
@@ -155,7 +165,7 @@ enum call_op {
 	CALL_REQUEST, CALL_FREE, CALL_ASK,			/* of a device */
 	CALL_DISABLE, CALL_DISABLE_NOSYNC, CALL_ENABLE, CALL_SYNC,
 	CALL_AFFINITY, CALL_MOMENT, CALL_BUSY,			/* of a line */
-	CALL_POLL,
+	CALL_POLL, CALL_DEFAULT,				/* of neither */
 	CALL_OPS
 };
 
@@ -173,6 +183,11 @@ struct board_pick {
 	u32 times;
 };
 
+struct board_event {
+	bool off;
+	u32 cpu;
+};
+
 struct board {
 	int cpus, domain_count, line_count, device_count, driver_count, pick_count;
 	struct board_domain domains[MAX_DOMAINS];
@@ -183,6 +198,12 @@ struct board {
 	bool rules[RULES], words[WORDS];
 	bool trace, domain_calls;
 	int first_virq;			/* the lowest free one before the first line */
+	u32 vectors;			/* of each processor, where some go offline */
+	struct board_event events[MAX_EVENTS];
+	int event_count;
+	bool placing;			/* the events are under way */
+	bool sleeps;
+	struct board_line *woken_by;	/* the first line that woke the machine */
 	u32 total, rows, log;
 	u32 moves;			/* steps without a row */
 	struct board_line *full;	/* its log has no place for its next row */
@@ -214,26 +235,47 @@ struct actor *current_actor(void);
 void pass_gate(struct actor *actor, enum gate gate);
 void set_actor_state(struct actor *actor, enum actor_state state);
 void play_board(void);
+bool goes_on(void);
+bool step(struct actor *actor);
+bool step_inner(void);
+bool is_next(struct actor *driver, enum call_op op);
 
 /* hooks.c */
 void run_take(struct actor *cpu);
 void run_poll(void);
 void forget_resends(void);
+void wait_for_tasklet(void);
 irqreturn_t board_primary(int virq, void *cookie);
 irqreturn_t board_thread(int virq, void *cookie);
 
 /* chips.c */
 struct board_line *line_of(struct irq_desc *desc);
 bool has_signal(struct cell *cell);
-void raise_edge(struct cell *cell);
+void raise_edge(struct board_line *line);
 void set_high(struct board_line *line);
 int make_domain(struct board_domain *domain);
 void make_line(struct board_line *line);
+void set_options(struct board_line *line);
 
 /* board.c */
 void read_board(char *text);
+struct actor *new_driver(int no);
+void add_call(struct actor *driver, enum call_op op, struct board_line *line, u32 number);
 
 /* domains.c */
 void call_domains(void);
+
+/* hotplug.c */
+int place_line(struct board_line *line, struct irq_data *data, const struct cpumask *mask);
+int place_first(struct board_line *line, struct irq_data *data);
+void machine_mask(struct board_line *line, struct cpumask *mask);
+void take_events(void);
+
+/* sleep.c */
+struct actor *add_system_driver(void);
+void add_sleep(void);
+void note_down(struct actor *driver, struct board_line *line);
+void note_off(struct board_line *line);
+void play_sleep(void);
 
 #endif

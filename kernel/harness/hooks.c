@@ -4,6 +4,7 @@
  * Each row of the log is made here, or where a call is made, from what the kernel
  * did: who is linked, the depth before and after, bits, counts, calls of chips.
  */
+#include <linux/delay.h>
 #include "harness.h"
 
 bool harness_floor = true;
@@ -316,7 +317,9 @@ struct irqaction *harness_next(struct irq_desc *desc, struct irqaction *action)
 	if (!line || !cpu)
 		return next;
 	emit_state(line);
-	if (next || !has_word(WORD_NOTE_FIRST)) {
+	if (cpu->past_gate) {
+		cpu->past_gate = false;
+	} else if (next || !has_word(WORD_NOTE_FIRST)) {
 		pass_gate(cpu, GATE_NEXT);
 		if (!has_word(WORD_NEXT_FIRST))
 			next = READ_ONCE(action->next);
@@ -365,11 +368,25 @@ void harness_exit(struct irqaction *action, int answer)
 	cpu->handler = NULL;
 }
 
+/* In __irq_wake_thread(): RUNTHREAD is set, and threads_active isn't raised yet. */
+void harness_wake_gate(void)
+{
+	struct actor *cpu = current_of('c');
+
+	if (!cpu || !has_word(WORD_WAKE_FIRST))
+		return;
+	emit_state(cpu->line);
+	pass_gate(cpu, GATE_NEXT);
+	cpu->past_gate = true;
+}
+
 irqreturn_t board_primary(int virq, void *cookie)
 {
 	struct board_device *device = cookie;
 	u32 seen = device->at_begin;
 
+	if (device < the_board->devices || device >= the_board->devices + the_board->device_count)
+		return IRQ_NONE;	/* the poll finds a line of an earlier board */
 	if (!current_of('c')) {
 		/* the poll of spurious.c, or the kernel's own tasklet: no entry of a log */
 		seen = device->open;
@@ -483,6 +500,14 @@ void harness_tasklet(struct tasklet_struct *tasklet)
 	}
 }
 
+/* Until the kernel's own tasklet has run, so that the rows have one order. */
+void wait_for_tasklet(void)
+{
+	while (has_word(WORD_REAL_SOFT) && resend_tasklet &&
+	       (resend_tasklet->state & (BIT(TASKLET_STATE_SCHED) | BIT(TASKLET_STATE_RUN))))
+		msleep(1);
+}
+
 bool harness_resend_empty(unsigned long *map, int count)
 {
 	if (has_word(WORD_REAL_SOFT))
@@ -560,6 +585,7 @@ void run_take(struct actor *cpu)
 	cpu->began = false;
 	cpu->ending = false;
 	cpu->note_gate = false;
+	cpu->past_gate = false;
 	cpu->busy = irqd_irq_inprogress(&line->desc->irq_data);
 	emit_trace("processor %d takes line %d, %s", cpu->no, line->no,
 		   cpu->resend ? "a soft resend" : "its signal");
@@ -576,6 +602,8 @@ void run_take(struct actor *cpu)
 		emit_row(line, "c%d take %s %s", cpu->no, cpu->resend ? "resend" : "line",
 			 cpu->busy ? "busy" : "off");
 		line->takes++;
+		if (!cpu->busy)
+			note_off(line);
 	}
 	emit_state(line);
 }

@@ -24,6 +24,7 @@ enum {
 	SETTING_PROCESS_CONTEXT = IRQ_MOVE_PCNTXT,
 	SETTING_NOAUTOEN = IRQ_NOAUTOEN,
 	SETTING_POLLED = IRQ_IS_POLLED,
+	SETTING_UNBALANCED = IRQ_NO_BALANCING,
 };
 
 #include <linux/kthread.h>
@@ -66,6 +67,7 @@ struct irqaction *harness_first(struct irq_desc *desc);
 struct irqaction *harness_next(struct irq_desc *desc, struct irqaction *action);
 void harness_entry(struct irqaction *action);
 void harness_exit(struct irqaction *action, int answer);
+void harness_wake_gate(void);
 void harness_note(struct irq_desc *desc, irqreturn_t answer);
 void harness_tasklet(struct tasklet_struct *tasklet);
 bool harness_resend_empty(unsigned long *map, int count);
@@ -114,6 +116,8 @@ do {									\
 #define trace_irq_handler_entry(irq, action)		harness_entry(action)
 #define trace_irq_handler_exit(irq, action, answer)	harness_exit(action, answer)
 #define note_interrupt(desc, answer)			harness_note(desc, answer)
+#undef atomic_inc
+#define atomic_inc(v)			do { harness_wake_gate(); arch_atomic_inc(v); } while (0)
 #endif
 
 #ifdef HARNESS_RESEND

@@ -25,6 +25,7 @@ static void new_board(void)
 	harness_hz = 1000;
 	harness_window = 100000;
 	harness_limit = 99900;
+	cpumask_setall(irq_default_affinity);
 	forget_resends();
 	smp_mb();	/* whoever finds the new board finds what it holds */
 	the_board = board;
@@ -96,6 +97,10 @@ static void run_board(char *text)
 	if (the_board->domain_calls)
 		call_domains();
 	lay_out();
+	if (the_board->vectors)
+		take_events();
+	if (the_board->sleeps)
+		add_sleep();
 	play_board();
 	emit_summary();
 	emit("=== end");
