@@ -25,10 +25,10 @@ class Crate:
     def folder(self):
         return TOP / "crates" / self.name
 
-    def files(self):
-        """Its sources, definitions and proofs."""
-        found = [it for part in PARTS for it in (self.folder / part).rglob("*") if it.suffix in (".rt", ".antt")]
-        return sorted(found)
+    def files(self, top=TOP):
+        """Its sources, definitions and proofs, here or in a copy of the repository."""
+        folder = top / "crates" / self.name
+        return sorted(it for part in PARTS for it in (folder / part).rglob("*") if it.suffix in (".rt", ".antt"))
 
 
 def read_crates(text=None):
