@@ -27,13 +27,14 @@ def run(program, command, text, error=subprocess.PIPE):
 
 @functools.cache
 def find_genirq():
-    """The program: what GENIRQ names, or that of the repository, which the launcher builds where it isn't."""
+    """The program: what GENIRQ names, or that of the repository, which has to be built."""
     named = os.environ.get("GENIRQ")
+    os.environ.setdefault("GENIRQ_BUILT", "1")
     program = named or f"{TOP}/genirq"
     out, status, _ = run(program, ["play"], "board 1\ndomain a tree latch\nline 1 a 0\n", None)
     if status or out != "# irq 1 virq 1 a:0\n":
         raise Failed(f"{program} play doesn't play a small board (status {status}): not genirq, or it can't be built")
-    return named or f"{TOP}/crates/irq_prog/out/irq_prog"
+    return named or f"{TOP}/built/irq_prog/irq_prog"
 
 
 def genirq(command, text):

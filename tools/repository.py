@@ -1,5 +1,6 @@
 """What the scripts know of the repository: its crates as crates.txt lists them, their files, and their must-fail edits."""
 
+import os
 import re
 import sys
 from dataclasses import dataclass, field
@@ -9,6 +10,8 @@ TOP = Path(__file__).resolve().parent.parent
 PROGRAM = "irq_prog"
 # What a check reads of a crate.
 PARTS = ("src", "specs", "proofs")
+# No script runs an unproved trial through a launcher: it wants a program that was built, or none.
+os.environ.setdefault("GENIRQ_BUILT", "1")
 
 
 @dataclass
@@ -25,10 +28,10 @@ class Crate:
     def folder(self):
         return TOP / "crates" / self.name
 
-    def files(self):
-        """Its sources, definitions and proofs."""
-        found = [it for part in PARTS for it in (self.folder / part).rglob("*") if it.suffix in (".rt", ".antt")]
-        return sorted(found)
+    def files(self, top=TOP):
+        """Its sources, definitions and proofs, here or in a copy of the repository."""
+        folder = top / "crates" / self.name
+        return sorted(it for part in PARTS for it in (folder / part).rglob("*") if it.suffix in (".rt", ".antt"))
 
 
 def read_crates(text=None):
