@@ -8,6 +8,7 @@ may then be counted that needn't be.
 import re
 from dataclasses import dataclass, field
 from functools import cache, cached_property
+from itertools import accumulate
 from pathlib import Path
 
 USE = re.compile(r"(?:pub |ghost )?use ([^\s{};]+?)(?:\.\{(.*?)\})?(?: as ([^\s;]+))?;?", re.S)
@@ -36,12 +37,15 @@ def imports_of(rows):
 
 def end_of(tokens, at):
     """The place of the bracket that closes the one at this place."""
-    depth = 0
-    for place in range(at, len(tokens)):
-        depth += (tokens[place] in OPEN) - (tokens[place] in CLOSE)
-        if depth == 0:
-            return place
-    raise ValueError(f"a bracket isn't closed: {' '.join(tokens[at : at + 8])}")
+    depths = list(accumulate((it in OPEN) - (it in CLOSE) for it in tokens[at:]))
+    return first((at + place for place, depth in enumerate(depths) if depth == 0), "a bracket isn't closed", tokens[at:])
+
+
+def first(places, what, tokens):
+    """The first of these places; an error if there is none."""
+    for place in places:
+        return place
+    raise ValueError(f"{what}: {' '.join(tokens[:8])}")
 
 
 def names_of(group):
@@ -76,7 +80,7 @@ def words_of(tokens, bound=()):
         elif token == "let":
             here.add(tokens[at + 1])
         elif token == "λ" and tokens[at + 1] not in OPEN:
-            end = next(it for it in range(at, len(tokens)) if tokens[it].endswith("."))
+            end = first((it for it in range(at, len(tokens)) if tokens[it].endswith(".")), "a λ without its dot", tokens[at:])
             here |= {it.rstrip(".") for it in tokens[at + 1 : end + 1]}
             at = end
         elif tokens[at + 1 : at + 2] != ["="] and token.split(".")[0] not in here:
@@ -108,10 +112,8 @@ class Definition:
 
     def words_of_equation(self, tokens):
         """The words of an equation; what its patterns don't take from elsewhere they bind."""
-        depths = [0]
-        for token in tokens:
-            depths.append(depths[-1] + (token in OPEN) - (token in CLOSE))
-        at = next(it for it, token in enumerate(tokens) if token == "=" and depths[it] == 0)
+        depths = list(accumulate((it in OPEN) - (it in CLOSE) for it in tokens))
+        at = first((it for it, token in enumerate(tokens) if token == "=" and depths[it] == 0), "an equation without `=`", tokens)
         taken = [it for it in tokens[1:at] if "." in it or self.file.is_constructor(it)]
         return taken + list(words_of(tokens[at + 1 :], {*tokens[1:at]} - {*taken}))
 
@@ -209,6 +211,6 @@ def clause_words(text, function):
         raise ValueError(f"no function {function}")
     tokens = TOKEN.findall(head[0])
     for at, token in enumerate(tokens):
-        if token in ("ensures", "requires"):
+        if token in ("ensures", "ensures*", "requires"):
             begin = tokens.index("{", at)
             yield from words_of(tokens[begin + 1 : end_of(tokens, begin)], re.findall(r"^ +(\w+):", head[0], re.M))
