@@ -3,6 +3,10 @@
 comments, of one word. Boards for `run` stand among them where their lines end in the same states whatever the order."""
 import os
 import sys
+from pathlib import Path
+
+sys.path.insert(0, str(Path(__file__).resolve().parent.parent / "tools"))
+from repository import say_help, stop  # noqa: E402
 
 LONGEST = 1048576
 LATCH = "board 1\nlog 1000000\ndomain intc linear 4 latch\nline 1 intc 2\ndevice 1 1 direct\ndriver 1\nrequest 1\n"
@@ -103,9 +107,8 @@ def main(folder):
 if __name__ == "__main__":
     WORDS = sys.argv[1:]
     if WORDS == ["--help"]:
-        print(__doc__)
+        say_help(__doc__)
     elif len(WORDS) > 1 or any(it.startswith("-") for it in WORDS):
-        print("usage: bench/boards.py [FOLDER]", file=sys.stderr)
-        sys.exit(2)
+        stop("bench/boards.py [FOLDER]")
     else:
         main(WORDS[0] if WORDS else "/tmp/genirq-boards")

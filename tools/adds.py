@@ -1,17 +1,34 @@
-"""The lists of docs/ADDING.md: which files name a variant of an enum, or ask for one by a word of the definitions, and so have to
-be looked at when one is added."""
+"""The lists of docs/ADDING.md: which files name the variants of an enum, or their words, and so have to be looked at when one is added."""
 
+import functools
 import re
+import sys
 
 from repository import TOP, read_crates
 
 PAGE = TOP / "docs" / "ADDING.md"
-# What can be added, and the enum that gets a variant.
-LISTS = {"a flow": "FlowKind", "a driver's call": "Call", "a kind of entry": "Entry", "a kind of controller": "ControllerKind", "a command": "Command"}
+# What can be added, and the enums that get a variant: the first gives the list its name.
+LISTS = {
+    "a flow": ["FlowKind"],
+    "a driver's call": ["Call", "CallWord", "CallWords"],
+    "a kind of entry": ["Entry"],
+    "a kind of controller": ["ControllerKind"],
+    "a command": ["Command"],
+}
 # Tests of single variants, by which files ask for them without naming any.
 TESTS = {"FlowKind": ["is_edge_flow", "is_level_flow", "is_eoi_flow"]}
+# The words of the variants, as files outside of crates/ have them, and in which folders these stand.
+WORDS = {
+    "a flow": "edge level eoi",
+    "a driver's call": "request free ask disable disable_nosync enable sync affinity moment",
+    "a kind of entry": "ask take begin return end finish done disable enable request unlink hardclear synced freed affinity moment",
+    "a kind of controller": "latch plain level eoi lpi vector msi remap",
+    "a command": "play run check gen chained hotplug sleep",
+}
+OUTSIDE = ["tools", "bench", "kernel"]
+NOT_READ = re.compile(r"tools/(machines/|adds\.py$)|bench/edits/.*\.edit$|.*\.(board|rows|md)$")
 # Enums of which each variant is named wherever the program tells some of them apart.
-NAMED = ["Entry", "Call", "Actor"]
+NAMED = ["Entry", "Call", "CallWord", "Actor"]
 
 
 def hidden_variants():
@@ -50,46 +67,103 @@ def head_of(file):
     return sentence if len(sentence) <= 110 else sentence[:107].rsplit(" ", 1)[0] + " .."
 
 
-def naming(enum):
-    """The files that name a variant of the enum, or a test of one, in the order of the crates: those of src/ and specs/, and
-    those of proofs/."""
-    words = "".join(rf"|\b{it}\b" for it in TESTS.get(enum, ()))
-    pattern = re.compile(rf"\b{enum}(?:::[A-Z]|\.TheVariants)|\benum {enum}\b{words}")
-    found = [
-        (crate, file)
-        for crate in read_crates().values()
-        for file in crate.files()
-        if pattern.search(file.read_text(encoding="utf-8"))
+@functools.cache
+def texts():
+    """Each file of the crates with its crate, the part of the crate that it stands in, and its text."""
+    crates = [(crate, file) for crate in read_crates().values() for file in crate.files()]
+    return [(crate, file, file.relative_to(crate.folder).parts[0], file.read_text(encoding="utf-8")) for crate, file in crates]
+
+
+@functools.cache
+def variants(enum):
+    """The variants of an enum, as its declaration has them."""
+    for _, file, _, text in texts():
+        if file.suffix == ".rt" and (body := re.search(rf"^(?:pub(?:\(\w+\))? )?enum {enum} \{{\n(.*?)^\}}", text, re.M | re.S)):
+            return set(re.findall(r"^    ([A-Z]\w*)", body[1], re.M))
+    return sys.exit(f"adds: no enum {enum}")
+
+
+def named_in(text, enum):
+    """What a text names of an enum: `Enum::Variant` in code, in definitions and proofs a name behind that of its variants."""
+    found = set(re.findall(rf"\b{enum}::([A-Z]\w*)", text))
+    for name in re.findall(rf"\b{enum}\.TheVariants as (\w+)", text):
+        found |= set(re.findall(rf"\b{name}\.([A-Z]\w*)", text))
+    return found
+
+
+def how_named(text, enums):
+    """Whether a text declares or names each variant of one of the enums ("each"), names or tests some ("some"), or none."""
+    tests = [it for enum in enums for it in TESTS.get(enum, ())]
+    if not any(it in text for it in [*enums, *tests]):
+        return None
+    named = [(named_in(text, enum), variants(enum)) for enum in enums]
+    if any(found >= all_ for found, all_ in named) or re.search(rf"\benum ({'|'.join(enums)}) ", text):
+        return "each"
+    return "some" if any(found for found, _ in named) or tests and re.search(rf"\b({'|'.join(tests)})\b", text) else None
+
+
+def naming(enums):
+    """The files that name variants of the enums, in the order of the crates: by whether they name each, and where they stand
+    (`program`, `beside`, or `proofs`)."""
+    found = {}
+    for crate, file, part, text in texts():
+        place = "proofs" if part == "proofs" else "beside" if crate.group in ("reference", "tests") else "program"
+        if how := how_named(text, enums):
+            found.setdefault((how, place), []).append((crate, file))
+    return found
+
+
+def proofs_of(enum):
+    """The proofs that go by cases of the variants that are listed under this enum, those that name each first."""
+    enums = next((it for it in LISTS.values() if it[0] == enum), None)
+    if enums is None:
+        sys.exit(f"adds: one of {', '.join(it[0] for it in LISTS.values())}, not {enum}")
+    found = naming(enums)
+    return [file.relative_to(TOP) for how in ("each", "some") for _, file in found.get((how, "proofs"), [])]
+
+
+def outside(what):
+    """The files outside of crates/ that have these words: each, or of many nearly each."""
+    words = WORDS[what].split()
+    for file in sorted(it for folder in OUTSIDE for it in (TOP / folder).rglob("*") if it.is_file()):
+        name = str(file.relative_to(TOP))
+        if NOT_READ.match(name) or "__pycache__" in name:
+            continue
+        text = file.read_text(encoding="utf-8", errors="replace").lower()
+        if 6 * sum(bool(re.search(rf"(?<![a-z]){it}(?![a-z_])", text)) for it in words) >= 5 * len(words):
+            yield name
+
+
+def by_crate(files):
+    """A row for each crate, with its files."""
+    crates = {}
+    for crate, file in files:
+        crates.setdefault(crate.name, []).append(f"`{file.relative_to(TOP / 'crates')}`")
+    return [f"- {', '.join(it)}" for it in crates.values()]
+
+
+def with_heads(files):
+    """A row for each file, with what it says of itself."""
+    return [f"- `{it.relative_to(TOP / 'crates')}`" + (f": {head}" if (head := head_of(it)) else "") for _, it in files]
+
+
+def list_of(what):
+    """A list, as the page has it."""
+    enums, rows = LISTS[what], []
+    found = naming(enums)
+    parts = [
+        ("Each is named here, mostly by a match over all, at which the compiler or the prover stops:", ("each", "program"), with_heads),
+        ("Some are named here, to be looked at:", ("some", "program"), by_crate),
+        ("In the reference and the tests each is named here:", ("each", "beside"), by_crate),
+        ("In the reference and the tests some are named here:", ("some", "beside"), by_crate),
     ]
-    part = lambda crate, file: file.relative_to(crate.folder).parts[0]
-    work = [(crate, file) for crate, file in found if part(crate, file) != "proofs"]
-    return work, [file for crate, file in found if part(crate, file) == "proofs"]
-
-
-def list_of(enum):
-    """The list of an enum, as the page has it."""
-    work, proofs = naming(enum)
-    behind = [it for it in work if it[0].group in ("reference", "tests")]
-    rows = []
-    for title, files in (("", [it for it in work if it not in behind]), ("Beside the program:", behind)):
-        rows += ["", title, ""] if title and files else []
-        for crate, file in files:
-            rows.append(f"- `{file.relative_to(TOP / 'crates')}`: {head_of(file)}")
-    if proofs:
-        names = ", ".join(f"`{it.relative_to(TOP / 'crates')}`" for it in proofs)
-        rows += ["", "Proofs that go by cases:", ""] + [f"- {names_}" for names_ in in_pieces(names)]
+    for title, key, rows_of in parts:
+        rows += [title, "", *rows_of(found[key]), ""] if key in found else []
+    if names := list(outside(what)):
+        rows += [f"Outside of `crates/` their words stand in {', '.join(f'`{it}`' for it in names)}.", ""]
+    each, some = (len(found.get((it, "proofs"), [])) for it in ("each", "some"))
+    rows += [f"Proofs that go by cases: {each} name each, {some} some. `tools/cited --proofs {enums[0]}` prints them."]
     return "\n".join(rows) + "\n"
-
-
-def in_pieces(names, most=500):
-    """The names in rows that can be read."""
-    row = ""
-    for name in names.split(", "):
-        if row and len(row) + len(name) > most:
-            yield row
-            row = ""
-        row += (", " if row else "") + name
-    yield row
 
 
 def faults_of_page(write):
@@ -97,14 +171,14 @@ def faults_of_page(write):
     lists are put right."""
     yield from hidden_variants()
     text = PAGE.read_text(encoding="utf-8")
-    for what, enum in LISTS.items():
-        begin, end = f"<!-- {what}: what names {enum} -->\n", f"<!-- end of {what} -->\n"
+    for what, enums in LISTS.items():
+        begin, end = f"<!-- {what}: what names {', '.join(enums)} -->\n", f"<!-- end of {what} -->\n"
         if begin not in text or end not in text:
             yield f"docs/ADDING.md has no list for {what}"
             continue
         before, _, rest = text.partition(begin)
         stands, _, after = rest.partition(end)
-        wanted = list_of(enum)
+        wanted = list_of(what)
         if stands != wanted:
             if not write:
                 lacks = set(wanted.splitlines()) ^ set(stands.splitlines())

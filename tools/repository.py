@@ -69,6 +69,11 @@ def edits_of_bench(crate):
     return sorted((TOP / "bench" / "edits" / crate).glob("*.edit"))
 
 
+def all_boards():
+    """The boards of boards/ and of its folders."""
+    return sorted((TOP / "boards").rglob("*.board"))
+
+
 def stop(usage):
     """Ends a script whose words are none of its forms."""
     print(f"usage: {usage}", file=sys.stderr)

@@ -1,0 +1,2 @@
+with open("../../boards/drivers/wake_up_keys.board", encoding="ascii") as it:
+    print(it.read(), end="")
