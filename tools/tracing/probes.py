@@ -71,7 +71,7 @@ PROBES = (
     ("ia", "p", "irq_pm_install_action",
      (IRQ, ACTION, "flg=2 irqaction flags x32", "dev=2 irqaction dev_id x64", "hdl=2 irqaction handler x64",
       "thr=2 irqaction thread_fn x64", "nam=2 irqaction name string", DEPTH, INTERNAL), "requests"),
-    ("ra", "p", "irq_pm_remove_action", (IRQ, ACTION, "dev=2 irqaction dev_id x64"), "unlinks"),
+    ("ra", "p", "irq_pm_remove_action", (IRQ, ACTION, "dev=2 irqaction dev_id x64", "nam=2 irqaction name string"), "unlinks"),
     ("fi", "p", "free_irq", ("irq=1 u32", "dev=2 x64"), "frees that find nothing"),
     ("fr", "r", "free_irq", ("ret=r x64",), "where a free is over"),
     ("sh", "p", "__synchronize_hardirq", ("irq=1 irq_desc irq_data.irq u32",), "hard clears"),
