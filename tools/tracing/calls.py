@@ -39,7 +39,7 @@ class Calls(Walk):
             frame.steps["unmask"] = self.at
             frame.events.append(event.number)
         else:
-            self.drop(event, "a chip's mask outside of what is modelled")
+            self.drop(event, "a chip's mask that no row shows")
 
     def on_fx(self, event):
         frame = self.leave(event)

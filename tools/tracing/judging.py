@@ -112,7 +112,7 @@ class Line:
         self.laying = Laying(self.steps, cuts)
         self.pieces = self.laying.lay()
 
-    def judge(self):
+    def judge(self, most=MOST):
         """Judges piece by piece; behind a row that isn't lawful the trace is cut at the next rest, and goes on."""
         cuts, done, lawful = set(), 0, []
         self.lay(cuts)
@@ -127,7 +127,7 @@ class Line:
             text = list(written.log())[entry - 1]
             self.rows += entry
             self.unlawful.append(Unlawful(piece, entry - 1, text, reason_of(piece, entry - 1)))
-            if len(self.unlawful) >= MOST or piece.rows[entry - 1].place is None:
+            if len(self.unlawful) >= most or piece.rows[entry - 1].place is None:
                 break
             cuts.add(piece.rows[entry - 1].place)
             self.lay(cuts)

@@ -10,7 +10,7 @@ from dataclasses import dataclass, field
 from steps import ONESHOT, SHARED
 
 # A board has 16,384 calls; a piece ends at the first rest after so many.
-CALLS = 15000
+CALLS = int(__import__("os").environ.get("TRACE_CALLS", "15000"))
 WINDOW, LIMIT = 100000, 99900
 # Ticks of a second on the kernel that was tried (CONFIG_HZ=250), for moments in milliseconds.
 TICK = 4
@@ -38,13 +38,15 @@ class Piece:
     target: int
     counts: tuple
     rows: list = field(default_factory=list)
-    devices: list = field(default_factory=list)
-    kinds: dict = field(default_factory=dict)
-    later: bool = False
+    answers: set = field(default_factory=set)
     calls: int = 0
     unfit: list = field(default_factory=list)
     forced: int = 0
     spare: bool = False
+
+    @property
+    def later(self):
+        return "later" in self.answers
 
 
 class State:
@@ -262,9 +264,9 @@ class Laying:
             for device, answer in (it for one in step.more.get("rounds", []) for it in one):
                 if {self.kinds.get(device), answer} == {"handled", "wake"}:
                     return True
-        if step.words[0] == "affinity":
-            return bool(piece.rows) and step.words[2] in ("now", "later") and any(
-                it.words[0] == "affinity" and it.words[2] in ("now", "later") and it.words[2] != step.words[2] for it in piece.rows[-2000:])
+        if step.words[0] == "affinity" and step.words[2] in ("now", "later"):
+            return {step.words[2], *piece.answers} == {"now", "later"}
+        return step.words[0] == "take" and piece.later and 1 << int(step.who[1:]) != self.target
         return False
 
     # ---- rows
@@ -327,7 +329,10 @@ class Laying:
             self.target, self.coming = self.coming, None
 
     def own_move(self, cpu, reason):
+        if self.pieces[-1].later:
+            self.pieces[-1].unfit.append("a move at once on a line whose changes wait")
         self.put(Row(("own",), ["affinity", cpu, "now"], [], reason, ["affinity"]))
+        self.pieces[-1].answers.add("now")
         self.target, self.moved = cpu, self.moved + 1
 
     def put_affinity(self, step):
@@ -337,7 +342,9 @@ class Laying:
             self.target = words[1]
         elif words[2] == "later":
             self.coming = words[1]
-            self.pieces[-1].later = True
+        if words[2] in ("now", "later"):
+            self.pieces[-1].answers.add(words[2])
+        self.moved += step.who == ("own",)
         self.put(Row(step.who, words, step.events, call=step.call, reason=f"mask {mask:x} in the kernel" if mask != words[1] else ""))
 
     # ---- what is made without the lock

@@ -331,6 +331,6 @@ class Walk:
         elif frame:
             (frame.step.events if frame.step else frame.events).append(event.number)
         else:
-            self.drop(event, "a chip's mask outside of what is modelled")
+            self.drop(event, "a chip's mask that no row shows")
 
     on_mu = on_im = on_iu = on_mm
