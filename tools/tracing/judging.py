@@ -6,6 +6,7 @@ import subprocess
 from dataclasses import dataclass
 
 from calls import Calls
+from due import first_difference
 from events import read_trace
 from laying import Laying
 from repository import TOP
@@ -50,6 +51,7 @@ class Unlawful:
     piece: object
     place: int
     text: str
+    due: str | None
     why: str
 
 
@@ -124,9 +126,10 @@ class Line:
                 self.rows += len(piece.rows)
                 done += 1
                 continue
-            text = list(written.log())[entry - 1]
+            log = list(written.log())
+            at, due = first_difference(written.board(), log)
             self.rows += entry
-            self.unlawful.append(Unlawful(piece, entry - 1, text, reason_of(piece, entry - 1)))
+            self.unlawful.append(Unlawful(piece, entry - 1, log[entry - 1], due if at == entry else "?", reason_of(piece, entry - 1)))
             if len(self.unlawful) >= most or piece.rows[entry - 1].place is None:
                 break
             cuts.add(piece.rows[entry - 1].place)
