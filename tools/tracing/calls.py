@@ -271,7 +271,7 @@ class Calls(Walk):
         if frame.step:
             device = frame.step.more["device"]
             line.say(frame.step.at, frame.step.who, ["freed", device], frame.events, until=self.at, call=frame.step.call, more={"device": device})
-            device.action = None if device in line.first else device.action
+            device.action = None
         else:
             line.drop(frame.events, "a free that found nothing")
 

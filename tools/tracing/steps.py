@@ -88,11 +88,11 @@ class LineSteps:
 
     def of_action(self, action, name=None):
         """The device of an action: the one that has it, else one linked before the trace whose action wasn't seen yet."""
-        for device in self.devices:
+        for device in reversed(self.devices):
             if action and device.action == action:
                 return device
         for device in self.first:
-            if device.action is None and name in (None, device.name):
+            if device in self.linked and device.action is None and name in (None, device.name):
                 device.action = action
                 return device
         return None
@@ -319,8 +319,11 @@ class Walk:
         opening = self.opening.get((event.who, line_of(event)))
         frame = next((it for it in reversed(self.frames.get(event.who, [])) if it.line == line_of(event)), None)
         if flow and flow.end:
+            # a chip that moves its line as it ends the interrupt masks before and unmasks after, past the line's own mask
             flow.end.events.append(event.number)
-            if event.name in ("mu", "iu"):
+            if event.name in ("mm", "im"):
+                flow.end.more["moves"] = True
+            elif not flow.end.more.pop("moves", False):
                 flow.end.words[2] = "unmask"
         elif flow and not flow.is_open:
             (flow.take.events if flow.take else flow.events).append(event.number)
