@@ -38,7 +38,7 @@ def verdict(trace):
     lines = walk.walk()
     judged = [judging.Line(lines[it], trace.head["cpus"] or 32).judge(1) for it in sorted(lines) if lines[it].steps]
     _, reasons, _ = judging.accounts(trace, walk, judged)
-    return [it.unlawful[0].text for it in judged if it.unlawful], {why: len(them) for why, them in reasons.items()}
+    return [it.unlawful[0].text for it in judged if it.unlawful], {**{why: len(them) for why, them in reasons.items()}, **walk.faults}
 
 
 def try_edits(trace, count, seed):

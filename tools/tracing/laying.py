@@ -12,8 +12,8 @@ from steps import ONESHOT, SHARED
 # A board has 16,384 calls; a piece ends at the first rest after so many.
 CALLS = int(__import__("os").environ.get("TRACE_CALLS", "15000"))
 WINDOW, LIMIT = 100000, 99900
-# Ticks of a second on the kernel that was tried (CONFIG_HZ=250), for moments in milliseconds.
-TICK = 4
+# Milliseconds of a tick on the kernel that was tried (CONFIG_HZ=250), and after how many ticks the count begins anew (HZ/10).
+TICK, FAR = 4, 25
 
 
 @dataclass
@@ -168,7 +168,7 @@ class Laying:
     def __init__(self, line, cuts=()):
         self.line, self.pieces, self.state, self.waits, self.cuts = line, [], None, [], sorted(cuts)
         self.steps = sorted(line.steps, key=lambda it: it.at)
-        self.target, self.coming, self.kinds = 0, None, {}
+        self.target, self.coming, self.kinds, self.base = 0, None, {}, 0
         self.moved, self.searched, self.place, self.due_cut = 0, 0, None, False
 
     def lay(self):
@@ -218,7 +218,7 @@ class Laying:
         self.pieces.append(piece)
         self.state = State([])
         self.state.kind = self.line.kind
-        self.target, self.coming, self.kinds = piece.target, None, {}
+        self.target, self.coming, self.kinds, self.base = piece.target, None, {}, counts[2] if counts[1] else 0
         for number, device in enumerate(linked):
             flags = self.flags_of(device, len(linked))
             self.put(Row(("device", device), ["request", device, flags, "linked", *([] if number else ["started"]), "no"], [],
@@ -305,12 +305,13 @@ class Laying:
         self.put(Row(step.who, list(step.words), step.events, call=step.call))
 
     def moment(self, step):
-        """The time of a note that finds nothing, as the next note tells it."""
-        place = self.line.ends.index(step) if self.line.ends else -1
+        """The time of a note that finds nothing, where it is long after the one before: only then it counts."""
+        place = step.more["nth"]
         after = next((it.more["note"] for it in self.line.ends[place + 1 : place + 2] if it.more["note"]), None)
-        if after:
-            ticks = int(after.args.get("lun", 0)) - (self.pieces[-1].counts[2] or int(after.args.get("lun", 0)))
-            self.put(Row(("own",), ["moment", max(ticks, 0) * TICK + 1], [], "the time of the note", ["moment"]))
+        before, now = int(step.more["note"].args.get("lun", 0)), int(after.args.get("lun", 0)) if after else 0
+        self.base = self.base or before
+        if before and now - before > FAR:
+            self.put(Row(("own",), ["moment", (now - self.base) * TICK + 1], [], "the time of the note", ["moment"]))
 
     def put_take(self, step):
         """A take, with the ask that is behind it, and a move where it comes on another processor than the last change says."""

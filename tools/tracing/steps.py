@@ -21,7 +21,7 @@ PAIRS = {"di": "dx", "dh": "dy", "dn": "dz", "cr": "cx", "rq": "rr", "fi": "fr",
 ENDS = {end: begin for begin, end in PAIRS.items()}
 
 
-@dataclass
+@dataclass(eq=False)
 class Step:
     """One row to be. `who` is c0, or ("task", P), ("device", D), ("thread", D), ("own",)."""
 
@@ -61,7 +61,7 @@ class Flow:
         self.events, self.kind, self.at, self.is_resend = [event.number], FLOWS.get(event.name), at, is_resend
         self.line, self.cpu, self.place, self.take = line_of(event), event.cpu, None, None
         self.is_open, self.begun, self.called, self.exit = False, None, [], None
-        self.note, self.end, self.kill = None, None, []
+        self.note, self.end, self.kill, self.acks = None, None, [], 0
 
 
 class LineSteps:
@@ -70,7 +70,7 @@ class LineSteps:
     def __init__(self, number, facts):
         self.number, self.facts = number, facts or {}
         self.steps, self.reasons, self.devices, self.linked = [], {}, [], []
-        self.kind, self.depth, self.flags, self.ends, self.targets, self.notes = None, None, None, [], [], []
+        self.kind, self.depth, self.flags, self.ends, self.targets, self.notes, self.acks = None, None, None, [], [], False, False
         for name in [it for it in (self.facts.get("actions") or "").split(",") if it]:
             self.linked.append(self.add(name))
         self.first = list(self.linked)
@@ -114,7 +114,7 @@ class Walk:
 
     def __init__(self, trace):
         self.trace, self.lines, self.frames, self.flows, self.opening = trace, {}, {}, {}, {}
-        self.reasons, self.at = {}, 0
+        self.reasons, self.at, self.faults = {}, 0, {}
 
     # ---- what the parts are found by
 
@@ -129,6 +129,10 @@ class Walk:
             self.reasons.setdefault(reason, []).append(event.number)
         else:
             self.line(number).drop([event.number], reason)
+
+    def fault(self, text):
+        """What shows that an event is missing, is there twice, or stands at a wrong place."""
+        self.faults[text] = self.faults.get(text, 0) + 1
 
     def flow(self, event, number=None):
         """The flow that the event's processor is in, if the event is of an interrupt."""
@@ -187,14 +191,22 @@ class Walk:
     # ---- flows
 
     def on_fe(self, event):
-        flow = Flow(event, self.at, bool(self.inside(event, "rs")))
-        self.flows.setdefault(event.cpu, []).append(flow)
+        flow, stack = Flow(event, self.at, bool(self.inside(event, "rs"))), self.flows.setdefault(event.cpu, [])
+        while stack and not stack[-1].is_open:
+            stale = stack.pop()
+            self.fault("a flow without its return")
+            if not stale.take:
+                self.line(stale.line).drop(stale.events, "a flow that the trace doesn't see the end of")
+        stack.append(flow)
         self.line(flow.line).kind = flow.kind
 
     on_fl = on_fo = on_fe
 
     def on_ak(self, event):
         flow = self.flow(event, line_of(event))
+        if flow:
+            flow.acks += 1
+            self.line(flow.line).acks = True
         if not flow:
             self.drop(event, "an acknowledgement outside of a flow")
         elif flow.end:
@@ -243,7 +255,7 @@ class Walk:
 
     def on_irq_handler_exit(self, event):
         flow = self.flow(event, line_of(event))
-        if not flow or not flow.begun:
+        if not flow or not flow.begun or flow.exit or flow.note:
             self.drop(event, "a handler outside of a flow that is modelled")
         elif event.args.get("ret") == "unhandled":
             self.answered(flow, "nothing", self.at, [event.number])
@@ -291,8 +303,11 @@ class Walk:
         note = flow.note
         if note:
             events.insert(0, note.number)
+            line.notes = True
+        elif line.notes:
+            self.fault("a round without its note")
         flow.end = line.say(self.at, f"c{event.cpu}", ["end", "leave", "asis", "killed" if flow.kill else None], events,
-                            more={"note": note})
+                            more={"note": note, "nth": len(line.ends)})
         line.ends.append(flow.end)
         flow.is_open, flow.note, flow.kill = False, None, []
 
@@ -302,6 +317,8 @@ class Walk:
             self.drop(event, "a return without its entry")
             return
         flow = stack.pop()
+        if flow.acks != 1 and self.line(flow.line).acks and not flow.is_resend:
+            self.fault("a flow that isn't acknowledged once")
         if flow.end:
             flow.end.events.append(event.number)
         elif flow.take:
