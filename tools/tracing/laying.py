@@ -212,7 +212,7 @@ class Laying:
     def begin(self, linked, depth, place):
         """Begins a piece: what was linked stands at its head."""
         self.due_cut = False
-        note = next((it.more["note"] for it in self.steps[place:] if it.words[0] == "end" and it.more.get("note")), None)
+        note = self.note_from(place)
         counts = tuple(int(note.args.get(it, 0)) for it in ("cnt", "unh", "lun")) if note else (0, 0, 0)
         piece = Piece(self.line, list(linked), depth, self.next_target(self.steps[place].at), counts)
         self.pieces.append(piece)
@@ -226,7 +226,7 @@ class Laying:
         for _ in range(depth if linked else 0):
             self.put(Row(("own",), ["disable"], [], "disabled before this piece", ["disable_nosync"]))
         if counts[1]:
-            self.prelude(piece)
+            self.prelude(piece, place)
 
     def flags_of(self, device, count):
         flags = device.flags if device.flags is not None else self.line.flags
@@ -234,20 +234,38 @@ class Laying:
             return "s" if count > 1 else "-"
         return ("s" if flags & SHARED else "") + ("o" if flags & ONESHOT else "") or "-"
 
-    def prelude(self, piece):
-        """One round in which nothing is found, so that the count of unhandled ends isn't 0."""
-        if not piece.linked or piece.depth or self.state.is_oneshot and self.line.kind == "edge":
+    def prelude(self, piece, place):
+        """A round in which nothing is found, so that the count of unhandled ends isn't 0; and one that wakes, if the last did."""
+        if not piece.linked or piece.depth:
             return
-        cpu = f"c{(self.target or 1).bit_length() - 1}"
         why = "the count of unhandled ends before this piece"
+        note = self.note_from(place)
+        if int(note.args.get("thl", 0)) < 0:
+            device = next((it.more["device"] for it in self.steps[place:] if it.more.get("answer") == "wake"), None)
+            if device:
+                self.ask(device, why)
+                self.round(piece, device, "quiet", why)
+                run = [["begin"], ["return", 0], *([["finish", "cleared", "unmask" if self.state.masked else "asis"]] if self.state.is_oneshot else []), ["done"]]
+                for words in run:
+                    self.put(Row(("thread", device), words, [], why))
         self.ask(None, why)
+        self.round(piece, None, "counted", why)
+
+    def round(self, piece, woken, note, why):
+        """A round of the head: each handler finds nothing, but one that wakes."""
+        cpu = f"c{(self.target or 1).bit_length() - 1}"
         self.put(Row(cpu, ["take", "line", "handle"], [], why))
+        masks = self.line.kind == "level" or self.line.kind == "eoi" and self.state.is_oneshot
+        self.state.masked = masks
         for device in piece.linked:
             self.put(Row(cpu, ["begin", device], [], why))
-            self.put(Row(cpu, ["return", device, "nothing", 0], [], why))
-        unmask = "unmask" if self.line.kind == "level" or self.line.kind == "eoi" and self.state.is_oneshot else "asis"
-        self.put(Row(cpu, ["end", "leave", unmask, "counted"], [], why))
-        piece.spare = True
+            self.put(Row(cpu, ["return", device, "wake" if device is woken else "nothing", 0], [], why))
+        opens = masks and not self.state.unfinished
+        self.put(Row(cpu, ["end", "leave", "unmask" if opens else "asis", note], [], why))
+
+    def note_from(self, place):
+        """The first note from a place on."""
+        return next((it.more["note"] for it in self.steps[place:] if it.words[0] == "end" and it.more.get("note")), None)
 
     def next_target(self, at):
         """Where the kernel aims the line at a place: the first processor that its handled takes show from there on."""
