@@ -4,6 +4,9 @@ from events import line_of, value
 from steps import ERRNO, LEVEL, NO_AUTOEN, ONESHOT, PENDING, SHARED, Frame, Walk
 
 
+BEFORE = "a run of a thread that was woken before the trace"
+
+
 def letters(flags):
     """A request's flags as a row has them."""
     text = "".join(letter for bit, letter in ((SHARED, "s"), (ONESHOT, "o"), (NO_AUTOEN, "n")) if flags & bit)
@@ -22,14 +25,15 @@ class Calls(Walk):
             self.drop(event, "a run of a thread whose device isn't known")
             return
         self.frames.setdefault(event.who, []).append(frame)
-        frame.step = line.say(self.at, ("thread", device), ["begin"], [event.number], more={"device": device})
-        frame.steps["device"] = device
+        if device in line.awake:
+            frame.step = line.say(self.at, ("thread", device), ["begin"], [event.number], more={"device": device})
+            frame.steps["device"] = device
 
     def on_fz(self, event):
         frame = self.inside(event, "tf", line_of(event))
         inner = Frame(event, self.at)
         self.frames.setdefault(event.who, []).append(inner)
-        if frame:
+        if frame and frame.step:
             device = frame.steps["device"]
             frame.steps["return"] = self.line(frame.line).say(self.at, ("thread", device), ["return", 0], [event.number], more={"device": device})
 
@@ -44,9 +48,8 @@ class Calls(Walk):
     def on_fx(self, event):
         frame = self.leave(event)
         outer = frame and self.inside(event, "tf", frame.line)
-        if not outer:
-            for number in frame.events if frame else ():
-                self.reasons.setdefault("a finish outside of a thread's run", []).append(number)
+        if not outer or not outer.step:
+            self.reasons.setdefault(BEFORE, []).extend(frame.events if frame else ())
             return
         device, exact = outer.steps["device"], frame.steps.get("unmask")
         self.line(frame.line).say(exact or frame.at, ("thread", device), ["finish", "cleared" if exact else None, "unmask" if exact else "asis"],
@@ -56,7 +59,10 @@ class Calls(Walk):
         frame = self.leave(event)
         if not frame:
             return
-        line, device = self.line(frame.line), frame.steps["device"]
+        line, device = self.line(frame.line), frame.steps.get("device")
+        if not device:
+            line.drop(frame.events, BEFORE)
+            return
         back = frame.steps.get("return")
         if not back:
             back = line.say(self.at, ("thread", device), ["return", 0], [], more={"device": device})

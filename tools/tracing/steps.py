@@ -73,7 +73,7 @@ class LineSteps:
         self.kind, self.depth, self.flags, self.ends, self.targets, self.notes, self.acks = None, None, None, [], [], False, False
         for name in [it for it in (self.facts.get("actions") or "").split(",") if it]:
             self.linked.append(self.add(name))
-        self.first = list(self.linked)
+        self.first, self.awake = list(self.linked), set()
 
     def add(self, name):
         self.devices.append(Device(len(self.devices) + 1, name))
@@ -282,6 +282,7 @@ class Walk:
             return
         device, events = flow.begun.more["device"], [flow.exit[1], event.number]
         device.action = event.args.get("act")
+        line.awake.add(device)
         self.answered(flow, "wake", self.at, events)
         line.steps[-1].more["was_woken"] = bool((value(event, "tfl") or 0) & 1)
 
