@@ -35,7 +35,8 @@ class Calls(Walk):
         self.frames.setdefault(event.who, []).append(inner)
         if frame and frame.step:
             device = frame.steps["device"]
-            frame.steps["return"] = self.line(frame.line).say(self.at, ("thread", device), ["return", 0], [event.number], more={"device": device})
+            back = self.line(frame.line).say(self.at, ("thread", device), ["return", 0], [event.number], more={"device": device})
+            frame.steps["return"] = back
 
     def on_ut(self, event):
         frame = self.inside(event, "fz", line_of(event))
@@ -52,8 +53,9 @@ class Calls(Walk):
             self.reasons.setdefault(BEFORE, []).extend(frame.events if frame else ())
             return
         device, exact = outer.steps["device"], frame.steps.get("unmask")
-        self.line(frame.line).say(exact or frame.at, ("thread", device), ["finish", "cleared" if exact else None, "unmask" if exact else "asis"],
-                                  frame.events[1:], until=None if exact else self.at, more={"device": device})
+        words = ["finish", "cleared", "unmask"] if exact else ["finish", None, "asis"]
+        self.line(frame.line).say(exact or frame.at, ("thread", device), words, frame.events[1:], until=None if exact else self.at,
+                                  more={"device": device})
 
     def on_tr(self, event):
         frame = self.leave(event)
@@ -192,8 +194,11 @@ class Calls(Walk):
         inner = Frame(event, self.at)
         self.frames.setdefault(event.who, []).append(inner)
         waits = bool((value(event, "ist") or 0) & PENDING) and not (value(event, "sta") or 0) & LEVEL
-        inner.steps["words"] = step.words if step and "started" in step.words else request.steps.get("opened") if request else None
-        inner.steps["events"] = step.events if step and "started" in step.words else request.events if request else None
+        inner.steps["words"] = inner.steps["events"] = None
+        if step and "started" in step.words:
+            inner.steps["words"], inner.steps["events"] = step.words, step.events
+        elif request:
+            inner.steps["words"], inner.steps["events"] = request.steps.get("opened"), request.events
         if waits and inner.steps["words"]:
             inner.steps["words"][-1] = "soft"
 
@@ -276,7 +281,8 @@ class Calls(Walk):
         line = self.line(frame.line)
         if frame.step:
             device = frame.step.more["device"]
-            line.say(frame.step.at, frame.step.who, ["freed", device], frame.events, until=self.at, call=frame.step.call, more={"device": device})
+            line.say(frame.step.at, frame.step.who, ["freed", device], frame.events, until=self.at, call=frame.step.call,
+                     more={"device": device})
             device.action = None
         else:
             line.drop(frame.events, "a free that found nothing")
@@ -286,7 +292,8 @@ class Calls(Walk):
     def on_af(self, event):
         line, frame = self.line(line_of(event)), Frame(event, self.at)
         self.frames.setdefault(event.who, []).append(frame)
-        frame.step = line.say(self.at, self.caller(event), ["affinity", value(event, "msk") or 0, "later"], [event.number], call=["affinity"])
+        words = ["affinity", value(event, "msk") or 0, "later"]
+        frame.step = line.say(self.at, self.caller(event), words, [event.number], call=["affinity"])
 
     def on_ay(self, event):
         frame = self.leave(event)

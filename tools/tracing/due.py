@@ -87,8 +87,9 @@ class Due:
     def of_flow(self):
         if self.at_work:
             kind, asked = self.devices[self.at_work], self.seen[self.at_work]
-            answer = "wake 0" if kind == "null" or kind == "check" and asked else f"handled {asked}" if kind == "direct" and asked else "nothing 0"
-            return f"return {self.at_work} {answer}"
+            if kind == "null" or kind == "check" and asked:
+                return f"return {self.at_work} wake 0"
+            return f"return {self.at_work} {f'handled {asked}' if kind == 'direct' and asked else 'nothing 0'}"
         ahead = [it for it in self.linked if it not in self.called]
         if ahead:
             return f"begin {ahead[0]}"
@@ -124,7 +125,8 @@ class Due:
         return f"moment {words[1]}"
 
     def first_affinity(self, words):
-        return f"affinity {words[1]} " + ("refused 22" if not int(words[1]) & (1 << self.cpus) - 1 else "later" if self.later else "now")
+        there = int(words[1]) & (1 << self.cpus) - 1
+        return f"affinity {words[1]} {'refused 22' if not there else 'later' if self.later else 'now'}"
 
     def resend(self):
         return "chip" if self.kind == "edge" and self.pending else "no"

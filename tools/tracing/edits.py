@@ -13,6 +13,11 @@ from events import line_of
 KINDS = ("taken out", "doubled", "turned round")
 
 
+def is_next(event, other):
+    """Whether the other event is of the same processor and line, and of another kind."""
+    return other.cpu == event.cpu and line_of(other) == line_of(event) and other.name != event.name
+
+
 def edited(trace, kind, place):
     """The trace with one event changed, and what was changed; None where that can't be."""
     wrong = copy.copy(trace)
@@ -23,8 +28,8 @@ def edited(trace, kind, place):
     elif kind == "doubled":
         events.insert(place + 1, event)
     else:
-        other = next((n for n in range(place + 1, min(place + 60, len(events))) if events[n].cpu == event.cpu and line_of(events[n]) == line_of(event)
-                      and events[n].name != event.name), None)
+        near = range(place + 1, min(place + 60, len(events)))
+        other = next((it for it in near if is_next(event, events[it])), None)
         if other is None:
             return None
         events[place], events[other] = events[other], events[place]
@@ -38,7 +43,8 @@ def verdict(trace):
     lines = walk.walk()
     judged = [judging.Line(lines[it], trace.head["cpus"] or 32).judge(1) for it in sorted(lines) if lines[it].steps]
     _, reasons, _ = judging.accounts(trace, walk, judged)
-    return [it.unlawful[0].text for it in judged if it.unlawful], {**{why: len(them) for why, them in reasons.items()}, **walk.faults}
+    counts = {why: len(them) for why, them in reasons.items()}
+    return [it.unlawful[0].text for it in judged if it.unlawful], {**counts, **walk.faults}
 
 
 def try_edits(trace, count, seed):

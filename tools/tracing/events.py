@@ -52,7 +52,9 @@ def read_event(number, row):
     if not found:
         return None
     task, pid, cpu, flags, time, name, rest = found.groups()
-    args = {"text": rest} if name == "tracing_mark_write" else {key: quoted or plain for key, quoted, plain in FIELD.findall(rest)}
+    args = {key: quoted or plain for key, quoted, plain in FIELD.findall(rest)}
+    if name == "tracing_mark_write":
+        args = {"text": rest}
     if name == "irq_handler_entry":
         args["name"] = rest.partition("name=")[2]
     ticks = int(time.replace(".", "")) if "." in time else int(time)

@@ -77,7 +77,8 @@ def reason_of(piece, place):
     if word == "take":
         return take_reason(row, before)
     if word in ("enable", "request") and "started" in row.words:
-        return "who-resends" if before and any(it.words[0] == "take" and it.words[2] == "off" for it in before[-200:]) else "causes"
+        was_off = any(it.words[0] == "take" and it.words[2] == "off" for it in before[-200:])
+        return "who-resends" if was_off else "causes"
     if word == "enable":
         return "unlinked-enable"
     if word == "request":
@@ -97,7 +98,7 @@ def take_reason(row, before):
         return "tasklet"
     recent = before[-40:]
     moves = [it for it in recent if it.words[0] == "affinity"]
-    masks = [it for it in recent if it.words[0] == "unlink" and it.words[2] == "last" or it.words[0] == "take" and it.words[2] != "handle"]
+    masks = [it for it in recent if it.words[::2] in (["unlink", "last"], ["take", "off"], ["take", "busy"])]
     if row.reason == "old processor" or moves and 1 << int(row.who[1:]) != moves[-1].words[1]:
         return "waiting-move" if moves[-1].words[2] == "later" else "sent-signal"
     return "take-waits" if masks else ""
@@ -129,7 +130,8 @@ class Line:
             log = list(written.log())
             at, due = first_difference(written.board(), log)
             self.rows += entry
-            self.unlawful.append(Unlawful(piece, entry - 1, log[entry - 1], due if at == entry else "?", reason_of(piece, entry - 1)))
+            due = due if at == entry else "?"
+            self.unlawful.append(Unlawful(piece, entry - 1, log[entry - 1], due, reason_of(piece, entry - 1)))
             if len(self.unlawful) >= most or piece.rows[entry - 1].place is None:
                 break
             cuts.add(piece.rows[entry - 1].place)
@@ -175,5 +177,5 @@ def accounts(trace, walk, judged):
     counted = set().union(*reasons.values()) if reasons else set()
     left = {it.number for it in trace.events} - placed - counted
     if left:
-        reasons["beyond the last row that was judged"] = left
+        reasons["around an interrupt that the probes missed, or beyond the last row that was judged"] = left
     return placed, reasons, len(placed) + sum(len(it) for it in reasons.values()) == len(trace.events)

@@ -12,6 +12,8 @@ from steps import ONESHOT, SHARED
 # A board has 16,384 calls; a piece ends at the first rest after so many.
 CALLS = int(__import__("os").environ.get("TRACE_CALLS", "15000"))
 WINDOW, LIMIT = 100000, 99900
+# The rows with which a call begins.
+FIRST = ("request", "disable", "enable", "unlink", "affinity", "ask", "moment")
 # Milliseconds of a tick on the kernel that was tried (CONFIG_HZ=250), and after how many ticks the count begins anew (HZ/10).
 TICK, FAR = 4, 25
 
@@ -61,7 +63,8 @@ class State:
         return bool(self.woken or self.running)
 
     def is_at_rest(self):
-        return not (self.flow or self.is_active() or self.freeing or self.unfinished or self.pending or self.masked) and self.depth == 0 and self.linked
+        works = self.flow or self.is_active() or self.freeing or self.unfinished
+        return not (works or self.pending or self.masked or self.depth) and bool(self.linked)
 
     def apply(self, row):
         getattr(self, "do_" + row.words[0])(row)
@@ -170,6 +173,7 @@ class Laying:
         self.steps = sorted(line.steps, key=lambda it: it.at)
         self.target, self.coming, self.kinds, self.base = 0, None, {}, 0
         self.moved, self.searched, self.place, self.due_cut = 0, 0, None, False
+        self.holes, self.skipped, self.is_skipping = list(line.holes), 0, False
 
     def lay(self):
         if not self.steps:
@@ -179,6 +183,8 @@ class Laying:
         for place, step in enumerate(self.steps):
             self.due_cut = self.due_cut or place - 1 in self.cuts
             self.place = place
+            if self.is_over_hole(step, place):
+                continue
             if step.until is not None:
                 self.waits.append(step)
                 self.settle_waits(step.at)
@@ -189,6 +195,21 @@ class Laying:
             self.put_step(step)
         self.settle_waits(float("inf"))
         return self.pieces
+
+    def is_over_hole(self, step, place):
+        """Where probes missed an interrupt, the steps up to the next rest stand in no row: a new piece begins there."""
+        while self.holes and self.holes[0] < step.at:
+            self.holes.pop(0)
+            self.is_skipping, self.waits = True, []
+            self.state.pending = self.state.masked = False
+        if self.is_skipping and step.words[0] == "take" and self.state.is_at_rest():
+            self.is_skipping = False
+            self.begin(self.state.linked, 0, place)
+        if self.is_skipping:
+            words = ["take", step.words[1], step.words[2] or "off"] if step.words[0] == "take" else list(step.words)
+            self.state.apply(Row(step.who, words, []))
+            self.skipped += 1
+        return self.is_skipping
 
     def fill_notes(self):
         """What a note made of the counts is seen by the next note."""
@@ -235,7 +256,7 @@ class Laying:
         return ("s" if flags & SHARED else "") + ("o" if flags & ONESHOT else "") or "-"
 
     def prelude(self, piece, place):
-        """A round in which nothing is found, so that the count of unhandled ends isn't 0; and one that wakes, if the last did."""
+        """A round in which nothing is found, so that the count of unhandled ends isn't 0; before it one that wakes, if the last did."""
         if not piece.linked or piece.depth:
             return
         why = "the count of unhandled ends before this piece"
@@ -245,8 +266,8 @@ class Laying:
             if device:
                 self.ask(device, why)
                 self.round(piece, device, "quiet", why)
-                run = [["begin"], ["return", 0], *([["finish", "cleared", "unmask" if self.state.masked else "asis"]] if self.state.is_oneshot else []), ["done"]]
-                for words in run:
+                finish = ["finish", "cleared", "unmask" if self.state.masked else "asis"]
+                for words in [["begin"], ["return", 0], *([finish] if self.state.is_oneshot else []), ["done"]]:
                     self.put(Row(("thread", device), words, [], why))
         self.ask(None, why)
         self.round(piece, None, "counted", why)
@@ -292,8 +313,7 @@ class Laying:
     def put(self, row):
         row.place = self.place
         self.pieces[-1].rows.append(row)
-        self.pieces[-1].calls += row.call is not None and row.words[0] in ("request", "disable", "enable", "unlink", "affinity", "ask", "moment") \
-            or row.words[0] == "hardclear" and row.call == ["sync"]
+        self.pieces[-1].calls += row.call is not None and (row.words[0] in FIRST or row.words[0] == "hardclear" and row.call == ["sync"])
         self.state.apply(row)
 
     def ask(self, device, reason):
@@ -315,7 +335,7 @@ class Laying:
                 if self.state.asks.get(device, 0) == 0:
                     self.ask(device, "its handler found it")
             elif answer == "nothing" and self.state.asks.get(device, 0) > 0:
-                self.pieces[-1].unfit.append("a handler that finds nothing though its device was found by it before and not served since")
+                self.pieces[-1].unfit.append("a handler that finds nothing, though its thread has yet to serve what it found")
         elif kind == "begin" and step.more["device"] not in self.state.woken:
             self.move_begin(step.more["device"])
         elif kind == "end" and step.more.get("note") and int(step.more["note"].args.get("ret", 1)) == 0:
@@ -364,7 +384,7 @@ class Laying:
         if words[2] in ("now", "later"):
             self.pieces[-1].answers.add(words[2])
         self.moved += step.who == ("own",)
-        self.put(Row(step.who, words, step.events, call=step.call, reason=f"mask {mask:x} in the kernel" if mask != words[1] else ""))
+        self.put(Row(step.who, words, step.events, call=step.call))
 
     # ---- what is made without the lock
 
@@ -395,7 +415,7 @@ class Laying:
         """Puts the waiting steps that may come, in their order; one whose time is over is put as it is."""
         left = []
         for step in self.waits:
-            held = any(it.call is step.call and step.call is not None or it.who == step.who and it.who[0] == "thread" for it in left)
+            held = any(it.call is not None and it.call is step.call or it.who[0] == "thread" and it.who == step.who for it in left)
             if not held and (self.may(step) or step.until <= at):
                 self.pieces[-1].forced += not self.may(step)
                 if step.words[0] == "finish" and step.words[1] is None:

@@ -17,6 +17,8 @@ STATE = "sta=1 irq_desc irq_common_data.state_use_accessors x32"
 INTERNAL = f"ist=1 irq_desc {ISTATE} x32"
 ONESHOT = "one=1 irq_desc threads_oneshot x64"
 ACTION = "act=2 x64"
+# A compiler may have split it.
+FINALIZE = "irq_finalize_oneshot|irq_finalize_oneshot.part.0|irq_finalize_oneshot.isra.0"
 
 # Event, p for an entry or r for a return, functions, fields, and what is lost where it can't be set. An event whose name
 # begins with `@` is of a chip: it stands under the lock too, and narrows what else is placed between two events.
@@ -46,8 +48,8 @@ PROBES = (
     ("tf", "p", "irq_thread_fn", (IRQ, ACTION), "runs of threads"),
     ("tr", "r", "irq_thread_fn", ("ret=r u32",), "runs of threads"),
     ("ff", "p", "irq_forced_thread_fn", (IRQ, ACTION), "forced threads"),
-    ("fz", "p", "irq_finalize_oneshot|irq_finalize_oneshot.part.0|irq_finalize_oneshot.isra.0", (IRQ, ACTION), "finishes of one-shot threads"),
-    ("fx", "r", "irq_finalize_oneshot|irq_finalize_oneshot.part.0|irq_finalize_oneshot.isra.0", (), "finishes of one-shot threads"),
+    ("fz", "p", FINALIZE, (IRQ, ACTION), "finishes of one-shot threads"),
+    ("fx", "r", FINALIZE, (), "finishes of one-shot threads"),
     ("ut", "p", "unmask_threaded_irq", (IRQ, ONESHOT), "whether a finish unmasks"),
     # enable and disable
     ("di", "p", "disable_irq", ("irq=1 u32",), "that a disable waits"),

@@ -91,7 +91,8 @@ def definitions(btf, known):
             try:
                 texts.append(fetched(field, btf))
             except BadBtf as fault:
-                refused.append({"event": name, "function": found[0], "why": str(fault), "lost": f"the field {field.split('=')[0]}"})
+                field = field.split("=")[0]
+                refused.append({"event": name, "function": found[0], "why": str(fault), "lost": f"the field {field}"})
         head = f"r{OPEN}" if kind == "r" else "p"
         wanted.append((name, f"{head}:{GROUP}/{name} {found[0]} {' '.join(texts)}", lost, [it.split("=")[0] for it in texts]))
     return wanted, refused
@@ -109,7 +110,7 @@ class Probes:
         if not (TRACEFS / "kprobe_events").exists():
             raise Fault(f"{TRACEFS}/kprobe_events isn't there: a kernel with kprobe events, as root, with tracefs mounted")
         if self.room.exists():
-            raise Fault(f"{self.room} is there: another recording runs, or one was killed hard; `tools/trace record --clear` takes it down")
+            raise Fault(f"{self.room} is there: another recording runs, or one was killed hard; record --clear takes it down")
         wanted, self.refused = definitions(Btf(BTF.read_bytes(), STRUCTS), symbols())
         self.room.mkdir()
         write(self.room / "tracing_on", "0")

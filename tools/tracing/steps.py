@@ -21,6 +21,10 @@ PAIRS = {"di": "dx", "dh": "dy", "dn": "dz", "cr": "cx", "rq": "rr", "fi": "fr",
 ENDS = {end: begin for begin, end in PAIRS.items()}
 
 
+# Probes that come while another one runs on their processor are missed by the kernel; the trace points aren't.
+MISSED = "an interrupt that the probes missed"
+
+
 @dataclass(eq=False)
 class Step:
     """One row to be. `who` is c0, or ("task", P), ("device", D), ("thread", D), ("own",)."""
@@ -70,10 +74,11 @@ class LineSteps:
     def __init__(self, number, facts):
         self.number, self.facts = number, facts or {}
         self.steps, self.reasons, self.devices, self.linked = [], {}, [], []
-        self.kind, self.depth, self.flags, self.ends, self.targets, self.notes, self.acks = None, None, None, [], [], False, False
+        self.kind, self.depth, self.flags, self.notes, self.acks = None, None, None, False, False
+        self.ends, self.targets = [], []
         for name in [it for it in (self.facts.get("actions") or "").split(",") if it]:
             self.linked.append(self.add(name))
-        self.first, self.awake = list(self.linked), set()
+        self.first, self.awake, self.holes = list(self.linked), set(), []
 
     def add(self, name):
         self.devices.append(Device(len(self.devices) + 1, name))
@@ -114,7 +119,7 @@ class Walk:
 
     def __init__(self, trace):
         self.trace, self.lines, self.frames, self.flows, self.opening = trace, {}, {}, {}, {}
-        self.reasons, self.at, self.faults = {}, 0, {}
+        self.reasons, self.at, self.faults, self.polled = {}, 0, {}, set()
 
     # ---- what the parts are found by
 
@@ -223,6 +228,7 @@ class Walk:
         flow, line = self.flow(event, line_of(event)), self.line(line_of(event))
         line.seen_depth(value(event, "dep"))
         if not flow or flow.is_open:
+            self.polled.add(event.cpu)
             self.drop(event, "a call of handlers outside of a flow that is modelled")
             return
         line.targets.append((self.at, value(event, "eff")))
@@ -242,7 +248,9 @@ class Walk:
     def on_irq_handler_entry(self, event):
         flow, line = self.flow(event, line_of(event)), self.line(line_of(event))
         if not flow or not flow.is_open:
-            self.drop(event, "a handler outside of a flow that is modelled")
+            self.drop(event, "a handler outside of a flow that is modelled" if event.cpu in self.polled else MISSED)
+            if event.cpu not in self.polled:
+                line.holes.append(self.at)
             return
         self.settle(flow)
         device = line.of_name(event.args["name"], flow.called)
@@ -256,7 +264,7 @@ class Walk:
     def on_irq_handler_exit(self, event):
         flow = self.flow(event, line_of(event))
         if not flow or not flow.begun or flow.exit or flow.note:
-            self.drop(event, "a handler outside of a flow that is modelled")
+            self.drop(event, "a handler outside of a flow that is modelled" if flow or event.cpu in self.polled else MISSED)
         elif event.args.get("ret") == "unhandled":
             self.answered(flow, "nothing", self.at, [event.number])
         else:
@@ -297,6 +305,7 @@ class Walk:
     def on_hr(self, event):
         flow = next((it for it in reversed(self.flows.get(event.cpu, [])) if it.is_open), None)
         if not flow:
+            self.polled.discard(event.cpu)
             self.drop(event, "a return without its entry")
             return
         self.settle(flow)

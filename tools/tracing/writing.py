@@ -6,6 +6,7 @@ from steps import Device
 # The number of a line that the kernel calls 0, which a board can't.
 ZERO = 65535
 SPARE = 60000
+FLAGS = (("s", "shared"), ("o", "oneshot"), ("n", "noauto"))
 DOMAINS = {
     "msi": ["domain vector tree vector", "domain pci_msi tree msi parent vector"],
     "latch": ["domain io_apic tree latch"],
@@ -61,7 +62,7 @@ class Written:
         if word in ("request", "free", "ask"):
             flags = ""
             if word == "request":
-                flags = "".join(f" {name}" for letter, name in (("s", "shared"), ("o", "oneshot"), ("n", "noauto")) if letter in row.words[2])
+                flags = "".join(f" {name}" for letter, name in FLAGS if letter in row.words[2])
             return f"{word} {self.word(call[1])}{flags}"
         if word == "affinity":
             return f"affinity {self.number} {row.words[1]}"
@@ -74,12 +75,6 @@ class Written:
             return str(it.number)
         return str(SPARE) if it == "spare" else str(it)
 
-    def kind_of(self, device):
-        if device.is_null:
-            return "null"
-        answers = {it.words[2] for it in self.piece.rows if it.words[0] == "return" and it.words[1] is device and isinstance(it.who, str)}
-        return "check" if "wake" in answers else "direct"
-
     def kinds(self):
         answers = {}
         for it in self.piece.rows:
@@ -87,7 +82,8 @@ class Written:
                 answers.setdefault(it.words[1].number, set()).add(it.words[2])
             elif isinstance(it.who, tuple) and it.who[0] == "thread":
                 answers.setdefault(it.who[1].number, set()).add("wake")
-        return {it.number: "null" if it.is_null else "check" if "wake" in answers.get(it.number, ()) else "direct" for it in self.devices}
+        wakers = {number for number, found in answers.items() if "wake" in found}
+        return {it.number: "null" if it.is_null else "check" if it.number in wakers else "direct" for it in self.devices}
 
     def board(self):
         piece, (kind, domain) = self.piece, domain_of(self.piece.line)
