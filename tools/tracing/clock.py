@@ -1,23 +1,20 @@
-"""Has the clock of a machine of tools/trace_machine interrupt: periodic interrupts of /dev/rtc0.
+"""Has the clock of a machine of tools/trace_machine interrupt: once a second, as /dev/rtc0 moves on.
 
-    clock.py RATE SECONDS
+    clock.py SECONDS
 """
 
 import fcntl
 import os
 import sys
-import time
 
-# RTC_IRQP_SET, RTC_PIE_ON, RTC_PIE_OFF of include/uapi/linux/rtc.h on a 64-bit machine.
-SET, ON, OFF = 0x4008700C, 0x7005, 0x7006
+# RTC_UIE_ON and RTC_UIE_OFF of include/uapi/linux/rtc.h.
+ON, OFF = 0x7003, 0x7004
 
 
 def main(words):
     clock = os.open("/dev/rtc0", os.O_RDONLY)
-    fcntl.ioctl(clock, SET, int(words[0]))
     fcntl.ioctl(clock, ON)
-    ends = time.monotonic() + int(words[1])
-    while time.monotonic() < ends:
+    for _ in range(int(words[0])):
         os.read(clock, 8)
     fcntl.ioctl(clock, OFF)
     os.close(clock)
