@@ -1,0 +1,181 @@
+"""Has `genirq check` judge the pieces of a trace, and says what the first row is that isn't lawful, and why."""
+
+import os
+import re
+import subprocess
+from dataclasses import dataclass
+
+from calls import Calls
+from due import first_difference
+from events import read_trace
+from laying import Laying
+from repository import TOP
+from writing import Written
+
+GENIRQ = os.environ.get("GENIRQ", str(TOP / "genirq"))
+# So many rows that aren't lawful are told of one line; after each the trace is judged on from the next rest.
+MOST = 40
+AROUND = 6
+
+# The differences of docs/DEFINITIONS.md ("Where the rules aren't 6.1's") that a first unlawful row may be, by their anchors.
+TITLES = {
+    "sent-signal": "a signal that was sent already goes to the old processor",
+    "take-waits": "a take that waits for the lock",
+    "late-link": "a device that is linked after the last handler has returned",
+    "causes": "what interrupts come of",
+    "served-elsewhere": "who serves",
+    "tasklet": "where and when a soft resend runs",
+    "who-resends": "who can send again",
+    "waiting-move": "a change that waits",
+    "before-activation": "before the activation",
+    "busy-chip": "a chip that is busy",
+    "oneshot-safe": "chips that are safe for one-shot",
+    "noautoen": "a line that isn't enabled by its first request",
+    "unlinked-enable": "an enable while nothing is linked",
+    "kill-window": "the window of the note: a kill",
+    "note-threads": "the window of the note: threads",
+    "poll": "killed lines are polled",
+    "wake-in-two": "a wake in two parts",
+    "inner-calls": "calls out of handlers and threads",
+}
+
+
+class CannotJudge(Exception):
+    """The program can't be run, or calls a text that was made here malformed."""
+
+
+@dataclass
+class Unlawful:
+    """The first row of a piece that isn't lawful."""
+
+    piece: object
+    place: int
+    text: str
+    due: str | None
+    why: str
+
+
+def check(text):
+    """What `genirq check` says of a board and a log: None for lawful, else the number of the line's first unlawful entry."""
+    try:
+        run = subprocess.run([GENIRQ, "check"], input=text, capture_output=True, text=True, check=False)
+    except OSError as fault:
+        raise CannotJudge(f"{GENIRQ}: {fault.strerror}") from None
+    said = run.stdout.strip()
+    if said == "lawful" and run.returncode == 0:
+        return None
+    found = re.fullmatch(r"unlawful \d+ (\d+)", said)
+    if not found:
+        raise CannotJudge(f"{GENIRQ} check ended with {run.returncode}: {said or run.stderr.strip()}")
+    return int(found[1])
+
+
+def reason_of(piece, place):
+    """The difference that a row may be, by what stands before it; empty if none is known."""
+    row, before = piece.rows[place], piece.rows[:place]
+    word = row.words[0]
+    if word == "take":
+        return take_reason(row, before)
+    if word in ("enable", "request") and "started" in row.words:
+        was_off = any(it.words[0] == "take" and it.words[2] == "off" for it in before[-200:])
+        return "who-resends" if was_off else "causes"
+    if word == "enable":
+        return "unlinked-enable"
+    if word == "request":
+        return "oneshot-safe"
+    if word == "return":
+        return "served-elsewhere" if row.words[2] == "nothing" else "causes"
+    if word == "affinity":
+        return "before-activation"
+    if word == "end" and any(it.words[0] == "request" for it in before[-6:]):
+        return "late-link"
+    return ""
+
+
+def take_reason(row, before):
+    """Why a take may be unlawful."""
+    if row.words[1] == "resend":
+        return "tasklet"
+    recent = before[-40:]
+    moves = [it for it in recent if it.words[0] == "affinity"]
+    masks = [it for it in recent if it.words[::2] in (["unlink", "last"], ["take", "off"], ["take", "busy"])]
+    if row.reason == "old processor" or moves and 1 << int(row.who[1:]) != moves[-1].words[1]:
+        return "waiting-move" if moves[-1].words[2] == "later" else "sent-signal"
+    return "take-waits" if masks else ""
+
+
+class Line:
+    """One line of a trace, judged."""
+
+    def __init__(self, steps, cpus):
+        self.steps, self.cpus = steps, cpus
+        self.pieces, self.unlawful, self.rows, self.laying = [], [], 0, None
+
+    def lay(self, cuts):
+        self.laying = Laying(self.steps, cuts)
+        self.pieces = self.laying.lay()
+
+    def judge(self, most=MOST):
+        """Judges piece by piece; behind a row that isn't lawful the trace is cut at the next rest, and goes on."""
+        cuts, done, lawful = set(), 0, []
+        self.lay(cuts)
+        while done < len(self.pieces):
+            piece = self.pieces[done]
+            written = Written(piece, self.cpus)
+            entry = check("\n".join([*written.board(), "---", *written.log()]) + "\n")
+            if entry is None:
+                self.rows += len(piece.rows)
+                done += 1
+                continue
+            log = list(written.log())
+            at, due = first_difference(written.board(), log)
+            self.rows += entry
+            due = due if at == entry else "?"
+            self.unlawful.append(Unlawful(piece, entry - 1, log[entry - 1], due, reason_of(piece, entry - 1)))
+            if len(self.unlawful) >= most or piece.rows[entry - 1].place is None:
+                break
+            cuts.add(piece.rows[entry - 1].place)
+            self.lay(cuts)
+            done += 1
+        return self
+
+
+def title(line):
+    return f"line {line.number} ({', '.join(dict.fromkeys(it.name for it in line.devices)) or 'no action'})"
+
+
+def around(trace, row, index):
+    """The events near a row, with their times."""
+    numbers = row.events or []
+    if not numbers:
+        return []
+    place = index[numbers[-1]]
+    rate, first = trace.span(), trace.events[0].time
+    for it in trace.events[max(0, place - AROUND) : place + 3]:
+        when = f"{(it.time - first) / rate * 1e6:.1f} us" if rate else str(it.time)
+        yield f"      {it.number:7} {when:>16} c{it.cpu} {it.task}-{it.pid} {it.name}: {it.text}"
+
+
+def walked(name):
+    """A recording, and its lines that can be judged."""
+    trace = read_trace(name)
+    walk = Calls(trace)
+    lines = walk.walk()
+    return trace, walk, [lines[it] for it in sorted(lines) if lines[it].steps]
+
+
+def accounts(trace, walk, judged):
+    """Where each event is: in a row of a piece, or in a count by reason; and whether the two add up."""
+    placed, reasons = set(), {}
+    for line in judged:
+        for piece in line.pieces:
+            for row in piece.rows:
+                placed.update(row.events)
+    for source in [walk.reasons, *(it.reasons for it in walk.lines.values())]:
+        for reason, numbers in source.items():
+            reasons.setdefault(reason, set()).update(numbers)
+    counted = set().union(*reasons.values()) if reasons else set()
+    left = {it.number for it in trace.events} - placed - counted
+    if left:
+        reasons["around an interrupt that the probes missed, or beyond the last row that was judged"] = left
+    return placed, reasons, len(placed) + sum(len(it) for it in reasons.values()) == len(trace.events)
