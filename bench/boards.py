@@ -23,6 +23,27 @@ def storms(lines, rounds, log=1000000, at_once=False):
     return rows + ["picks " + " ".join(f"d{i}*2" for i in range(1, lines + 1))] * at_once
 
 
+def four_lines(rules, calls):
+    """Four level lines, each with a device that nobody recognises and a driver, whose calls are of its own device."""
+    rows = ["board 1", *rules, "domain intc linear 8 level", *(f"line {i} intc {i}" for i in range(1, 5))]
+    rows += [f"device {i} {i} stuck" for i in range(1, 5)]
+    for i in range(1, 5):
+        rows += [f"driver {i}", *(f"{call} {i}{flags}" for call, flags in calls[i == 4])]
+    return rows
+
+
+def storm():
+    """Each of four lines is in a storm until the rule on spurious interrupts ends it."""
+    calls = [("request", " shared"), ("ask", "")]
+    return four_lines(["spurious 1500 1400", "log 100000"], [calls, calls])
+
+
+def four_stuck():
+    """The same under the rule's own numbers; three of the drivers enable their line behind the ask."""
+    calls = [("request", " shared"), ("ask", "")]
+    return four_lines(["log 1000000"], [[*calls, ("enable", "")], calls])
+
+
 def crowd(rounds):
     """64 lines, 256 devices, 32 processors and 64 drivers: on each line three devices share it with one that nobody
     recognises, until it is killed after so many rounds of ten entries each."""
@@ -87,6 +108,9 @@ def main(folder):
         "crowd_threads.board": "\n".join(crowd_threads(3100)) + "\n",
         "threads.board": "\n".join(calls()) + "\n",
         "wide_storms.board": "\n".join(storms(32, 31249, 125000, True)) + "\n",
+        "storm.board": "\n".join(storm()) + "\n",
+        "four_stuck.board": "\n".join(four_stuck()) + "\n",
+        "latch.board": LATCH + "ask 1\n" * 4000 + "free 1\n",
         "few_storms.board": "\n".join(storms(4, 1500)) + "\n",
         "few_wide_storms.board": "\n".join(storms(32, 190, 125000, True)) + "\n",
         "few_threads.board": "\n".join(threads(4, 600)) + "\n",
