@@ -48,8 +48,8 @@ class Clock:
         self.begun, self.rate = {}, 1.0
 
     def left(self, seconds, done, kept=()):
-        """The seconds that are left after so many, if these crates are done, some of them kept from earlier runs; and as the table has it,
-        where too little is done to tell how fast this machine is."""
+        """The seconds that are left after so many, if these crates are done, some of them kept from earlier runs. Where too
+        little is done to tell how fast this machine is, it is as the table has it."""
         costs = {name: 0.0 if name in kept else cost for name, cost in self.costs.items()}
         busy = sum(name not in done for name in self.begun)
         gain = 1 + (max(1, min(4, self.lanes // max(busy, 1))) - 1) / 3
