@@ -106,6 +106,8 @@ class Calls(Walk):
             frame.step.events.append(event.number)
         else:
             depth = value(event, "dep")
+            if depth == 1:
+                self.fault("a disable without its hold")
             self.line(frame.line).seen_depth(depth - 1 if depth else None)
             frame.step = self.disabled(frame, event, self.at)
 
@@ -286,6 +288,8 @@ class Calls(Walk):
             device.action = None
         else:
             line.drop(frame.events, "a free that found nothing")
+            if value(event, "ret"):
+                self.fault("a free without its unlink")
 
     # ---- affinity
 

@@ -9,6 +9,7 @@ from calls import Calls
 from due import first_difference
 from events import read_trace
 from laying import Laying
+from reasons import reason_of
 from repository import TOP
 from writing import Written
 
@@ -16,28 +17,6 @@ GENIRQ = os.environ.get("GENIRQ", str(TOP / "genirq"))
 # So many rows that aren't lawful are told of one line; after each the trace is judged on from the next rest.
 MOST = 40
 AROUND = 6
-
-# The differences of docs/DEFINITIONS.md ("Where the rules aren't 6.1's") that a first unlawful row may be, by their anchors.
-TITLES = {
-    "sent-signal": "a signal that was sent already goes to the old processor",
-    "take-waits": "a take that waits for the lock",
-    "late-link": "a device that is linked after the last handler has returned",
-    "causes": "what interrupts come of",
-    "served-elsewhere": "who serves",
-    "tasklet": "where and when a soft resend runs",
-    "who-resends": "who can send again",
-    "waiting-move": "a change that waits",
-    "before-activation": "before the activation",
-    "busy-chip": "a chip that is busy",
-    "oneshot-safe": "chips that are safe for one-shot",
-    "noautoen": "a line that isn't enabled by its first request",
-    "unlinked-enable": "an enable while nothing is linked",
-    "kill-window": "the window of the note: a kill",
-    "note-threads": "the window of the note: threads",
-    "poll": "killed lines are polled",
-    "wake-in-two": "a wake in two parts",
-    "inner-calls": "calls out of handlers and threads",
-}
 
 
 class CannotJudge(Exception):
@@ -70,40 +49,6 @@ def check(text):
     return int(found[1])
 
 
-def reason_of(piece, place):
-    """The difference that a row may be, by what stands before it; empty if none is known."""
-    row, before = piece.rows[place], piece.rows[:place]
-    word = row.words[0]
-    if word == "take":
-        return take_reason(row, before)
-    if word in ("enable", "request") and "started" in row.words:
-        was_off = any(it.words[0] == "take" and it.words[2] == "off" for it in before[-200:])
-        return "who-resends" if was_off else "causes"
-    if word == "enable":
-        return "unlinked-enable"
-    if word == "request":
-        return "oneshot-safe"
-    if word == "return":
-        return "served-elsewhere" if row.words[2] == "nothing" else "causes"
-    if word == "affinity":
-        return "before-activation"
-    if word == "end" and any(it.words[0] == "request" for it in before[-6:]):
-        return "late-link"
-    return ""
-
-
-def take_reason(row, before):
-    """Why a take may be unlawful."""
-    if row.words[1] == "resend":
-        return "tasklet"
-    recent = before[-40:]
-    moves = [it for it in recent if it.words[0] == "affinity"]
-    masks = [it for it in recent if it.words[::2] in (["unlink", "last"], ["take", "off"], ["take", "busy"])]
-    if row.reason == "old processor" or moves and 1 << int(row.who[1:]) != moves[-1].words[1]:
-        return "waiting-move" if moves[-1].words[2] == "later" else "sent-signal"
-    return "take-waits" if masks else ""
-
-
 class Line:
     """One line of a trace, judged."""
 
@@ -131,7 +76,8 @@ class Line:
             at, due = first_difference(written.board(), log)
             self.rows += entry
             due = due if at == entry else "?"
-            self.unlawful.append(Unlawful(piece, entry - 1, log[entry - 1], due, reason_of(piece, entry - 1)))
+            why = reason_of(piece.rows[entry - 1], due, piece.rows[: entry - 1])
+            self.unlawful.append(Unlawful(piece, entry - 1, log[entry - 1], due, why))
             if len(self.unlawful) >= most or piece.rows[entry - 1].place is None:
                 break
             cuts.add(piece.rows[entry - 1].place)

@@ -10,7 +10,7 @@ from dataclasses import dataclass, field
 from steps import ONESHOT, SHARED
 
 # A board has 16,384 calls; a piece ends at the first rest after so many.
-CALLS = int(__import__("os").environ.get("TRACE_CALLS", "15000"))
+CALLS = 15000
 WINDOW, LIMIT = 100000, 99900
 # The rows with which a call begins.
 FIRST = ("request", "disable", "enable", "unlink", "affinity", "ask", "moment")
