@@ -14,8 +14,8 @@ from repository import TOP
 from writing import Written
 
 GENIRQ = os.environ.get("GENIRQ", str(TOP / "genirq"))
-# So many rows that aren't lawful are told of one line; after each the trace is judged on from the next rest.
-MOST = 40
+# So many rows that aren't lawful are looked for on one line; after each the trace is judged on from the next rest.
+MOST = 1000
 AROUND = 6
 
 
@@ -76,13 +76,14 @@ class Line:
             at, due = first_difference(written.board(), log)
             self.rows += entry
             due = due if at == entry else "?"
-            why = reason_of(piece.rows[entry - 1], due, piece.rows[: entry - 1])
+            why = reason_of(piece.rows[entry - 1], due, piece.rows[: entry - 1], piece.target)
             self.unlawful.append(Unlawful(piece, entry - 1, log[entry - 1], due, why))
+            done += 1
             if len(self.unlawful) >= most or piece.rows[entry - 1].place is None:
                 break
-            cuts.add(piece.rows[entry - 1].place)
-            self.lay(cuts)
-            done += 1
+            if piece.broken != entry - 1:
+                cuts.add(piece.rows[entry - 1].place)
+                self.lay(cuts)
         return self
 
 

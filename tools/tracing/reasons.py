@@ -29,24 +29,27 @@ TITLES = {
 }
 
 
-def reason_of(row, due, before):
-    """The difference that a row may be; empty if none is known."""
+def reason_of(row, due, before, target):
+    """The difference that a row may be; empty if none is known. `target` is what the piece's line was aimed at first."""
     due = (due or "").split()
+    if row.words[0] == "take":
+        return of_take(row, due, before, target)
     return {
-        "take": of_take, "end": of_end, "return": of_return, "begin": of_begin, "enable": of_opening, "request": of_request,
+        "end": of_end, "return": of_return, "begin": of_begin, "enable": of_opening, "request": of_request,
         "affinity": of_affinity, "synced": lambda *_: "wake-in-two",
     }.get(row.words[0], lambda *_: "")(row, due, before)
 
 
-def of_take(row, due, before):
+def of_take(row, due, before, target):
     """A take that isn't due: the line was moved or masked shortly before, or it is a resend."""
     if row.words[1] == "resend":
         return "tasklet"
-    recent = before[-40:]
-    moves = [it for it in recent if it.words[0] == "affinity" and it.words[2] in ("now", "later")]
-    if moves and 1 << int(row.who[1:]) != moves[-1].words[1]:
-        return "waiting-move" if moves[-1].words[2] == "later" else "sent-signal"
-    masked = any(it.words[::2] in (["unlink", "last"], ["take", "off"], ["take", "busy"]) for it in recent)
+    places = [place for place, it in enumerate(before) if it.words[0] == "affinity" and it.words[2] in ("now", "later")]
+    change = before[places[-1]] if places else None
+    if 1 << int(row.who[1:]) != (change.words[1] if change else target):
+        waits = change and change.words[2] == "later" and not any(it.words[0] == "take" for it in before[places[-1] :])
+        return "waiting-move" if waits else "sent-signal"
+    masked = any(it.words[::2] in (["unlink", "last"], ["take", "off"], ["take", "busy"]) for it in before[-40:])
     return "take-waits" if masked and not due else ""
 
 
