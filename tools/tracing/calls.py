@@ -311,11 +311,9 @@ class Calls(Walk):
             change.step.events += frame.events
         elif flow:
             (flow.take.events if flow.take else flow.events).extend(frame.events)
-        elif opening:
-            opening.events.extend(frame.events)
         elif answer == 0:
-            line.say(frame.at, ("own",), ["affinity", value(frame.event, "msk") or 0, "now"], frame.events, call=["affinity"],
-                     more={"moved": "a processor goes offline" if self.inside(event, "mo") else "nobody called it"})
+            words = ["affinity", value(frame.event, "msk") or 0, "now"]
+            line.say(frame.at, ("own",), words, frame.events, call=["affinity"], more={"is_start": bool(opening)})
         else:
             line.drop(frame.events, "a move that the chip refused")
 

@@ -51,8 +51,6 @@ def try_edits(trace, count, seed):
     """Tries so many edits; of each kind and event how many there were and how many were found, and the others by event."""
     drawn, found, missed = random.Random(seed), {}, {}
     good_rows, good_reasons = verdict(trace)
-    if good_rows:
-        raise ValueError("the trace isn't lawful as it is")
     done = 0
     while done < count:
         kind, place = drawn.choice(KINDS), drawn.randrange(len(trace.events))
@@ -61,7 +59,7 @@ def try_edits(trace, count, seed):
             continue
         done += 1
         rows, reasons = verdict(wrong)
-        is_found = bool(rows) or any(reasons.get(why, 0) > good_reasons.get(why, 0) for why in reasons)
+        is_found = rows != good_rows or any(reasons.get(why, 0) > good_reasons.get(why, 0) for why in reasons)
         tries = found.setdefault(kind, [0, 0])
         tries[0] += 1
         tries[1] += is_found

@@ -5,6 +5,7 @@ first place where it may, an ask stands before the take or the begin that shows 
 converter adds, is made by drivers of its own and has a reason in place of events.
 """
 
+from bisect import bisect_left
 from dataclasses import dataclass, field
 
 from steps import ONESHOT, SHARED
@@ -67,6 +68,10 @@ class State:
     def is_at_rest(self):
         works = self.flow or self.is_active() or self.freeing or self.unfinished
         return not (works or self.pending or self.masked or self.depth) and bool(self.linked)
+
+    def is_unused(self):
+        """Whether nothing is linked, and nothing is left of what was."""
+        return not (self.linked or self.flow or self.is_active() or self.freeing or self.pending)
 
     def apply(self, row):
         getattr(self, "do_" + row.words[0])(row)
@@ -195,7 +200,8 @@ class Laying:
                 continue
             self.settle_waits(step.at)
             # a move at once makes void a change that waits
-            is_free = self.state.is_at_rest() and not self.waits and (self.coming is None or step.who == ("own",))
+            is_free = not self.waits and (self.coming is None or step.who == ("own",))
+            is_free = is_free and (self.state.is_at_rest() or self.state.is_unused())
             if is_free and (self.due_cut or self.wants_cut(step)):
                 self.begin(self.state.linked, 0, place)
             self.put_step(step)
@@ -302,12 +308,11 @@ class Laying:
         cpu = next(cpus, None)
         return 1 << int(cpu[1:]) if cpu else self.next_target(self.steps[place].at)
 
-    def next_target(self, at):
-        """Where the kernel aims the line at a place: the first processor that its handled takes show from there on."""
-        for place, mask in self.line.targets:
-            if place >= at and mask:
-                return cpu_of(mask)
-        return cpu_of(self.line.targets[-1][1]) if self.line.targets and self.line.targets[-1][1] else 1
+    def next_target(self, at, second=False):
+        """Where the kernel aims the line from a place on, as its next handled take shows, or the one after that: a move that
+        waits is made before the handlers of an edge line, and after those of another."""
+        masks = [mask for place, mask in self.line.targets[bisect_left(self.line.targets, (at, 0)) :][: 1 + second] if mask]
+        return cpu_of(masks[-1]) if masks else cpu_of(self.line.targets[-1][1] or 1) if self.line.targets else 1
 
     def wants_cut(self, step):
         piece = self.pieces[-1]
@@ -384,8 +389,12 @@ class Laying:
             self.target, self.coming = self.coming, None
 
     def put_affinity(self, step):
-        target, mask, words = self.next_target(step.at + 1), step.words[1], list(step.words)
+        mask, words = step.words[1], list(step.words)
+        target = mask if mask & mask - 1 == 0 else self.next_target(step.at + 1, words[2] == "later" and self.line.kind != "edge")
         words[1] = target if target & mask else cpu_of(mask) or mask
+        if step.who == ("own",) and words[1] == self.target and self.coming is None:
+            self.line.drop(step.events, "a start or a move that aims a line where it is aimed")
+            return
         if words[2] == "now":
             self.target = words[1]
         elif words[2] == "later":

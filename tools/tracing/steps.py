@@ -234,7 +234,7 @@ class Walk:
             self.polled.add(event.cpu)
             self.drop(event, "a call of handlers outside of a flow that is modelled")
             return
-        line.targets.append((self.at, value(event, "eff")))
+        line.targets.append((self.at, value(event, "eff") or 0))
         if value(event, "flg") is not None and line.flags is None:
             line.flags = value(event, "flg")
         flow.is_open, flow.begun, flow.called = True, None, []
