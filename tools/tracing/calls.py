@@ -4,6 +4,7 @@ from events import line_of, value
 from steps import ERRNO, LEVEL, NO_AUTOEN, ONESHOT, PENDING, SHARED, Frame, Walk
 
 
+EBUSY = -16
 BEFORE = "a run of a thread that was woken before the trace"
 
 
@@ -311,6 +312,7 @@ class Calls(Walk):
             change.step.events += frame.events
         elif flow:
             (flow.take.events if flow.take else flow.events).extend(frame.events)
+            line.busy += [self.at] if answer == EBUSY else []
         elif answer == 0:
             words = ["affinity", value(frame.event, "msk") or 0, "now"]
             line.say(frame.at, ("own",), words, frame.events, call=["affinity"], more={"is_start": bool(opening)})

@@ -60,6 +60,13 @@ class Line:
         self.laying = Laying(self.steps, cuts)
         self.pieces = self.laying.lay()
 
+    def was_busy(self, piece, place):
+        """Whether the chip refused a move shortly before a row: since the change before the last one."""
+        steps = self.laying.steps
+        changes = [it.place for it in piece.rows[:place] if it.words[0] == "affinity" and it.place is not None][-2:]
+        since = steps[changes[0]].at if len(changes) == 2 else 0
+        return any(since <= at <= steps[piece.rows[place].place].at for at in self.steps.busy)
+
     def judge(self, most=MOST):
         """Judges piece by piece; behind a row that isn't lawful the trace is cut at the next rest, and goes on."""
         cuts, done, lawful = set(), 0, []
@@ -77,6 +84,8 @@ class Line:
             self.rows += entry
             due = due if at == entry else "?"
             why = reason_of(piece.rows[entry - 1], due, piece.rows[: entry - 1], piece.target)
+            if why in ("waiting-move", "sent-signal") and self.was_busy(piece, entry - 1):
+                why = "busy-chip"
             self.unlawful.append(Unlawful(piece, entry - 1, log[entry - 1], due, why))
             done += 1
             if len(self.unlawful) >= most or piece.rows[entry - 1].place is None:

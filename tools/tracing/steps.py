@@ -73,7 +73,7 @@ class LineSteps:
     def __init__(self, number, facts):
         self.number, self.facts = number, facts or {}
         self.steps, self.reasons, self.devices, self.linked = [], {}, [], []
-        self.kind, self.depth, self.flags, self.ends, self.targets, self.acks = None, None, None, [], [], []
+        self.kind, self.depth, self.flags, self.ends, self.targets, self.acks, self.busy = None, None, None, [], [], [], []
         for name in [it for it in (self.facts.get("actions") or "").split(",") if it]:
             self.linked.append(self.add(name))
         self.first, self.awake, self.holes = list(self.linked), set(), []
