@@ -4,6 +4,7 @@ from events import line_of, value
 from steps import ERRNO, LEVEL, NO_AUTOEN, ONESHOT, PENDING, SHARED, Frame, Walk
 
 
+EBUSY = -16
 BEFORE = "a run of a thread that was woken before the trace"
 
 
@@ -106,6 +107,8 @@ class Calls(Walk):
             frame.step.events.append(event.number)
         else:
             depth = value(event, "dep")
+            if depth == 1:
+                self.fault("a disable without its hold")
             self.line(frame.line).seen_depth(depth - 1 if depth else None)
             frame.step = self.disabled(frame, event, self.at)
 
@@ -286,6 +289,8 @@ class Calls(Walk):
             device.action = None
         else:
             line.drop(frame.events, "a free that found nothing")
+            if value(event, "ret"):
+                self.fault("a free without its unlink")
 
     # ---- affinity
 
@@ -307,11 +312,10 @@ class Calls(Walk):
             change.step.events += frame.events
         elif flow:
             (flow.take.events if flow.take else flow.events).extend(frame.events)
-        elif opening:
-            opening.events.extend(frame.events)
+            line.busy += [self.at] if answer == EBUSY else []
         elif answer == 0:
-            line.say(frame.at, ("own",), ["affinity", value(frame.event, "msk") or 0, "now"], frame.events, call=["affinity"],
-                     more={"moved": "a processor goes offline" if self.inside(event, "mo") else "nobody called it"})
+            words = ["affinity", value(frame.event, "msk") or 0, "now"]
+            line.say(frame.at, ("own",), words, frame.events, call=["affinity"], more={"is_start": bool(opening)})
         else:
             line.drop(frame.events, "a move that the chip refused")
 

@@ -47,12 +47,19 @@ def verdict(trace):
     return [it.unlawful[0].text for it in judged if it.unlawful], {**counts, **walk.faults}
 
 
+def differs(wrong, good_rows, good_reasons):
+    """Whether a trace is told from the good one. A row that isn't one tells it, too."""
+    try:
+        rows, reasons = verdict(wrong)
+    except judging.CannotJudge:
+        return True
+    return rows != good_rows or any(reasons.get(why, 0) > good_reasons.get(why, 0) for why in reasons)
+
+
 def try_edits(trace, count, seed):
     """Tries so many edits; of each kind and event how many there were and how many were found, and the others by event."""
     drawn, found, missed = random.Random(seed), {}, {}
     good_rows, good_reasons = verdict(trace)
-    if good_rows:
-        raise ValueError("the trace isn't lawful as it is")
     done = 0
     while done < count:
         kind, place = drawn.choice(KINDS), drawn.randrange(len(trace.events))
@@ -60,8 +67,7 @@ def try_edits(trace, count, seed):
         if wrong is None:
             continue
         done += 1
-        rows, reasons = verdict(wrong)
-        is_found = bool(rows) or any(reasons.get(why, 0) > good_reasons.get(why, 0) for why in reasons)
+        is_found = differs(wrong, good_rows, good_reasons)
         tries = found.setdefault(kind, [0, 0])
         tries[0] += 1
         tries[1] += is_found

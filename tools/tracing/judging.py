@@ -9,35 +9,14 @@ from calls import Calls
 from due import first_difference
 from events import read_trace
 from laying import Laying
+from reasons import reason_of
 from repository import TOP
 from writing import Written
 
 GENIRQ = os.environ.get("GENIRQ", str(TOP / "genirq"))
-# So many rows that aren't lawful are told of one line; after each the trace is judged on from the next rest.
-MOST = 40
+# So many rows that aren't lawful are looked for on one line; after each the trace is judged on from the next rest.
+MOST = 1000
 AROUND = 6
-
-# The differences of docs/DEFINITIONS.md ("Where the rules aren't 6.1's") that a first unlawful row may be, by their anchors.
-TITLES = {
-    "sent-signal": "a signal that was sent already goes to the old processor",
-    "take-waits": "a take that waits for the lock",
-    "late-link": "a device that is linked after the last handler has returned",
-    "causes": "what interrupts come of",
-    "served-elsewhere": "who serves",
-    "tasklet": "where and when a soft resend runs",
-    "who-resends": "who can send again",
-    "waiting-move": "a change that waits",
-    "before-activation": "before the activation",
-    "busy-chip": "a chip that is busy",
-    "oneshot-safe": "chips that are safe for one-shot",
-    "noautoen": "a line that isn't enabled by its first request",
-    "unlinked-enable": "an enable while nothing is linked",
-    "kill-window": "the window of the note: a kill",
-    "note-threads": "the window of the note: threads",
-    "poll": "killed lines are polled",
-    "wake-in-two": "a wake in two parts",
-    "inner-calls": "calls out of handlers and threads",
-}
 
 
 class CannotJudge(Exception):
@@ -70,40 +49,6 @@ def check(text):
     return int(found[1])
 
 
-def reason_of(piece, place):
-    """The difference that a row may be, by what stands before it; empty if none is known."""
-    row, before = piece.rows[place], piece.rows[:place]
-    word = row.words[0]
-    if word == "take":
-        return take_reason(row, before)
-    if word in ("enable", "request") and "started" in row.words:
-        was_off = any(it.words[0] == "take" and it.words[2] == "off" for it in before[-200:])
-        return "who-resends" if was_off else "causes"
-    if word == "enable":
-        return "unlinked-enable"
-    if word == "request":
-        return "oneshot-safe"
-    if word == "return":
-        return "served-elsewhere" if row.words[2] == "nothing" else "causes"
-    if word == "affinity":
-        return "before-activation"
-    if word == "end" and any(it.words[0] == "request" for it in before[-6:]):
-        return "late-link"
-    return ""
-
-
-def take_reason(row, before):
-    """Why a take may be unlawful."""
-    if row.words[1] == "resend":
-        return "tasklet"
-    recent = before[-40:]
-    moves = [it for it in recent if it.words[0] == "affinity"]
-    masks = [it for it in recent if it.words[::2] in (["unlink", "last"], ["take", "off"], ["take", "busy"])]
-    if row.reason == "old processor" or moves and 1 << int(row.who[1:]) != moves[-1].words[1]:
-        return "waiting-move" if moves[-1].words[2] == "later" else "sent-signal"
-    return "take-waits" if masks else ""
-
-
 class Line:
     """One line of a trace, judged."""
 
@@ -114,6 +59,13 @@ class Line:
     def lay(self, cuts):
         self.laying = Laying(self.steps, cuts)
         self.pieces = self.laying.lay()
+
+    def was_busy(self, piece, place):
+        """Whether the chip refused a move shortly before a row: since the change before the last one."""
+        steps = self.laying.steps
+        changes = [it.place for it in piece.rows[:place] if it.words[0] == "affinity" and it.place is not None][-2:]
+        since = steps[changes[0]].at if len(changes) == 2 else 0
+        return any(since <= at <= steps[piece.rows[place].place].at for at in self.steps.busy)
 
     def judge(self, most=MOST):
         """Judges piece by piece; behind a row that isn't lawful the trace is cut at the next rest, and goes on."""
@@ -131,12 +83,16 @@ class Line:
             at, due = first_difference(written.board(), log)
             self.rows += entry
             due = due if at == entry else "?"
-            self.unlawful.append(Unlawful(piece, entry - 1, log[entry - 1], due, reason_of(piece, entry - 1)))
+            why = reason_of(piece.rows[entry - 1], due, piece.rows[: entry - 1], piece.target)
+            if why in ("waiting-move", "sent-signal") and self.was_busy(piece, entry - 1):
+                why = "busy-chip"
+            self.unlawful.append(Unlawful(piece, entry - 1, log[entry - 1], due, why))
+            done += 1
             if len(self.unlawful) >= most or piece.rows[entry - 1].place is None:
                 break
-            cuts.add(piece.rows[entry - 1].place)
-            self.lay(cuts)
-            done += 1
+            if piece.broken != entry - 1:
+                cuts.add(piece.rows[entry - 1].place)
+                self.lay(cuts)
         return self
 
 

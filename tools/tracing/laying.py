@@ -5,12 +5,13 @@ first place where it may, an ask stands before the take or the begin that shows 
 converter adds, is made by drivers of its own and has a reason in place of events.
 """
 
+from bisect import bisect_left
 from dataclasses import dataclass, field
 
 from steps import ONESHOT, SHARED
 
 # A board has 16,384 calls; a piece ends at the first rest after so many.
-CALLS = int(__import__("os").environ.get("TRACE_CALLS", "15000"))
+CALLS = 15000
 WINDOW, LIMIT = 100000, 99900
 # The rows with which a call begins.
 FIRST = ("request", "disable", "enable", "unlink", "affinity", "ask", "moment")
@@ -45,6 +46,8 @@ class Piece:
     unfit: list = field(default_factory=list)
     forced: int = 0
     spare: bool = False
+    # the row at which the converter saw that the piece isn't lawful
+    broken: int | None = None
 
     @property
     def later(self):
@@ -65,6 +68,10 @@ class State:
     def is_at_rest(self):
         works = self.flow or self.is_active() or self.freeing or self.unfinished
         return not (works or self.pending or self.masked or self.depth) and bool(self.linked)
+
+    def is_unused(self):
+        """Whether nothing is linked, and nothing is left of what was."""
+        return not (self.linked or self.flow or self.is_active() or self.freeing or self.pending)
 
     def apply(self, row):
         getattr(self, "do_" + row.words[0])(row)
@@ -173,7 +180,9 @@ class Laying:
         self.steps = sorted(line.steps, key=lambda it: it.at)
         self.target, self.coming, self.kinds, self.base = 0, None, {}, 0
         self.moved, self.searched, self.place, self.due_cut = 0, 0, None, False
-        self.holes, self.skipped, self.is_skipping = list(line.holes), 0, False
+        self.holes, self.skipped, self.is_skipping, self.is_broken = list(line.holes), 0, False, False
+        # where the line is aimed isn't known
+        self.is_lost = True
 
     def lay(self):
         if not self.steps:
@@ -190,7 +199,10 @@ class Laying:
                 self.settle_waits(step.at)
                 continue
             self.settle_waits(step.at)
-            if self.state.is_at_rest() and not self.waits and (self.due_cut or self.wants_cut(step)):
+            # a move at once makes void a change that waits
+            is_free = not self.waits and (self.coming is None or step.who == ("own",))
+            is_free = is_free and (self.state.is_at_rest() or self.state.is_unused())
+            if is_free and (self.due_cut or self.wants_cut(step)):
                 self.begin(self.state.linked, 0, place)
             self.put_step(step)
         self.settle_waits(float("inf"))
@@ -200,7 +212,7 @@ class Laying:
         """Where probes missed an interrupt, the steps up to the next rest stand in no row: a new piece begins there."""
         while self.holes and self.holes[0] < step.at:
             self.holes.pop(0)
-            self.is_skipping, self.waits = True, []
+            self.is_skipping, self.is_lost, self.waits = True, True, []
             self.state.pending = self.state.masked = False
         if self.is_skipping and step.words[0] == "take" and self.state.is_at_rest():
             self.is_skipping = False
@@ -235,11 +247,13 @@ class Laying:
         self.due_cut = False
         note = self.note_from(place)
         counts = tuple(int(note.args.get(it, 0)) for it in ("cnt", "unh", "lun")) if note else (0, 0, 0)
-        piece = Piece(self.line, list(linked), depth, self.next_target(self.steps[place].at), counts)
+        if self.target == 0 or self.is_lost:
+            self.target, self.coming, self.is_lost = self.first_target(place), None, False
+        piece = Piece(self.line, list(linked), depth, self.target, counts)
         self.pieces.append(piece)
         self.state = State([])
         self.state.kind = self.line.kind
-        self.target, self.coming, self.kinds, self.base = piece.target, None, {}, counts[2] if counts[1] else 0
+        self.coming, self.kinds, self.base = None, {}, counts[2] if counts[1] else 0
         for number, device in enumerate(linked):
             flags = self.flags_of(device, len(linked))
             self.put(Row(("device", device), ["request", device, flags, "linked", *([] if number else ["started"]), "no"], [],
@@ -288,12 +302,17 @@ class Laying:
         """The first note from a place on."""
         return next((it.more["note"] for it in self.steps[place:] if it.words[0] == "end" and it.more.get("note")), None)
 
-    def next_target(self, at):
-        """Where the kernel aims the line at a place: the first processor that its handled takes show from there on."""
-        for place, mask in self.line.targets:
-            if place >= at and mask:
-                return cpu_of(mask)
-        return cpu_of(self.line.targets[-1][1]) if self.line.targets and self.line.targets[-1][1] else 1
+    def first_target(self, place):
+        """Where a line is aimed as a piece begins that nothing stands before: where its first interrupt comes."""
+        cpus = (it.who for it in self.steps[place:] if it.words[0] == "take" and it.words[1] == "line")
+        cpu = next(cpus, None)
+        return 1 << int(cpu[1:]) if cpu else self.next_target(self.steps[place].at)
+
+    def next_target(self, at, second=False):
+        """Where the kernel aims the line from a place on, as its next handled take shows, or the one after that: a move that
+        waits is made before the handlers of an edge line, and after those of another."""
+        masks = [mask for place, mask in self.line.targets[bisect_left(self.line.targets, (at, 0)) :][: 1 + second] if mask]
+        return cpu_of(masks[-1]) if masks else cpu_of(self.line.targets[-1][1] or 1) if self.line.targets else 1
 
     def wants_cut(self, step):
         piece = self.pieces[-1]
@@ -305,7 +324,6 @@ class Laying:
                     return True
         if step.words[0] == "affinity" and step.words[2] in ("now", "later"):
             return {step.words[2], *piece.answers} == {"now", "later"}
-        return step.words[0] == "take" and piece.later and 1 << int(step.who[1:]) != self.target
         return False
 
     # ---- rows
@@ -356,27 +374,27 @@ class Laying:
         cpu, words = 1 << int(step.who[1:]), list(step.words)
         if words[2] is None:
             words[2] = "busy" if self.state.flow else "off"
-        if cpu != self.target:
-            self.own_move(cpu, "taken by another processor than was aimed at")
+        if cpu != self.target and words[1] == "line" and self.pieces[-1].broken is None:
+            # not lawful, and said so by `check`: what follows is judged from the next rest on
+            self.due_cut, self.is_broken = True, True
         if step.words[1] == "line":
             found = [device for device, answer in (step.more.get("rounds") or [[]])[0] if answer in ("handled", "wake")]
             is_high = self.line.kind != "edge" and any(self.state.asks.values())
             if not is_high:
                 self.ask(next((it for it in found if not self.state.asks.get(it)), None), "an interrupt came")
+        if self.is_broken:
+            self.pieces[-1].broken, self.is_broken = len(self.pieces[-1].rows), False
         self.put(Row(step.who, words, step.events))
         if self.coming is not None:
             self.target, self.coming = self.coming, None
 
-    def own_move(self, cpu, reason):
-        if self.pieces[-1].later:
-            self.pieces[-1].unfit.append("a move at once on a line whose changes wait")
-        self.put(Row(("own",), ["affinity", cpu, "now"], [], reason, ["affinity"]))
-        self.pieces[-1].answers.add("now")
-        self.target, self.moved = cpu, self.moved + 1
-
     def put_affinity(self, step):
-        target, mask, words = self.next_target(step.at + 1), step.words[1], list(step.words)
+        mask, words = step.words[1], list(step.words)
+        target = mask if mask & mask - 1 == 0 else self.next_target(step.at + 1, words[2] == "later" and self.line.kind != "edge")
         words[1] = target if target & mask else cpu_of(mask) or mask
+        if step.who == ("own",) and words[1] == self.target and self.coming is None:
+            self.line.drop(step.events, "a start or a move that aims a line where it is aimed")
+            return
         if words[2] == "now":
             self.target = words[1]
         elif words[2] == "later":

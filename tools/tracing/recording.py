@@ -104,7 +104,7 @@ class Probes:
     def __init__(self, clock, size, lines):
         self.room = TRACEFS / "instances" / GROUP
         self.clock, self.size, self.lines = clock, size, lines
-        self.set, self.refused = [], []
+        self.set, self.refused, self.is_mine = [], [], False
 
     def begin(self):
         if not (TRACEFS / "kprobe_events").exists():
@@ -113,6 +113,7 @@ class Probes:
             raise Fault(f"{self.room} is there: another recording runs, or one was killed hard; record --clear takes it down")
         wanted, self.refused = definitions(Btf(BTF.read_bytes(), STRUCTS), symbols())
         self.room.mkdir()
+        self.is_mine = True
         write(self.room / "tracing_on", "0")
         for name, text, lost, fields in wanted:
             try:
@@ -262,7 +263,8 @@ def record(name, lines, clock, size, command, seconds):
             lost = probes.losses()
             say(out, [("lost", lost), *(("after", {"line": it, **facts_of(it)}) for it in all_lines())])
         finally:
-            probes.end()
+            if probes.is_mine:
+                probes.end()
     return status, [*(f"refused: {it['function']} ({it['why']}): {it['lost']}" for it in probes.refused),
                     *(f"lost on {cpu}: {count} events" for cpu, count in lost["overrun"].items()),
                     *(f"missed: {count} of {name}" for name, count in lost["missed"].items())]

@@ -15,7 +15,6 @@ SHARED, ONESHOT, NO_AUTOEN = 0x80, 0x2000, 0x80000
 ERRNO = {-22: "22", -16: "16"}
 
 FLOWS = {"fe": "edge", "fl": "level", "fo": "eoi"}
-LEAVES = ("xe", "xl", "xo")
 PAIRS = {"di": "dx", "dh": "dy", "dn": "dz", "cr": "cx", "rq": "rr", "fi": "fr", "sh": "sx", "si": "sy", "af": "ax", "ad": "ay",
          "tf": "tr", "fz": "fx", "rs": "rx", "mo": "my"}
 ENDS = {end: begin for begin, end in PAIRS.items()}
@@ -74,8 +73,7 @@ class LineSteps:
     def __init__(self, number, facts):
         self.number, self.facts = number, facts or {}
         self.steps, self.reasons, self.devices, self.linked = [], {}, [], []
-        self.kind, self.depth, self.flags, self.notes, self.acks = None, None, None, False, False
-        self.ends, self.targets = [], []
+        self.kind, self.depth, self.flags, self.ends, self.targets, self.acks, self.busy = None, None, None, [], [], [], []
         for name in [it for it in (self.facts.get("actions") or "").split(",") if it]:
             self.linked.append(self.add(name))
         self.first, self.awake, self.holes = list(self.linked), set(), []
@@ -135,9 +133,10 @@ class Walk:
         else:
             self.line(number).drop([event.number], reason)
 
-    def fault(self, text):
+    def fault(self, text, count=1):
         """What shows that an event is missing, is there twice, or stands at a wrong place."""
-        self.faults[text] = self.faults.get(text, 0) + 1
+        if count:
+            self.faults[text] = self.faults.get(text, 0) + count
 
     def flow(self, event, number=None):
         """The flow that the event's processor is in, if the event is of an interrupt."""
@@ -192,6 +191,10 @@ class Walk:
                 self.settle(flow)
                 if not flow.take:
                     self.line(flow.line).drop(flow.events, "a flow that the trace doesn't see the end of")
+        for line in self.lines.values():
+            notes = [it.more["note"] is not None for it in line.ends]
+            self.fault("a round without its note", notes.count(False) if any(notes) else 0)
+            self.fault("a flow that isn't acknowledged once", len(line.acks) - line.acks.count(1) if any(line.acks) else 0)
 
     # ---- flows
 
@@ -210,8 +213,8 @@ class Walk:
     def on_ak(self, event):
         flow = self.flow(event, line_of(event))
         if flow:
-            flow.acks += 1
-            self.line(flow.line).acks = True
+            # an edge is acknowledged before its handlers are called
+            flow.acks += 1 + (event.name == "ak" and flow.take is not None)
         if not flow:
             self.drop(event, "an acknowledgement outside of a flow")
         elif flow.end:
@@ -231,7 +234,7 @@ class Walk:
             self.polled.add(event.cpu)
             self.drop(event, "a call of handlers outside of a flow that is modelled")
             return
-        line.targets.append((self.at, value(event, "eff")))
+        line.targets.append((self.at, value(event, "eff") or 0))
         if value(event, "flg") is not None and line.flags is None:
             line.flags = value(event, "flg")
         flow.is_open, flow.begun, flow.called = True, None, []
@@ -313,9 +316,6 @@ class Walk:
         note = flow.note
         if note:
             events.insert(0, note.number)
-            line.notes = True
-        elif line.notes:
-            self.fault("a round without its note")
         flow.end = line.say(self.at, f"c{event.cpu}", ["end", "leave", "asis", "killed" if flow.kill else None], events,
                             more={"note": note, "nth": len(line.ends)})
         line.ends.append(flow.end)
@@ -327,8 +327,8 @@ class Walk:
             self.drop(event, "a return without its entry")
             return
         flow = stack.pop()
-        if flow.acks != 1 and self.line(flow.line).acks and not flow.is_resend:
-            self.fault("a flow that isn't acknowledged once")
+        if not flow.is_resend:
+            self.line(flow.line).acks.append(flow.acks)
         if flow.end:
             flow.end.events.append(event.number)
         elif flow.take:
