@@ -60,6 +60,11 @@ class Line:
         self.laying = Laying(self.steps, cuts)
         self.pieces = self.laying.lay()
 
+    def stays(self, row):
+        """Whether the kernel says at a take that its line is aimed at the processor that takes: a change was dropped."""
+        at = self.laying.steps[row.place].at
+        return any(place == at and mask == 1 << int(row.who[1:]) for place, mask in self.steps.targets)
+
     def was_busy(self, piece, place):
         """Whether the chip refused a move shortly before a row: since the change before the last one."""
         steps = self.laying.steps
@@ -86,6 +91,8 @@ class Line:
             why = reason_of(piece.rows[entry - 1], due, piece.rows[: entry - 1], piece.target)
             if why in ("waiting-move", "sent-signal") and self.was_busy(piece, entry - 1):
                 why = "busy-chip"
+            elif why == "sent-signal" and self.stays(piece.rows[entry - 1]):
+                why = "hotplug-started"
             self.unlawful.append(Unlawful(piece, entry - 1, log[entry - 1], due, why))
             done += 1
             if len(self.unlawful) >= most or piece.rows[entry - 1].place is None:

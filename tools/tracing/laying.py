@@ -181,8 +181,8 @@ class Laying:
         self.target, self.coming, self.kinds, self.base = 0, None, {}, 0
         self.moved, self.searched, self.place, self.due_cut = 0, 0, None, False
         self.holes, self.skipped, self.is_skipping, self.is_broken = list(line.holes), 0, False, False
-        # where the line is aimed isn't known
-        self.is_lost = True
+        # where the line is aimed isn't known, or it isn't where it seemed to be
+        self.is_lost, self.is_wrong = True, False
 
     def lay(self):
         if not self.steps:
@@ -247,6 +247,8 @@ class Laying:
         self.due_cut = False
         note = self.note_from(place)
         counts = tuple(int(note.args.get(it, 0)) for it in ("cnt", "unh", "lun")) if note else (0, 0, 0)
+        if self.is_wrong:
+            self.target, self.is_wrong = self.next_target(self.steps[place].at), False
         if self.target == 0 or self.is_lost:
             self.target, self.coming, self.is_lost = self.first_target(place), None, False
         piece = Piece(self.line, list(linked), depth, self.target, counts)
@@ -376,7 +378,7 @@ class Laying:
             words[2] = "busy" if self.state.flow else "off"
         if cpu != self.target and words[1] == "line" and self.pieces[-1].broken is None:
             # not lawful, and said so by `check`: what follows is judged from the next rest on
-            self.due_cut, self.is_broken = True, True
+            self.due_cut, self.is_broken, self.is_wrong = True, True, True
         if step.words[1] == "line":
             found = [device for device, answer in (step.more.get("rounds") or [[]])[0] if answer in ("handled", "wake")]
             is_high = self.line.kind != "edge" and any(self.state.asks.values())

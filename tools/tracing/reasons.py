@@ -7,6 +7,7 @@ TITLES = {
     "before-activation": "before the activation",
     "busy-chip": "a chip that is busy",
     "causes": "what interrupts come of",
+    "hotplug-started": "a change that waits is dropped as its processor goes offline",
     "kill-race": "a kill beside another hold",
     "late-link": "a device that is linked after the last handler has returned",
     "no-aim": "a chip that can't be aimed",
