@@ -1,9 +1,11 @@
 """Wrong traces: one event of a good one is taken out, doubled, or turned round with the next event of its line.
 
-What is found: `check` calls a piece unlawful, or an event stands in no row for a reason that the good trace didn't have.
+What tells a wrong trace from the good one, the first of these: `check` calls other rows unlawful; more of the trace isn't whole;
+or more events stand in no row for some reason. The first two end `tools/trace judge` with 1, the third is a number in its print.
 """
 
 import copy
+import hashlib
 import random
 
 import judging
@@ -11,6 +13,7 @@ from calls import Calls
 from events import line_of
 
 KINDS = ("taken out", "doubled", "turned round")
+UNLAWFUL, NOT_WHOLE, COUNTED = TELLS = ("unlawful", "not whole", "counted elsewhere")
 
 
 def is_next(event, other):
@@ -19,10 +22,11 @@ def is_next(event, other):
 
 
 def edited(trace, kind, place):
-    """The trace with one event changed, and what was changed; None where that can't be."""
+    """The trace with one event changed, and the names of what was changed; None where that can't be."""
     wrong = copy.copy(trace)
     events = list(trace.events)
     event = events[place]
+    names = event.name
     if kind == "taken out":
         del events[place]
     elif kind == "doubled":
@@ -33,45 +37,67 @@ def edited(trace, kind, place):
         if other is None:
             return None
         events[place], events[other] = events[other], events[place]
+        names = f"{event.name} with {events[place].name}"
     wrong.events = [it._replace(number=n) for n, it in enumerate(events, 1)]
-    return wrong
+    return wrong, names
+
+
+class Judge:
+    """Asks the program, and asks for the same board and log once."""
+
+    def __init__(self):
+        self.known, self.ask = {}, judging.check
+
+    def check(self, text):
+        key = hashlib.sha256(text.encode()).digest()
+        if key not in self.known:
+            self.known[key] = self.ask(text)
+        return self.known[key]
 
 
 def verdict(trace):
-    """What is said of a trace: the first unlawful row of each line, and how many events stand in no row, by reason."""
+    """What is said of a trace: its unlawful rows, its faults, and how many events stand in no row, by reason."""
     walk = Calls(trace)
     lines = walk.walk()
-    judged = [judging.Line(lines[it], trace.head["cpus"] or 32).judge(1) for it in sorted(lines) if lines[it].steps]
-    _, reasons, _ = judging.accounts(trace, walk, judged)
-    counts = {why: len(them) for why, them in reasons.items()}
-    return [it.unlawful[0].text for it in judged if it.unlawful], {**counts, **walk.faults}
+    judged = [judging.Line(lines[it], trace.head["cpus"] or 32).judge() for it in sorted(lines) if lines[it].steps]
+    _, reasons, adds_up = judging.accounts(trace, walk, judged)
+    rows = [(it.steps.number, wrong.text, wrong.why) for it in judged for wrong in it.unlawful]
+    return rows, {**walk.faults, "sum": not adds_up}, {why: len(them) for why, them in reasons.items()}
 
 
-def differs(wrong, good_rows, good_reasons):
-    """Whether a trace is told from the good one. A row that isn't one tells it, too."""
+def is_more(counts, than):
+    return any(count > than.get(why, 0) for why, count in counts.items())
+
+
+def told_by(wrong, good):
+    """What tells a wrong trace from the good one; empty if nothing does. A text that is no board or log tells it, too."""
     try:
-        rows, reasons = verdict(wrong)
+        rows, faults, reasons = verdict(wrong)
     except judging.CannotJudge:
-        return True
-    return rows != good_rows or any(reasons.get(why, 0) > good_reasons.get(why, 0) for why in reasons)
+        return NOT_WHOLE
+    if rows != good[0]:
+        return UNLAWFUL
+    if is_more(faults, good[1]):
+        return NOT_WHOLE
+    return COUNTED if is_more(reasons, good[2]) else ""
 
 
 def try_edits(trace, count, seed):
-    """Tries so many edits; of each kind and event how many there were and how many were found, and the others by event."""
+    """Tries so many edits: of each kind how many there were, by what tells them; and the events of those that nothing tells."""
+    judging.check = Judge().check
     drawn, found, missed = random.Random(seed), {}, {}
-    good_rows, good_reasons = verdict(trace)
+    good = verdict(trace)
     done = 0
     while done < count:
         kind, place = drawn.choice(KINDS), drawn.randrange(len(trace.events))
-        wrong = edited(trace, kind, place)
-        if wrong is None:
+        changed = edited(trace, kind, place)
+        if changed is None:
             continue
         done += 1
-        is_found = differs(wrong, good_rows, good_reasons)
-        tries = found.setdefault(kind, [0, 0])
-        tries[0] += 1
-        tries[1] += is_found
-        if not is_found:
-            key = (kind, trace.events[place].name)
+        told = told_by(changed[0], good)
+        by = found.setdefault(kind, dict.fromkeys((*TELLS, ""), 0))
+        by[told] += 1
+        if told in (COUNTED, ""):
+            key = (told, kind, changed[1])
             missed[key] = missed.get(key, 0) + 1
     return found, missed
