@@ -13,6 +13,8 @@ from calls import Calls
 from events import line_of
 
 KINDS = ("taken out", "doubled", "turned round")
+# So many unlawful rows of a line are looked for: more than a stored trace has.
+MOST = 8
 UNLAWFUL, NOT_WHOLE, COUNTED = TELLS = ("unlawful", "not whole", "counted elsewhere")
 
 
@@ -59,7 +61,7 @@ def verdict(trace):
     """What is said of a trace: its unlawful rows, its faults, and how many events stand in no row, by reason."""
     walk = Calls(trace)
     lines = walk.walk()
-    judged = [judging.Line(lines[it], trace.head["cpus"] or 32).judge() for it in sorted(lines) if lines[it].steps]
+    judged = [judging.Line(lines[it], trace.head["cpus"] or 32).judge(MOST) for it in sorted(lines) if lines[it].steps]
     _, reasons, adds_up = judging.accounts(trace, walk, judged)
     rows = [(it.steps.number, wrong.text, wrong.why) for it in judged for wrong in it.unlawful]
     return rows, {**walk.faults, "sum": not adds_up}, {why: len(them) for why, them in reasons.items()}
