@@ -11,7 +11,8 @@ use Rattle.irq_base.specs.declared.calls.Call.TheVariants as calls
 use Rattle.irq_base.specs.declared.devices.DeviceDef.{DeviceDef}
 use Rattle.irq_base.specs.declared.lines.LineDef.{LineDef}
 use Rattle.irq_base.specs.declared.entries.Entry.{Entry}
-use Rattle.irq_base.specs.declared.entries.Entry.TheVariants as entries
+use Rattle.irq_base.specs.declared.entries.Entry.TheVariants as by
+use Rattle.irq_base.specs.declared.entries.CallEntry.TheVariants as called
 use Rattle.irq_base.specs.declared.waiting.WaitFor.{WaitFor}
 use Rattle.irq_base.specs.declared.waiting.WaitFor.TheVariants as waits
 use Rattle.irq_model.specs.Legal.{IsLegalPast}
@@ -125,7 +126,7 @@ when false e = refl
 
 synced : (def : LineDef) (r : DriverNo) (past : List Entry) → is_some (synced_of def r past) ≡ not (stands_in_way def past waits.Threads)
 synced def r past =
-    when (active_count def past == 0) (entries.Synced r)
+    when (active_count def past == 0) (by.DriverCall r called.Synced)
     ∙ none_counted (λ (x : DeviceDef). is_woken past x.dev) (λ (x : DeviceDef). is_running past x.dev) def.devices
 
 either : (def : LineDef) (past : List Entry) (b : Bool) (x y : Option Entry) (v w : WaitFor)
@@ -138,25 +139,25 @@ row : (def : LineDef) (r : DriverNo) (past : List Entry) (c : Call) (n : ℕ) �
     → is_some (next_of_call def r past (Some (c, n))) ≡ not (stands_in_way def past (block_of c n))
 row def r past (calls.Ask d) n freed = refl
 row def r past (calls.Request d flags) n freed = unless (holds_mutex past) (request_of def r d flags past)
-row def r past (calls.Free d) zero freed = unless (holds_mutex past) (entries.Unlink r d (unlink_answer d past))
+row def r past (calls.Free d) zero freed = unless (holds_mutex past) (by.DriverCall r (called.Unlink (unlink_answer d past) d))
 row def r past (calls.Free d) (suc n) freed =
-    either def past (suc n == 0) (cond (holds_mutex past) None (Some (entries.Unlink r d (unlink_answer d past))))
+    either def past (suc n == 0) (cond (holds_mutex past) None (Some (by.DriverCall r (called.Unlink (unlink_answer d past) d))))
     (cond (suc n == 1) (hard_clear_of def r past) (freed_of r d past)) waits.Mutex
     (cond (suc n == 1) waits.Flow waits.Freed)
-    (unless (holds_mutex past) (entries.Unlink r d (unlink_answer d past)))
-    (either def past (suc n == 1) (hard_clear_of def r past) (freed_of r d past) waits.Flow waits.Freed (unless (has_flow def past) (entries.HardClear r))
-    (unless (is_woken past d || is_running past d) (entries.Freed r d) ∙ ap not freed))
+    (unless (holds_mutex past) (by.DriverCall r (called.Unlink (unlink_answer d past) d)))
+    (either def past (suc n == 1) (hard_clear_of def r past) (freed_of r d past) waits.Flow waits.Freed (unless (has_flow def past) (by.DriverCall r called.HardClear))
+    (unless (is_woken past d || is_running past d) (by.DriverCall r (called.Freed d)) ∙ ap not freed))
 row def r past calls.Disable n freed =
-    either def past (n == 0) (Some (entries.Disable r))
+    either def past (n == 0) (Some (by.DriverCall r called.Disable))
     (cond (n == 1) (hard_clear_of def r past) (synced_of def r past)) waits.Nothing
     (cond (n == 1) waits.Flow waits.Threads) refl
     (either def past (n == 1) (hard_clear_of def r past) (synced_of def r past) waits.Flow waits.Threads
-    (unless (has_flow def past) (entries.HardClear r)) (synced def r past))
+    (unless (has_flow def past) (by.DriverCall r called.HardClear)) (synced def r past))
 row def r past calls.DisableNosync n freed = refl
 row def r past calls.Enable n freed = refl
 row def r past calls.Sync n freed =
     either def past (n == 0) (hard_clear_of def r past) (synced_of def r past) waits.Flow waits.Threads
-    (unless (has_flow def past) (entries.HardClear r)) (synced def r past)
+    (unless (has_flow def past) (by.DriverCall r called.HardClear)) (synced def r past)
 row def r past (calls.Affinity mask) n freed = refl
 row def r past (calls.Moment at) n freed = refl
 

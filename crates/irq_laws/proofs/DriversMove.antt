@@ -109,7 +109,7 @@ idle_drivers_move def h legal k i r (Some (c, n)) is some = by_block (only_mutex
     by_block (inr waits) = by_mutex (holds_mutex (reverse h)) refl waits
 
 pub drivers_move : (def : LineDef) (h : List Entry) → IsValid def → IsLegal def h
-    → ((line : LineNo) (d : DevNo) → next def h (actors.Thread line d) ≡ None)
+    → ((line : LineNo) (d : DevNo) → next def h (actors.Thread d) ≡ None)
     → ((c : CpuNo) → next def h (actors.Cpu c) ≡ None)
     → (r : DriverNo) → IsSome (due_call def r (reverse h)) → IsSome (next def h (actors.Driver r)) ⊎ FreeMoves def h
 drivers_move def h valid legal threads cpus r some =

@@ -16,7 +16,7 @@ use Rattle.irq_steps.proofs.Same.{same_self_cpu, same_self_line}
 use Rattle.irq_laws.proofs.ImpliesThread.{row, has_returned, has_finished}
 
 abbrev pub ThreadsRest : LineDef → List Entry → Type 0
-ThreadsRest def past = (line : LineNo) (d : DevNo) → next_past def past (actors.Thread line d) ≡ None
+ThreadsRest def past = (line : LineNo) (d : DevNo) → next_past def past (actors.Thread d) ≡ None
 
 abbrev pub CpusRest : LineDef → List Entry → Type 0
 CpusRest def past = (c : CpuNo) → next_past def past (actors.Cpu c) ≡ None

@@ -4,7 +4,8 @@ use Rattle.std.specs.List.{list_any}
 use Rattle.irq_base.specs.declared.numbers.DevNo.{DevNo}
 use Rattle.irq_base.specs.declared.lines.LineDef.{LineDef}
 use Rattle.irq_base.specs.declared.entries.Entry.{Entry}
-use Rattle.irq_base.specs.declared.entries.Entry.TheVariants as entries
+use Rattle.irq_base.specs.declared.entries.Entry.TheVariants as by
+use Rattle.irq_base.specs.declared.entries.ThreadEntry.TheVariants as threads
 use Rattle.irq_model.specs.Places.{since}
 use Rattle.irq_model.specs.Kinds.{same_line, is_thread_begin, is_thread_return, is_finish}
 use Rattle.irq_model.specs.Links.{is_oneshot}
@@ -72,12 +73,12 @@ row_cases true w true false f h a b c d e is = inr (inr (inr (refl, refl, refl, 
 -- the four entries of d's thread
 abbrev pub ThreadCases : LineDef → DevNo → List Entry → Entry → Type 0
 ThreadCases def d past e =
-    ((is_running past d ≡ false) × (is_woken past d ≡ true) × (entries.ThreadBegin d ≡ e))
-    ⊎ (((is_running past d ≡ true) × (has_returned past d ≡ false) × (entries.ThreadReturn d (asks_of_thread def d past) ≡ e))
+    ((is_running past d ≡ false) × (is_woken past d ≡ true) × (by.Thread d threads.Begin ≡ e))
+    ⊎ (((is_running past d ≡ true) × (has_returned past d ≡ false) × (by.Thread d (threads.Return (nat_lt 0 (asks_of_thread def d past)) (asks_of_thread def d past)) ≡ e))
     ⊎ (((is_running past d ≡ true) × (has_returned past d ≡ true) × (is_oneshot past ≡ true)
     × (has_finished past d ≡ false) × (has_flow def past ≡ false)
-    × (entries.Finish d (is_woken past d) (finish_unmasks def d past) ≡ e))
-    ⊎ ((is_running past d ≡ true) × (has_returned past d ≡ true) × ((is_oneshot past && not (has_finished past d)) ≡ false) × (entries.Done d ≡ e))))
+    × (by.Thread d (threads.Finish (is_woken past d) (finish_unmasks def d past)) ≡ e))
+    ⊎ ((is_running past d ≡ true) × (has_returned past d ≡ true) × ((is_oneshot past && not (has_finished past d)) ≡ false) × (by.Thread d threads.Done ≡ e))))
 
 thread_cases : (def : LineDef) (d : DevNo) (past : List Entry) (e : Entry)
     → cond (same_line def.line def.line) (next_of_thread def d past) None ≡ Some e → ThreadCases def d past e
@@ -85,30 +86,30 @@ thread_cases def d past e due =
     let n : next_of_thread def d past ≡ Some e = rw (same_self_line def.line) at due in
     row_cases (is_running past d) (is_woken past d) (has_returned past d) (is_oneshot past) (has_finished past d) (has_flow def past) _ _ _ _ e n
 
-pub thread_begin_due : (def : LineDef) (d : DevNo) (past : List Entry) → IsDue def (entries.ThreadBegin d) past → IsThreadBeginDue d past
-thread_begin_due def d past due = by_case (thread_cases def d past (entries.ThreadBegin d) due)
+pub thread_begin_due : (def : LineDef) (d : DevNo) (past : List Entry) → IsDue def (by.Thread d threads.Begin) past → IsThreadBeginDue d past
+thread_begin_due def d past due = by_case (thread_cases def d past (by.Thread d threads.Begin) due)
   where
-    by_case : ThreadCases def d past (entries.ThreadBegin d) → IsThreadBeginDue d past
+    by_case : ThreadCases def d past (by.Thread d threads.Begin) → IsThreadBeginDue d past
     by_case (inl h) = record { not_running = h.0; woken = h.1 }
     by_case (inr (inl h)) = let n = h.2 in cc
     by_case (inr (inr (inl h))) = let n = h.5 in cc
     by_case (inr (inr (inr h))) = let n = h.3 in cc
 
-pub thread_return_due : (def : LineDef) (d : DevNo) (served : ℕ) (past : List Entry)
-    → IsDue def (entries.ThreadReturn d served) past → IsThreadReturnDue def d served past
-thread_return_due def d served past due = by_case (thread_cases def d past (entries.ThreadReturn d served) due)
+pub thread_return_due : (handled : Bool) (def : LineDef) (d : DevNo) (served : ℕ) (past : List Entry)
+    → IsDue def (by.Thread d (threads.Return handled served)) past → IsThreadReturnDue def d served past
+thread_return_due handled def d served past due = by_case (thread_cases def d past (by.Thread d (threads.Return _ served)) due)
   where
-    by_case : ThreadCases def d past (entries.ThreadReturn d served) → IsThreadReturnDue def d served past
+    by_case : ThreadCases def d past (by.Thread d (threads.Return handled served)) → IsThreadReturnDue def d served past
     by_case (inl h) = let n = h.2 in cc
     by_case (inr (inl h)) = let n = h.2 in record { running = h.0; not_returned = h.1; served_is = (let s : served ≡ asks_of_thread def d past = cc in s) }
     by_case (inr (inr (inl h))) = let n = h.5 in cc
     by_case (inr (inr (inr h))) = let n = h.3 in cc
 
 pub finish_due : (def : LineDef) (d : DevNo) (kept unmask : Bool) (past : List Entry)
-    → IsDue def (entries.Finish d kept unmask) past → IsFinishDue def d kept unmask past
-finish_due def d kept unmask past due = by_case (thread_cases def d past (entries.Finish d kept unmask) due)
+    → IsDue def (by.Thread d (threads.Finish kept unmask)) past → IsFinishDue def d kept unmask past
+finish_due def d kept unmask past due = by_case (thread_cases def d past (by.Thread d (threads.Finish kept unmask)) due)
   where
-    by_case : ThreadCases def d past (entries.Finish d kept unmask) → IsFinishDue def d kept unmask past
+    by_case : ThreadCases def d past (by.Thread d (threads.Finish kept unmask)) → IsFinishDue def d kept unmask past
     by_case (inl h) = let n = h.2 in cc
     by_case (inr (inl h)) = let n = h.2 in cc
     by_case (inr (inr (inl h))) =
@@ -118,10 +119,10 @@ finish_due def d kept unmask past due = by_case (thread_cases def d past (entrie
         record { running = h.0; returned = h.1; oneshot = h.2; not_finished = h.3; no_flow = h.4; kept_is = k; unmask_is = u }
     by_case (inr (inr (inr h))) = let n = h.3 in cc
 
-pub done_due : (def : LineDef) (d : DevNo) (past : List Entry) → IsDue def (entries.Done d) past → IsDoneDue d past
-done_due def d past due = by_case (thread_cases def d past (entries.Done d) due)
+pub done_due : (def : LineDef) (d : DevNo) (past : List Entry) → IsDue def (by.Thread d threads.Done) past → IsDoneDue d past
+done_due def d past due = by_case (thread_cases def d past (by.Thread d threads.Done) due)
   where
-    by_case : ThreadCases def d past (entries.Done d) → IsDoneDue d past
+    by_case : ThreadCases def d past (by.Thread d threads.Done) → IsDoneDue d past
     by_case (inl h) = let n = h.2 in cc
     by_case (inr (inl h)) = let n = h.2 in cc
     by_case (inr (inr (inl h))) = let n = h.5 in cc

@@ -5,7 +5,8 @@ use Rattle.std.specs.List.{list_any}
 use Rattle.irq_base.specs.declared.numbers.DevNo.{DevNo}
 use Rattle.irq_base.specs.declared.numbers.DriverNo.{DriverNo}
 use Rattle.irq_base.specs.declared.entries.Entry.{Entry}
-use Rattle.irq_base.specs.declared.entries.Entry.TheVariants as entries
+use Rattle.irq_base.specs.declared.entries.Entry.TheVariants as by
+use Rattle.irq_base.specs.declared.entries.CallEntry.TheVariants as called
 use Rattle.irq_base.specs.declared.entries.UnlinkAnswer.TheVariants as unlinks
 use Rattle.irq_model.specs.Places.{some_place, stands}
 use Rattle.irq_model.specs.Kinds.{same_dev, is_freed_by, is_by_driver, is_hard_clear}
@@ -19,7 +20,7 @@ use Rattle.irq_laws.proofs.Lists.{place_imply}
 -- ---- who is within a free holds the mutex
 
 skips : (e : Entry) (a u : List Entry) → ((r : DriverNo) → is_freed_by r e ≡ false) → is_being_freed_at (e ∷ a) u ≡ is_being_freed_at a u
-skips e a (entries.Unlink driver dev (unlinks.Unlinked last) ∷ past) h = ap (λ (b : Bool). not (b || list_any (is_freed_by driver) a)) (h driver)
+skips e a (by.DriverCall driver (called.Unlink (unlinks.Unlinked last) dev) ∷ past) h = ap (λ (b : Bool). not (b || list_any (is_freed_by driver) a)) (h driver)
 skips e a u h = refl
 
 goes_on : (e : Entry) (past : List Entry) → ((r : DriverNo) → is_freed_by r e ≡ false) → holds_mutex past ≡ true → holds_mutex (e ∷ past) ≡ true
@@ -29,8 +30,8 @@ goes_on e past quiet h =
 
 pub freeing_holds : (past : List Entry) (f : DriverNo × DevNo) → freeing past ≡ Some f → holds_mutex past ≡ true
 freeing_holds [] f h = cc
-freeing_holds (entries.Unlink driver dev (unlinks.Unlinked last) ∷ past) f h = refl
-freeing_holds (entries.Freed driver dev ∷ past) f h = cc
+freeing_holds (by.DriverCall driver (called.Unlink (unlinks.Unlinked last) dev) ∷ past) f h = refl
+freeing_holds (by.DriverCall driver (called.Freed dev) ∷ past) f h = cc
 freeing_holds (e ∷ past) f h = goes_on e past (λ r. refl) (freeing_holds past f h)
 
 -- ---- who holds the mutex is within a free
@@ -38,14 +39,14 @@ freeing_holds (e ∷ past) f h = goes_on e past (λ r. refl) (freeing_holds past
 -- the newest entry of `upto` unlinked a device that passes the test, and its driver's free isn't
 -- complete
 abbrev pub owned : (DevNo → Bool) → (DriverNo → Bool) → List Entry → List Entry → Bool
-owned t f after (entries.Unlink driver dev (unlinks.Unlinked last) ∷ past) = t dev && not (f driver || list_any (is_freed_by driver) after)
+owned t f after (by.DriverCall driver (called.Unlink (unlinks.Unlinked last) dev) ∷ past) = t dev && not (f driver || list_any (is_freed_by driver) after)
 owned t f after _ = false
 
 three : (a b c d : Bool) → (a && not (b || (c || d))) ≡ (a && not ((b || c) || d))
 three a b c d = grind arith
 
 one_later : (t : DevNo → Bool) (f : DriverNo → Bool) (e : Entry) (a u : List Entry) → owned t f (e ∷ a) u ≡ owned t (λ r. f r || is_freed_by r e) a u
-one_later t f e a (entries.Unlink driver dev (unlinks.Unlinked last) ∷ past) = three (t dev) (f driver) (is_freed_by driver e) (list_any (is_freed_by driver) a)
+one_later t f e a (by.DriverCall driver (called.Unlink (unlinks.Unlinked last) dev) ∷ past) = three (t dev) (f driver) (is_freed_by driver e) (list_any (is_freed_by driver) a)
 one_later t f e a u = refl
 
 -- a driver that unlinked a device, and made no end of a free since
@@ -62,7 +63,7 @@ not_both true false h = (refl, refl)
 not_both false b h = cc
 
 owner_here : (t : DevNo → Bool) (f : DriverNo → Bool) (e : Entry) (past : List Entry) → owned t f [] (e ∷ past) ≡ true → Owner t f (e ∷ past)
-owner_here t f (entries.Unlink driver dev (unlinks.Unlinked last)) past h =
+owner_here t f (by.DriverCall driver (called.Unlink (unlinks.Unlinked last) dev)) past h =
     let n = not_both (t dev) (f driver) h in
     record {
       driver = driver;
@@ -91,7 +92,7 @@ owner t f (e ∷ past) h = by_case (or_cases _ _ h) (λ is. owner t (λ r. f r |
         (owned t (λ r. f r || is_freed_by r e)) past (λ a u same. one_later t f e a u)) ∙ is))
 
 held_place : (a u : List Entry) → is_being_freed_at a u ≡ true → owned (λ d. true) (λ r. false) a u ≡ true
-held_place a (entries.Unlink driver dev (unlinks.Unlinked last) ∷ past) h = h
+held_place a (by.DriverCall driver (called.Unlink (unlinks.Unlinked last) dev) ∷ past) h = h
 held_place a u h = cc
 
 pub holder : (past : List Entry) → holds_mutex past ≡ true → Owner (λ d. true) (λ r. false) past
@@ -100,7 +101,7 @@ holder past h = owner (λ d. true) (λ r. false) past (place_imply is_being_free
 -- ---- a hard clear within a free
 
 cleared_place : (d : DevNo) (a u : List Entry) → is_cleared_at d a u ≡ true → owned (same_dev d) (λ r. false) a u ≡ true
-cleared_place d a (entries.Unlink driver dev (unlinks.Unlinked last) ∷ past) h =
+cleared_place d a (by.DriverCall driver (called.Unlink (unlinks.Unlinked last) dev) ∷ past) h =
     let n = and_parts (same_dev d dev) _ h in
     let m = and_parts (list_any (λ e. is_by_driver driver e && is_hard_clear e) a) _ n.1 in
     and_from _ _ n.0 m.1
@@ -114,14 +115,14 @@ none_at_once true h = cc
 none_at_once false h = cc
 
 not_at_once : (d : DevNo) (u : List Entry) → is_cleared_at d [] u ≡ true → ⊥
-not_at_once d (entries.Unlink driver dev (unlinks.Unlinked last) ∷ past) h = none_at_once (same_dev d dev) h
+not_at_once d (by.DriverCall driver (called.Unlink (unlinks.Unlinked last) dev) ∷ past) h = none_at_once (same_dev d dev) h
 not_at_once d u h = cc
 
 fewer : (s b c l f g : Bool) → c ≡ false → (s && (((b && c) || l) && not (f || g))) ≡ true → (s && (l && not g)) ≡ true
 fewer s b c l f g is h = grind arith
 
 cleared_at_before : (d : DevNo) (e : Entry) (a u : List Entry) → is_hard_clear e ≡ false → is_cleared_at d (e ∷ a) u ≡ true → is_cleared_at d a u ≡ true
-cleared_at_before d e a (entries.Unlink driver dev (unlinks.Unlinked last) ∷ past) is h =
+cleared_at_before d e a (by.DriverCall driver (called.Unlink (unlinks.Unlinked last) dev) ∷ past) is h =
     fewer (same_dev d dev) (is_by_driver driver e) (is_hard_clear e)
     (list_any (λ e. is_by_driver driver e && is_hard_clear e) a) (is_freed_by driver e)
     (list_any (is_freed_by driver) a) is h

@@ -11,7 +11,10 @@ use Rattle.irq_base.specs.declared.lines.LineDef.{LineDef}
 use Rattle.irq_base.specs.declared.entries.Actor.{Actor}
 use Rattle.irq_base.specs.declared.entries.Actor.TheVariants as actors
 use Rattle.irq_base.specs.declared.entries.Entry.{Entry}
-use Rattle.irq_base.specs.declared.entries.Entry.TheVariants as entries
+use Rattle.irq_base.specs.declared.entries.Entry.TheVariants as by
+use Rattle.irq_base.specs.declared.entries.CpuEntry.TheVariants as cpus
+use Rattle.irq_base.specs.declared.entries.ThreadEntry.TheVariants as threads
+use Rattle.irq_base.specs.declared.entries.CallEntry.TheVariants as called
 use Rattle.irq_base.specs.declared.entries.LinkAnswer.{LinkAnswer}
 use Rattle.irq_base.specs.declared.entries.LinkAnswer.TheVariants as links
 use Rattle.irq_base.specs.declared.entries.Way.TheVariants as ways
@@ -52,7 +55,7 @@ when P false e h = tt
 -- ---- each row's entry is its actor's
 
 abbrev IsBy : LineDef → Actor → Entry → Type 0
-IsBy def a e = actor_of def.line e ≡ a
+IsBy def a e = actor_of e ≡ a
 
 thread_rows : (P : Entry → Type 0) (r w t o f h : Bool) (begins returns finishes ends : Entry) → P begins → P returns
     → P finishes → P ends → Holds P (row r w t o f h begins returns finishes ends)
@@ -64,11 +67,11 @@ thread_rows P true w true true false false a b c d x y z u = z
 thread_rows P true w true true true h a b c d x y z u = u
 thread_rows P true w true false f h a b c d x y z u = u
 
-of_thread : (def : LineDef) (d : DevNo) (past : List Entry) → Holds (IsBy def (actors.Thread def.line d)) (next_of_thread def d past)
+of_thread : (def : LineDef) (d : DevNo) (past : List Entry) → Holds (IsBy def (actors.Thread d)) (next_of_thread def d past)
 of_thread def d past =
-    thread_rows (IsBy def (actors.Thread def.line d)) (is_running past d) (is_woken past d) (has_returned past d)
-    (is_oneshot past) (has_finished past d) (has_flow def past) (entries.ThreadBegin d)
-    (entries.ThreadReturn d (asks_of_thread def d past)) (entries.Finish d (is_woken past d) (finish_unmasks def d past)) (entries.Done d) refl refl refl refl
+    thread_rows (IsBy def (actors.Thread d)) (is_running past d) (is_woken past d) (has_returned past d)
+    (is_oneshot past) (has_finished past d) (has_flow def past) (by.Thread d threads.Begin)
+    (by.Thread d (threads.Return (nat_lt 0 (asks_of_thread def d past)) (asks_of_thread def d past))) (by.Thread d (threads.Finish (is_woken past d) (finish_unmasks def d past))) (by.Thread d threads.Done) refl refl refl refl
 
 begun_or_ended : (def : LineDef) (c : CpuNo) (past : List Entry) (l : Option DevNo) → IsBy def (actors.Cpu c) (begin_or_end def c past l)
 begun_or_ended def c past None = ap (actor_of def.line) (end_shape def c past)
@@ -89,8 +92,8 @@ take_rows P false true false false x l r a b c = tt
 of_cpu : (def : LineDef) (c : CpuNo) (past : List Entry) → Holds (IsBy def (actors.Cpu c)) (next_of_cpu def c past)
 of_cpu def c past =
     take_rows (IsBy def (actors.Cpu c)) (is_cpu c (flow def past)) (is_cpu c (target def past)) (signals def past)
-    (is_soft past) (next_in_flow def c past (at_work past)) (entries.Take c ways.Line (take_answer def past))
-    (entries.Take c ways.Resend (take_answer def past)) (in_flow def c past (at_work past)) refl refl
+    (is_soft past) (next_in_flow def c past (at_work past)) (by.Cpu c (cpus.Take ways.Line (take_answer def past)))
+    (by.Cpu c (cpus.Take ways.Resend (take_answer def past))) (in_flow def c past (at_work past)) refl refl
 
 of_request : (def : LineDef) (r : DriverNo) (d : DevNo) (flags : Flags) (past : List Entry) (answer : LinkAnswer)
     → IsBy def (actors.Driver r) (request_with def r d flags past answer)
@@ -104,49 +107,49 @@ of_call def r past (Some (calls.Request d flags, n)) =
     unless (IsBy def (actors.Driver r)) (holds_mutex past) (request_of def r d flags past) (of_request def r d flags past (link_answer def d flags past))
 of_call def r past (Some (calls.Free d, n)) =
     let P = IsBy def (actors.Driver r) in
-    either P (n == 0) (cond (holds_mutex past) None (Some (entries.Unlink r d (unlink_answer d past))))
+    either P (n == 0) (cond (holds_mutex past) None (Some (by.DriverCall r (called.Unlink (unlink_answer d past) d))))
     (cond (n == 1) (hard_clear_of def r past) (freed_of r d past))
-    (unless P (holds_mutex past) (entries.Unlink r d (unlink_answer d past)) refl)
+    (unless P (holds_mutex past) (by.DriverCall r (called.Unlink (unlink_answer d past) d)) refl)
     (either P (n == 1) (hard_clear_of def r past) (freed_of r d past)
-    (unless P (has_flow def past) (entries.HardClear r) refl)
-    (unless P (is_woken past d || is_running past d) (entries.Freed r d) refl))
+    (unless P (has_flow def past) (by.DriverCall r called.HardClear) refl)
+    (unless P (is_woken past d || is_running past d) (by.DriverCall r (called.Freed d)) refl))
 of_call def r past (Some (calls.Disable, n)) =
     let P = IsBy def (actors.Driver r) in
-    either P (n == 0) (Some (entries.Disable r)) (cond (n == 1) (hard_clear_of def r past) (synced_of def r past)) refl
+    either P (n == 0) (Some (by.DriverCall r called.Disable)) (cond (n == 1) (hard_clear_of def r past) (synced_of def r past)) refl
     (either P (n == 1) (hard_clear_of def r past) (synced_of def r past)
-    (unless P (has_flow def past) (entries.HardClear r) refl)
-    (when P (active_count def past == 0) (entries.Synced r) refl))
+    (unless P (has_flow def past) (by.DriverCall r called.HardClear) refl)
+    (when P (active_count def past == 0) (by.DriverCall r called.Synced) refl))
 of_call def r past (Some (calls.DisableNosync, n)) = refl
 of_call def r past (Some (calls.Enable, n)) = refl
 of_call def r past (Some (calls.Sync, n)) =
     let P = IsBy def (actors.Driver r) in
     either P (n == 0) (hard_clear_of def r past) (synced_of def r past)
-    (unless P (has_flow def past) (entries.HardClear r) refl)
-    (when P (active_count def past == 0) (entries.Synced r) refl)
+    (unless P (has_flow def past) (by.DriverCall r called.HardClear) refl)
+    (when P (active_count def past == 0) (by.DriverCall r called.Synced) refl)
 of_call def r past (Some (calls.Affinity mask, n)) = refl
 of_call def r past (Some (calls.Moment at, n)) = refl
 
 own : (def : LineDef) (past : List Entry) (a : Actor) → Holds (IsBy def a) (next_past def past a)
-own def past (actors.Thread line d) = of_line (same_line line def.line) refl
+own def past (actors.Thread d) = of_line (same_line line def.line) refl
   where
-    of_line : (b : Bool) → same_line line def.line ≡ b → Holds (IsBy def (actors.Thread line d)) (cond b (next_of_thread def d past) None)
-    of_line true is = subst (λ (l : LineNo). Holds (IsBy def (actors.Thread l d)) (next_of_thread def d past))
+    of_line : (b : Bool) → same_line line def.line ≡ b → Holds (IsBy def (actors.Thread d)) (cond b (next_of_thread def d past) None)
+    of_line true is = subst (λ (l : LineNo). Holds (IsBy def (actors.Thread d)) (next_of_thread def d past))
         (sym (line_from_same line def.line is)) (of_thread def d past)
     of_line false is = tt
 own def past (actors.Cpu c) = of_cpu def c past
 own def past (actors.Driver r) = of_call def r past (due_call def r past)
 
-pub due_is_own_past : (def : LineDef) (past : List Entry) (a : Actor) (e : Entry) → next_past def past a ≡ Some e → actor_of def.line e ≡ a
+pub due_is_own_past : (def : LineDef) (past : List Entry) (a : Actor) (e : Entry) → next_past def past a ≡ Some e → actor_of e ≡ a
 due_is_own_past def past a e is = subst (λ (o : Option Entry). Holds (IsBy def a) o) is (own def past a)
 
-pub due_is_own : (def : LineDef) (h : List Entry) (a : Actor) (e : Entry) → next def h a ≡ Some e → actor_of def.line e ≡ a
+pub due_is_own : (def : LineDef) (h : List Entry) (a : Actor) (e : Entry) → next def h a ≡ Some e → actor_of e ≡ a
 due_is_own def h a e is = due_is_own_past def (reverse h) a e is
 
 -- ---- processors
 
 the_target : (def : LineDef) (past : List Entry) (c : CpuNo) (e : Entry) → is_take e ≡ true → IsDue def e past
-    → actor_of def.line e ≡ actors.Cpu c → is_cpu c (target def past) ≡ true
-the_target def past c (entries.Take cpu way answer) is due by =
+    → actor_of e ≡ actors.Cpu c → is_cpu c (target def past) ≡ true
+the_target def past c (by.Cpu cpu (cpus.Take way answer)) is due by =
     let same : cpu ≡ c = cc in subst (λ (x : CpuNo). is_cpu x (target def past) ≡ true) same (take_due def cpu way answer past due).of_target
 the_target def past c e is due by = cc
 

@@ -7,7 +7,8 @@ use Rattle.irq_base.specs.declared.lines.FlowKind.{FlowKind}
 use Rattle.irq_base.specs.declared.lines.FlowKind.TheVariants as flows
 use Rattle.irq_base.specs.declared.lines.LineDef.{LineDef}
 use Rattle.irq_base.specs.declared.entries.Entry.{Entry}
-use Rattle.irq_base.specs.declared.entries.Entry.TheVariants as entries
+use Rattle.irq_base.specs.declared.entries.Entry.TheVariants as by
+use Rattle.irq_base.specs.declared.entries.CallEntry.TheVariants as called
 use Rattle.irq_base.specs.declared.entries.UnlinkAnswer.TheVariants as unlinks
 use Rattle.irq_model.specs.Kinds.{same_dev}
 use Rattle.irq_model.specs.Lines.{is_edge_line, is_level_line, is_edge_flow, is_level_flow, is_eoi_flow}
@@ -72,13 +73,13 @@ none_here s f h = grind arith
 
 freed_device : (past : List Entry) (r : DriverNo) (d : DevNo) → freeing past ≡ Some (r, d) → is_being_freed past d ≡ true
 freed_device [] r d h = cc
-freed_device (entries.Unlink s x (unlinks.Unlinked last) ∷ past) r d h =
+freed_device (by.DriverCall s (called.Unlink (unlinks.Unlinked last) x) ∷ past) r d h =
     let p : DriverNo × DevNo = (s, x) in
     let q : DriverNo × DevNo = (r, d) in
     let same : x ≡ d = ap (λ (y : DriverNo × DevNo). y.1) (the_same p q h) in
     or_left _ _ (and_from _ _ (subst (λ (y : DevNo). same_dev d y ≡ true) (sym same) (same_self d)) refl)
-freed_device (entries.Unlink s x unlinks.NotThere ∷ past) r d h = none_here (same_dev d x) (is_being_freed past d) (freed_device past r d h)
-freed_device (entries.Freed s x ∷ past) r d h = cc
+freed_device (by.DriverCall s (called.Unlink unlinks.NotThere x) ∷ past) r d h = none_here (same_dev d x) (is_being_freed past d) (freed_device past r d h)
+freed_device (by.DriverCall s (called.Freed x) ∷ past) r d h = cc
 freed_device (e ∷ past) r d h = freed_device past r d h
 
 pub one_is_freed : (def : LineDef) (past : List Entry) → IsValid def → IsLegalPast def past → OneIsFreed def past

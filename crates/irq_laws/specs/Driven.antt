@@ -5,7 +5,11 @@ use Rattle.irq_base.specs.declared.lines.FlowKind.{FlowKind}
 use Rattle.irq_base.specs.declared.lines.FlowKind.TheVariants as flows
 use Rattle.irq_base.specs.declared.lines.LineDef.{LineDef}
 use Rattle.irq_base.specs.declared.entries.Entry.{Entry}
-use Rattle.irq_base.specs.declared.entries.Entry.TheVariants as entries
+use Rattle.irq_base.specs.declared.entries.Entry.TheVariants as by
+use Rattle.irq_base.specs.declared.entries.CpuEntry.TheVariants as cpus
+use Rattle.irq_base.specs.declared.entries.ThreadEntry.TheVariants as threads
+use Rattle.irq_base.specs.declared.entries.DriverEntry.TheVariants as drivers
+use Rattle.irq_base.specs.declared.entries.CallEntry.TheVariants as called
 use Rattle.irq_base.specs.declared.entries.Way.{Way}
 use Rattle.irq_base.specs.declared.entries.Way.TheVariants as ways
 use Rattle.irq_base.specs.declared.entries.TakeAnswer.{TakeAnswer}
@@ -102,26 +106,27 @@ served def count past c =
 
 -- what the entry does after `past`
 abbrev pub driven : LineDef → Entry → List Entry → Cell → Cell
-driven def (entries.Ask driver dev) past c = asked def (entries.Ask driver dev ∷ past) c
-driven def (entries.Return cpu dev answer count) past c =
-    served def count (entries.Return cpu dev answer count ∷ past) c
-driven def (entries.ThreadReturn dev count) past c =
-    served def count (entries.ThreadReturn dev count ∷ past) c
-driven def (entries.Take cpu way answer) past c =
+driven def (by.Driver driver (drivers.Ask edge dev)) past c =
+    asked def (by.Driver driver (drivers.Ask edge dev) ∷ past) c
+driven def (by.Cpu cpu (cpus.Return answer dev count)) past c =
+    served def count (by.Cpu cpu (cpus.Return answer dev count) ∷ past) c
+driven def (by.Thread dev (threads.Return handled count)) past c =
+    served def count (by.Thread dev (threads.Return handled count) ∷ past) c
+driven def (by.Cpu cpu (cpus.Take way answer)) past c =
     taken def def.flow (is_oneshot past) answer (accepted way c)
-driven def (entries.End cpu again unmask note) past c
+driven def (by.Cpu cpu (cpus.End again unmask note)) past c
     = ended def def.flow again unmask (masked_if
-    (def.unlazy && is_kill (entries.End cpu again unmask note)) c)
-driven def (entries.Finish dev kept unmask) past c = unmasked_if unmask c
-driven def (entries.Disable driver) past c = masked_if def.unlazy c
-driven def (entries.Unlink driver dev answer) past c =
-    masked_if (is_last_unlink (entries.Unlink driver dev answer)) c
-driven def (entries.Request driver dev flags answer opened) past c =
-    retriggered_if (is_chip_start (entries.Request driver dev flags answer opened))
-    (unmasked_if (is_start (entries.Request driver dev flags answer opened)) c)
-driven def (entries.Enable driver answer) past c =
-    retriggered_if (is_chip_start (entries.Enable driver answer))
-    (unmasked_if (is_start (entries.Enable driver answer)) c)
+    (def.unlazy && is_kill (by.Cpu cpu (cpus.End again unmask note))) c)
+driven def (by.Thread dev (threads.Finish kept unmask)) past c = unmasked_if unmask c
+driven def (by.DriverCall driver called.Disable) past c = masked_if def.unlazy c
+driven def (by.DriverCall driver (called.Unlink answer dev)) past c =
+    masked_if (is_last_unlink (by.DriverCall driver (called.Unlink answer dev))) c
+driven def (by.Driver driver (drivers.Request flags answer opened dev)) past c =
+    retriggered_if (is_chip_start (by.Driver driver (drivers.Request flags answer opened dev)))
+    (unmasked_if (is_start (by.Driver driver (drivers.Request flags answer opened dev))) c)
+driven def (by.DriverCall driver (called.Enable answer)) past c =
+    retriggered_if (is_chip_start (by.DriverCall driver (called.Enable answer)))
+    (unmasked_if (is_start (by.DriverCall driver (called.Enable answer))) c)
 driven def _ past c = c
 
 -- the cell after all entries

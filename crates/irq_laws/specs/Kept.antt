@@ -9,7 +9,8 @@ use Rattle.irq_base.specs.declared.calls.Call.{Call}
 use Rattle.irq_base.specs.declared.calls.Call.TheVariants as calls
 use Rattle.irq_base.specs.declared.lines.LineDef.{LineDef}
 use Rattle.irq_base.specs.declared.entries.Entry.{Entry}
-use Rattle.irq_base.specs.declared.entries.Entry.TheVariants as entries
+use Rattle.irq_base.specs.declared.entries.Entry.TheVariants as by
+use Rattle.irq_base.specs.declared.entries.CallEntry.TheVariants as called
 use Rattle.irq_base.specs.declared.entries.UnlinkAnswer.TheVariants as unlinks
 use Rattle.irq_model.specs.Places.{stands, since_place, upto_place, count_of}
 use Rattle.irq_model.specs.Kinds.{same_dev, same_driver, is_freed, is_freed_by, links_dev}
@@ -35,13 +36,13 @@ pub record KeepsRuns (def : LineDef) (past : List Entry) : Type 0 where
 -- the driver and the device of the last unlink, unless a free was completed after it
 abbrev pub freeing : List Entry → Option (DriverNo × DevNo)
 freeing [] = None
-freeing (entries.Unlink driver dev (unlinks.Unlinked last) ∷ past) = Some (driver, dev)
-freeing (entries.Freed driver dev ∷ past) = None
+freeing (by.DriverCall driver (called.Unlink (unlinks.Unlinked last) dev) ∷ past) = Some (driver, dev)
+freeing (by.DriverCall driver (called.Freed dev) ∷ past) = None
 freeing (_ ∷ past) = freeing past
 
 -- r unlinked d
 abbrev pub unlinks_of : DriverNo → DevNo → Entry → Bool
-unlinks_of r d (entries.Unlink driver dev answer) =
+unlinks_of r d (by.DriverCall driver (called.Unlink answer dev)) =
     (same_driver r driver && same_dev d dev) && is_unlinked_answer answer
 unlinks_of r d _ = false
 

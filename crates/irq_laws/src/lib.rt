@@ -153,7 +153,7 @@ pub fn driven_cell()
 /// What is due of an actor is an entry of that actor.
 pub fn due_is_own()
     ensures law { (def : LineDef) (h : List Entry) (a : Actor) (e : Entry) → next def h a ≡ Some e
-        → actor_of def.line e ≡ a }
+        → actor_of e ≡ a }
 {}
 
 /// Only the target ever has a take due, so at most one processor has.
@@ -184,7 +184,7 @@ pub fn call_waits()
 /// calls aren't complete may, or the driver of the free that is under way may.
 pub fn drivers_move()
     ensures law { (def : LineDef) (h : List Entry) → IsValid def → IsLegal def h
-        → ((line : LineNo) (d : DevNo) → next def h (actors.Thread line d) ≡ None)
+        → ((line : LineNo) (d : DevNo) → next def h (actors.Thread d) ≡ None)
         → ((c : CpuNo) → next def h (actors.Cpu c) ≡ None) → (r : DriverNo)
         → IsSome (due_call def r (reverse h))
         → IsSome (next def h (actors.Driver r)) ⊎ FreeMoves def h }

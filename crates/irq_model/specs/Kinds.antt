@@ -52,6 +52,10 @@ is_call test _ = false
 
 -- ---- asks and runs
 
+abbrev pub is_any_ask : Entry → Bool
+is_any_ask (by.Driver driver (drivers.Ask edge dev)) = true
+is_any_ask _ = false
+
 -- the device makes an edge, if the line is an edge line
 abbrev pub is_device_edge : Entry → Bool
 is_device_edge (by.Driver driver (drivers.Ask edge dev)) = edge

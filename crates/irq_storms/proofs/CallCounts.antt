@@ -7,7 +7,11 @@ use Rattle.irq_base.specs.declared.calls.Call.{Call}
 use Rattle.irq_base.specs.declared.calls.Call.TheVariants as calls
 use Rattle.irq_base.specs.declared.lines.LineDef.{LineDef}
 use Rattle.irq_base.specs.declared.entries.Entry.{Entry}
-use Rattle.irq_base.specs.declared.entries.Entry.TheVariants as entries
+use Rattle.irq_base.specs.declared.entries.Entry.TheVariants as by
+use Rattle.irq_base.specs.declared.entries.CpuEntry.TheVariants as cpus
+use Rattle.irq_base.specs.declared.entries.ThreadEntry.TheVariants as threads
+use Rattle.irq_base.specs.declared.entries.DriverEntry.TheVariants as drivers
+use Rattle.irq_base.specs.declared.entries.CallEntry.TheVariants as called
 use Rattle.irq_base.specs.declared.entries.UnlinkAnswer.TheVariants as unlinks
 use Rattle.irq_model.specs.Places.{count_of}
 use Rattle.irq_model.specs.Kinds.{same_driver, is_by_driver, is_any_ask}
@@ -51,16 +55,16 @@ module _ {A : Type 0} (p : A → Bool) where
 -- ---- one driver
 
 abbrev driver_key : Entry → ℕ
-driver_key (entries.Ask driver dev) = driver.0
-driver_key (entries.Disable driver) = driver.0
-driver_key (entries.HardClear driver) = driver.0
-driver_key (entries.Synced driver) = driver.0
-driver_key (entries.Enable driver answer) = driver.0
-driver_key (entries.Request driver dev flags answer opened) = driver.0
-driver_key (entries.Unlink driver dev answer) = driver.0
-driver_key (entries.Freed driver dev) = driver.0
-driver_key (entries.Affinity driver mask answer) = driver.0
-driver_key (entries.Moment driver at) = driver.0
+driver_key (by.Driver driver (drivers.Ask makes dev)) = driver.0
+driver_key (by.DriverCall driver called.Disable) = driver.0
+driver_key (by.DriverCall driver called.HardClear) = driver.0
+driver_key (by.DriverCall driver called.Synced) = driver.0
+driver_key (by.DriverCall driver (called.Enable answer)) = driver.0
+driver_key (by.Driver driver (drivers.Request flags answer opened dev)) = driver.0
+driver_key (by.DriverCall driver (called.Unlink answer dev)) = driver.0
+driver_key (by.DriverCall driver (called.Freed dev)) = driver.0
+driver_key (by.Driver driver (drivers.Affinity answer mask)) = driver.0
+driver_key (by.Driver driver (drivers.Moment at)) = driver.0
 driver_key _ = 0
 
 -- a test of drivers' entries, and how often a call meets it at most
@@ -101,14 +105,14 @@ module _ (p : Entry → Bool) (w : Call → ℕ) (by_driver : (e : Entry) → p 
   one_driver false false = refl
 
   at_driver : (k : ℕ) (e : Entry) → one_if (p e && is_by_driver (record { 0 = k }) e) ≡ cond (k == driver_key e) (one_if (p e)) 0
-  at_driver k (entries.Take cpu way answer) = no_driver _ _ _ (by_driver (entries.Take cpu way answer))
-  at_driver k (entries.Begin cpu dev) = no_driver _ _ _ (by_driver (entries.Begin cpu dev))
-  at_driver k (entries.Return cpu dev answer served) = no_driver _ _ _ (by_driver (entries.Return cpu dev answer served))
-  at_driver k (entries.End cpu again unmask note) = no_driver _ _ _ (by_driver (entries.End cpu again unmask note))
-  at_driver k (entries.ThreadBegin dev) = no_driver _ _ _ (by_driver (entries.ThreadBegin dev))
-  at_driver k (entries.ThreadReturn dev served) = no_driver _ _ _ (by_driver (entries.ThreadReturn dev served))
-  at_driver k (entries.Finish dev kept unmask) = no_driver _ _ _ (by_driver (entries.Finish dev kept unmask))
-  at_driver k (entries.Done dev) = no_driver _ _ _ (by_driver (entries.Done dev))
+  at_driver k (by.Cpu cpu (cpus.Take way answer)) = no_driver _ _ _ (by_driver (by.Cpu cpu (cpus.Take way answer)))
+  at_driver k (by.Cpu cpu (cpus.Begin dev)) = no_driver _ _ _ (by_driver (by.Cpu cpu (cpus.Begin dev)))
+  at_driver k (by.Cpu cpu (cpus.Return answer dev served)) = no_driver _ _ _ (by_driver (by.Cpu cpu (cpus.Return answer dev served)))
+  at_driver k (by.Cpu cpu (cpus.End again unmask note)) = no_driver _ _ _ (by_driver (by.Cpu cpu (cpus.End again unmask note)))
+  at_driver k (by.Thread dev threads.Begin) = no_driver _ _ _ (by_driver (by.Thread dev threads.Begin))
+  at_driver k (by.Thread dev (threads.Return handled served)) = no_driver _ _ _ (by_driver (by.Thread dev (threads.Return _ served)))
+  at_driver k (by.Thread dev (threads.Finish kept unmask)) = no_driver _ _ _ (by_driver (by.Thread dev (threads.Finish kept unmask)))
+  at_driver k (by.Thread dev threads.Done) = no_driver _ _ _ (by_driver (by.Thread dev threads.Done))
   at_driver k e = one_driver (p e) (k == driver_key e)
 
   of_driver : (def : LineDef) (past : List Entry) → FollowsScriptsPast def past → (k : ℕ)
@@ -142,52 +146,52 @@ most_entries (calls.Ask dev) = 1
 most_entries _ = 3
 
 most_made : (c : Call) (es : List Entry) → MakesAll c es → count_of is_by_any_driver es ≤ most_entries c
-most_made (calls.Ask d) (entries.Ask r dev ∷ []) h = omega arith
-most_made (calls.Request d flags) (entries.Request r dev given answer opened ∷ []) h = omega arith
-most_made (calls.Free d) (entries.Unlink r dev unlinks.NotThere ∷ []) h = omega arith
-most_made (calls.Free d) (entries.Unlink r dev (unlinks.Unlinked last) ∷ entries.HardClear s ∷ entries.Freed t freed ∷ []) h = omega arith
-most_made calls.Disable (entries.Disable r ∷ entries.HardClear s ∷ entries.Synced t ∷ []) h = omega arith
-most_made calls.DisableNosync (entries.Disable r ∷ []) h = omega arith
-most_made calls.Enable (entries.Enable r answer ∷ []) h = omega arith
-most_made calls.Sync (entries.HardClear r ∷ entries.Synced s ∷ []) h = omega arith
-most_made (calls.Affinity mask) (entries.Affinity r given answer ∷ []) h = omega arith
-most_made (calls.Moment at) (entries.Moment r given ∷ []) h = omega arith
+most_made (calls.Ask d) (by.Driver r (drivers.Ask makes dev) ∷ []) h = omega arith
+most_made (calls.Request d flags) (by.Driver r (drivers.Request given answer opened dev) ∷ []) h = omega arith
+most_made (calls.Free d) (by.DriverCall r (called.Unlink unlinks.NotThere dev) ∷ []) h = omega arith
+most_made (calls.Free d) (by.DriverCall r (called.Unlink (unlinks.Unlinked last) dev) ∷ by.DriverCall s called.HardClear ∷ by.DriverCall t (called.Freed freed) ∷ []) h = omega arith
+most_made calls.Disable (by.DriverCall r called.Disable ∷ by.DriverCall s called.HardClear ∷ by.DriverCall t called.Synced ∷ []) h = omega arith
+most_made calls.DisableNosync (by.DriverCall r called.Disable ∷ []) h = omega arith
+most_made calls.Enable (by.DriverCall r (called.Enable answer) ∷ []) h = omega arith
+most_made calls.Sync (by.DriverCall r called.HardClear ∷ by.DriverCall s called.Synced ∷ []) h = omega arith
+most_made (calls.Affinity mask) (by.Driver r (drivers.Affinity answer given) ∷ []) h = omega arith
+most_made (calls.Moment at) (by.Driver r (drivers.Moment given) ∷ []) h = omega arith
 most_made c es h = absurd h
 
 asks_made : (c : Call) (es : List Entry) → MakesAll c es → count_of is_any_ask es ≤ one_if (is_ask_call c)
-asks_made (calls.Ask d) (entries.Ask r dev ∷ []) h = omega arith
-asks_made (calls.Request d flags) (entries.Request r dev given answer opened ∷ []) h = omega arith
-asks_made (calls.Free d) (entries.Unlink r dev unlinks.NotThere ∷ []) h = omega arith
-asks_made (calls.Free d) (entries.Unlink r dev (unlinks.Unlinked last) ∷ entries.HardClear s ∷ entries.Freed t freed ∷ []) h = omega arith
-asks_made calls.Disable (entries.Disable r ∷ entries.HardClear s ∷ entries.Synced t ∷ []) h = omega arith
-asks_made calls.DisableNosync (entries.Disable r ∷ []) h = omega arith
-asks_made calls.Enable (entries.Enable r answer ∷ []) h = omega arith
-asks_made calls.Sync (entries.HardClear r ∷ entries.Synced s ∷ []) h = omega arith
-asks_made (calls.Affinity mask) (entries.Affinity r given answer ∷ []) h = omega arith
-asks_made (calls.Moment at) (entries.Moment r given ∷ []) h = omega arith
+asks_made (calls.Ask d) (by.Driver r (drivers.Ask makes dev) ∷ []) h = omega arith
+asks_made (calls.Request d flags) (by.Driver r (drivers.Request given answer opened dev) ∷ []) h = omega arith
+asks_made (calls.Free d) (by.DriverCall r (called.Unlink unlinks.NotThere dev) ∷ []) h = omega arith
+asks_made (calls.Free d) (by.DriverCall r (called.Unlink (unlinks.Unlinked last) dev) ∷ by.DriverCall s called.HardClear ∷ by.DriverCall t (called.Freed freed) ∷ []) h = omega arith
+asks_made calls.Disable (by.DriverCall r called.Disable ∷ by.DriverCall s called.HardClear ∷ by.DriverCall t called.Synced ∷ []) h = omega arith
+asks_made calls.DisableNosync (by.DriverCall r called.Disable ∷ []) h = omega arith
+asks_made calls.Enable (by.DriverCall r (called.Enable answer) ∷ []) h = omega arith
+asks_made calls.Sync (by.DriverCall r called.HardClear ∷ by.DriverCall s called.Synced ∷ []) h = omega arith
+asks_made (calls.Affinity mask) (by.Driver r (drivers.Affinity answer given) ∷ []) h = omega arith
+asks_made (calls.Moment at) (by.Driver r (drivers.Moment given) ∷ []) h = omega arith
 asks_made c es h = absurd h
 
 renewals_made : (c : Call) (es : List Entry) → MakesAll c es → count_of is_renewal es ≤ one_if (not (is_ask_call c))
-renewals_made (calls.Ask d) (entries.Ask r dev ∷ []) h = omega arith
-renewals_made (calls.Request d flags) (entries.Request r dev given answer opened ∷ []) h = at_most_one (is_renewal (entries.Request r dev given answer opened))
-renewals_made (calls.Free d) (entries.Unlink r dev unlinks.NotThere ∷ []) h = omega arith
-renewals_made (calls.Free d) (entries.Unlink r dev (unlinks.Unlinked last) ∷ entries.HardClear s ∷ entries.Freed t freed ∷ []) h = omega arith
-renewals_made calls.Disable (entries.Disable r ∷ entries.HardClear s ∷ entries.Synced t ∷ []) h = omega arith
-renewals_made calls.DisableNosync (entries.Disable r ∷ []) h = omega arith
-renewals_made calls.Enable (entries.Enable r answer ∷ []) h = at_most_one (is_renewal (entries.Enable r answer))
-renewals_made calls.Sync (entries.HardClear r ∷ entries.Synced s ∷ []) h = omega arith
-renewals_made (calls.Affinity mask) (entries.Affinity r given answer ∷ []) h = omega arith
-renewals_made (calls.Moment at) (entries.Moment r given ∷ []) h = omega arith
+renewals_made (calls.Ask d) (by.Driver r (drivers.Ask makes dev) ∷ []) h = omega arith
+renewals_made (calls.Request d flags) (by.Driver r (drivers.Request given answer opened dev) ∷ []) h = at_most_one (is_renewal (by.Driver r (drivers.Request given answer opened dev)))
+renewals_made (calls.Free d) (by.DriverCall r (called.Unlink unlinks.NotThere dev) ∷ []) h = omega arith
+renewals_made (calls.Free d) (by.DriverCall r (called.Unlink (unlinks.Unlinked last) dev) ∷ by.DriverCall s called.HardClear ∷ by.DriverCall t (called.Freed freed) ∷ []) h = omega arith
+renewals_made calls.Disable (by.DriverCall r called.Disable ∷ by.DriverCall s called.HardClear ∷ by.DriverCall t called.Synced ∷ []) h = omega arith
+renewals_made calls.DisableNosync (by.DriverCall r called.Disable ∷ []) h = omega arith
+renewals_made calls.Enable (by.DriverCall r (called.Enable answer) ∷ []) h = at_most_one (is_renewal (by.DriverCall r (called.Enable answer)))
+renewals_made calls.Sync (by.DriverCall r called.HardClear ∷ by.DriverCall s called.Synced ∷ []) h = omega arith
+renewals_made (calls.Affinity mask) (by.Driver r (drivers.Affinity answer given) ∷ []) h = omega arith
+renewals_made (calls.Moment at) (by.Driver r (drivers.Moment given) ∷ []) h = omega arith
 renewals_made c es h = absurd h
 
 ask_by_driver : (e : Entry) → is_any_ask e ≡ true → is_by_any_driver e ≡ true
-ask_by_driver (entries.Ask driver dev) h = refl
+ask_by_driver (by.Driver driver (drivers.Ask makes dev)) h = refl
 ask_by_driver e h = cc
 
 renewal_by_driver : (e : Entry) → is_renewal e ≡ true → is_by_any_driver e ≡ true
-renewal_by_driver (entries.Enable driver answer) h = refl
-renewal_by_driver (entries.Request driver dev flags answer opened) h = refl
-renewal_by_driver (entries.Moment driver at) h = refl
+renewal_by_driver (by.DriverCall driver (called.Enable answer)) h = refl
+renewal_by_driver (by.Driver driver (drivers.Request flags answer opened dev)) h = refl
+renewal_by_driver (by.Driver driver (drivers.Moment at)) h = refl
 renewal_by_driver e h = cc
 
 -- ---- the weights of all calls

@@ -4,7 +4,9 @@ use Rattle.std.proofs.lemmas.List.{reverse-reverse}
 use Rattle.std.proofs.Math.Nat.{mul-add, add-mul, mul-le-mul_left, mul-one, mul_assoc}
 use Rattle.irq_base.specs.declared.lines.LineDef.{LineDef}
 use Rattle.irq_base.specs.declared.entries.Entry.{Entry}
-use Rattle.irq_base.specs.declared.entries.Entry.TheVariants as entries
+use Rattle.irq_base.specs.declared.entries.Entry.TheVariants as by
+use Rattle.irq_base.specs.declared.entries.CpuEntry.TheVariants as cpus
+use Rattle.irq_base.specs.declared.entries.ThreadEntry.TheVariants as threads
 use Rattle.irq_model.specs.Places.{count_of}
 use Rattle.irq_model.specs.Kinds.{is_take}
 use Rattle.irq_model.specs.Lines.{is_edge_line}
@@ -30,14 +32,14 @@ of_threads past = count_of is_any_thread_begin past + count_of is_any_thread_ret
 -- each entry is of one kind
 all_kinds : (past : List Entry) → length past ≡ of_cpus past + of_threads past + count_of is_by_any_driver past
 all_kinds [] = refl
-all_kinds (entries.Take cpu way answer ∷ past) = let r = all_kinds past in omega (arith, r)
-all_kinds (entries.Begin cpu dev ∷ past) = let r = all_kinds past in omega (arith, r)
-all_kinds (entries.Return cpu dev answer served ∷ past) = let r = all_kinds past in omega (arith, r)
-all_kinds (entries.End cpu again unmask note ∷ past) = let r = all_kinds past in omega (arith, r)
-all_kinds (entries.ThreadBegin dev ∷ past) = let r = all_kinds past in omega (arith, r)
-all_kinds (entries.ThreadReturn dev served ∷ past) = let r = all_kinds past in omega (arith, r)
-all_kinds (entries.Finish dev kept unmask ∷ past) = let r = all_kinds past in omega (arith, r)
-all_kinds (entries.Done dev ∷ past) = let r = all_kinds past in omega (arith, r)
+all_kinds (by.Cpu cpu (cpus.Take way answer) ∷ past) = let r = all_kinds past in omega (arith, r)
+all_kinds (by.Cpu cpu (cpus.Begin dev) ∷ past) = let r = all_kinds past in omega (arith, r)
+all_kinds (by.Cpu cpu (cpus.Return answer dev served) ∷ past) = let r = all_kinds past in omega (arith, r)
+all_kinds (by.Cpu cpu (cpus.End again unmask note) ∷ past) = let r = all_kinds past in omega (arith, r)
+all_kinds (by.Thread dev threads.Begin ∷ past) = let r = all_kinds past in omega (arith, r)
+all_kinds (by.Thread dev (threads.Return handled served) ∷ past) = let r = all_kinds past in omega (arith, r)
+all_kinds (by.Thread dev (threads.Finish kept unmask) ∷ past) = let r = all_kinds past in omega (arith, r)
+all_kinds (by.Thread dev threads.Done ∷ past) = let r = all_kinds past in omega (arith, r)
 all_kinds (e ∷ past) = let r = all_kinds past in omega (arith, r)
 
 -- by the takes, the rounds, and what the drivers add

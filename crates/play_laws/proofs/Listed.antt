@@ -13,7 +13,8 @@ use Rattle.irq_base.specs.declared.lines.LineDef.{LineDef}
 use Rattle.irq_base.specs.declared.entries.Actor.{Actor}
 use Rattle.irq_base.specs.declared.entries.Actor.TheVariants as actors
 use Rattle.irq_base.specs.declared.entries.Entry.{Entry}
-use Rattle.irq_base.specs.declared.entries.Entry.TheVariants as entries
+use Rattle.irq_base.specs.declared.entries.Entry.TheVariants as by
+use Rattle.irq_base.specs.declared.entries.CpuEntry.TheVariants as cpus
 use Rattle.irq_base.specs.declared.entries.TakeAnswer.TheVariants as takes
 use Rattle.irq_model.specs.Kinds.{same_line, same_driver, is_handle}
 use Rattle.irq_model.specs.Lines.{is_device, is_in_mask, is_eoi_flow}
@@ -121,17 +122,17 @@ thread_device def past d e k h = by_there (is_linked past d || is_being_freed pa
         (has_finished past d) (has_flow def past) _ _ _ _ e h m.0 m.1)
 
 thread_listed : (def : LineDef) (past : List Entry) (line : LineNo) (d : DevNo) (e : Entry) → Kept def past
-    → next_past def past (actors.Thread line d) ≡ Some e → IsOneOf (actors.Thread line d) (threads_of def)
+    → next_past def past (actors.Thread d) ≡ Some e → IsOneOf (actors.Thread d) (threads_of def)
 thread_listed def past line d e k h = by_line (chosen (same_line line def.line) (next_of_thread def d past) None e h)
   where
     numbered : ℕ → Actor
-    numbered n = actors.Thread def.line (record { 0 = n })
+    numbered n = actors.Thread (record { 0 = n })
 
-    here : IsOneOf (numbered d.0) (threads_of def) → same_line line def.line ≡ true → IsOneOf (actors.Thread line d) (threads_of def)
-    here at same = subst (λ (l : LineNo). IsOneOf (actors.Thread l d) (threads_of def)) (sym (line_from_same line def.line same)) at
+    here : IsOneOf (numbered d.0) (threads_of def) → same_line line def.line ≡ true → IsOneOf (actors.Thread d) (threads_of def)
+    here at same = subst (λ (l : LineNo). IsOneOf (actors.Thread d) (threads_of def)) (sym (line_from_same line def.line same)) at
 
     by_line : ((same_line line def.line ≡ true) × (next_of_thread def d past ≡ Some e))
-        ⊎ ((same_line line def.line ≡ false) × (None ≡ Some e)) → IsOneOf (actors.Thread line d) (threads_of def)
+        ⊎ ((same_line line def.line ≡ false) × (None ≡ Some e)) → IsOneOf (actors.Thread d) (threads_of def)
     by_line (inl h) = here (named numbered d.0 (map (λ (x : DeviceDef). x.dev.0) def.devices)
         (device_number d def.devices (thread_device def past d e k h.1))) h.0
     by_line (inr h) = let n = h.1 in cc
@@ -169,11 +170,11 @@ flow_listed def [] c legal is = cc
 flow_listed def (e ∷ past) c legal is = by_test (is_handle e || closes def e) refl (flow_listed def past c legal.1)
   where
     taken : (x : Entry) → IsDue def x past → (is_handle x || closes def x) ≡ true → cpu_of_handle (Some x) ≡ Some c → IsOneOf (actors.Cpu c) (cpus_of def)
-    taken (entries.Take cpu way takes.Handle) due t at =
+    taken (by.Cpu cpu (cpus.Take way takes.Handle)) due t at =
         subst (λ (y : CpuNo). IsOneOf (actors.Cpu y) (cpus_of def)) (the_same cpu c at)
         (target_listed def past cpu (take_due def cpu way takes.Handle past due).of_target)
-    taken (entries.Take cpu way takes.Busy) due t at = not_handled (is_eoi_flow def.flow) t
-    taken (entries.Take cpu way takes.Off) due t at = not_handled (is_eoi_flow def.flow) t
+    taken (by.Cpu cpu (cpus.Take way takes.Busy)) due t at = not_handled (is_eoi_flow def.flow) t
+    taken (by.Cpu cpu (cpus.Take way takes.Off)) due t at = not_handled (is_eoi_flow def.flow) t
     taken x due t at = cc
 
     by_test : (b : Bool) → (is_handle e || closes def e) ≡ b
@@ -223,8 +224,8 @@ driver_listed def past r e h = by_due (due_call def r past) refl h
 
 pub mover_listed : (def : LineDef) (past : List Entry) (a : Actor) (e : Entry) → IsValid def → IsLegalPast def past
     → next_past def past a ≡ Some e → IsOneOf a (actors_of def)
-mover_listed def past (actors.Thread line d) e valid legal h =
-    in_first (actors.Thread line d) (threads_of def) (cpus_of def ++ drivers_of def) (thread_listed def past line d e (kept def past valid legal) h)
+mover_listed def past (actors.Thread d) e valid legal h =
+    in_first (actors.Thread d) (threads_of def) (cpus_of def ++ drivers_of def) (thread_listed def past line d e (kept def past valid legal) h)
 mover_listed def past (actors.Cpu c) e valid legal h =
     in_second (actors.Cpu c) (threads_of def) (cpus_of def ++ drivers_of def)
     (in_first (actors.Cpu c) (cpus_of def) (drivers_of def) (cpu_listed def past c e legal h))

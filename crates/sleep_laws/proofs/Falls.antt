@@ -30,7 +30,7 @@ nothing_in_way def past i n = by_tests (n == 0) (n == 1)
         (λ x. let n = i.no_thread x.dev in or_from (is_woken past x.dev) (is_running past x.dev) n.0 n.1)
 
 pub falls_asleep : (def : LineDef) (h : List Entry) (r : DriverNo) (n : ℕ)
-    → ((line : LineNo) (d : DevNo) → next def h (actors.Thread line d) ≡ None)
+    → ((line : LineNo) (d : DevNo) → next def h (actors.Thread d) ≡ None)
     → ((c : CpuNo) → next def h (actors.Cpu c) ≡ None)
     → due_call def r (reverse h) ≡ Some (calls.Disable, n) → IsSome (next def h (actors.Driver r))
 falls_asleep def h r n threads cpus is =

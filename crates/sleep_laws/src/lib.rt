@@ -48,7 +48,7 @@ pub fn left_alone()
 /// driver whose disable isn't complete may.
 pub fn falls_asleep()
     ensures law { (def : LineDef) (h : List Entry) (r : DriverNo) (n : ℕ)
-        → ((line : LineNo) (d : DevNo) → next def h (actors.Thread line d) ≡ None)
+        → ((line : LineNo) (d : DevNo) → next def h (actors.Thread d) ≡ None)
         → ((c : CpuNo) → next def h (actors.Cpu c) ≡ None)
         → due_call def r (reverse h) ≡ Some (calls.Disable, n)
         → IsSome (next def h (actors.Driver r)) }
