@@ -85,22 +85,11 @@ pub enum CallWords {
     },
 }
 
-/// The actor of a pick.
-#[derive(Clone, Copy, PartialEq, Eq)]
-pub enum Picked {
-    /// The thread of a device.
-    Thread(DevNo),
-    /// A processor.
-    Cpu(CpuNo),
-    /// A driver.
-    Driver(DriverNo),
-}
-
 /// One word of a `picks` statement.
 #[derive(Clone, Copy, PartialEq, Eq)]
 pub struct PickWord {
     /// The actor.
-    pub who: Picked,
+    pub who: Actor,
     /// How many steps of the actor, 1 to 65,535.
     pub times: u32,
 }
