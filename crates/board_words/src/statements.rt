@@ -2,7 +2,7 @@
 use crate::faults::FaultKind;
 use board_def::Name;
 use irq_base::{
-    ControllerKind, CpuNo, DevNo, DriverNo, Flags, ItemList, Kind, LineNo, MapKind, NoMemory,
+    Actor, ControllerKind, DevNo, DriverNo, Flags, ItemList, Kind, LineNo, MapKind, NoMemory,
 };
 use thiserror::Error;
 
