@@ -35,6 +35,7 @@ use Rattle.irq_laws.proofs.KeptAlways.{each}
 use Rattle.irq_laws.proofs.ImpliesFlow.{unmask_by, begin_due, return_due, end_due}
 use Rattle.irq_laws.proofs.ImpliesThread.{thread_begin_due, thread_return_due, finish_due, done_due}
 use Rattle.irq_laws.proofs.ImpliesDriver.{hard_clear_due, synced_due}
+use Rattle.irq_laws.proofs.OwnLaws.{no_cpu_call, no_thread_call}
 
 -- ---- no overlap
 
@@ -114,6 +115,8 @@ synchronised_at : (def : LineDef) (e : Entry) (past : List Entry) → IsDue def 
     × (is_synced e ≡ true → (is_woken past d || is_running past d) ≡ false)
 synchronised_at def (by.DriverCall s called.HardClear) past due k d = (λ is. nothing_called def past k.runs (hard_clear_due def s past due).no_flow d, λ none. cc)
 synchronised_at def (by.DriverCall s called.Synced) past due k d = (λ none. cc, λ is. all_idle def past k (synced_due def s past due).none_active d)
+synchronised_at def (by.CpuCall c call) past due k d = no_cpu_call def c call past due
+synchronised_at def (by.ThreadCall x call) past due k d = no_thread_call def x call past due
 synchronised_at def e past due k d = (λ none. cc, λ none. cc)
 
 pub synchronised : (def : LineDef) (h : List Entry) → IsValid def → IsLegal def h → IsSynchronised def h

@@ -32,6 +32,7 @@ use Rattle.irq_steps.proofs.Same.{driver_from_same}
 use Rattle.irq_laws.proofs.Progress.{makes_one, same_count, same_call, due_at, entries_more}
 use Rattle.irq_laws.proofs.ImpliesDriver.{ask_due, request_due, unlink_due, freed_due, disable_due, hard_clear_due}
 use Rattle.irq_laws.proofs.ImpliesDriver.{synced_due, enable_due, affinity_due, moment_due}
+use Rattle.irq_laws.proofs.OwnLaws.{no_new_call}
 
 -- ---- how many entries a call makes
 
@@ -242,7 +243,7 @@ follows def s e past c n by due goes f r = by_driver (same_driver r s) refl
 
 follows_more : (def : LineDef) (e : Entry) (past : List Entry) → IsDue def e past → FollowsScriptsPast def past → FollowsScriptsPast def (e ∷ past)
 follows_more def (by.Driver s (drivers.Ask makes x)) past due f = let u = ask_due _ def s x past due in
-    follows def s (by.Driver s (drivers.Ask _ x)) past (calls.Ask x) u.count (λ r. refl) u.call (goes_ask _ s x u.count) f
+    follows def s (by.Driver s (drivers.Ask makes x)) past (calls.Ask x) u.count (λ r. refl) u.call (goes_ask _ s x u.count) f
 follows_more def (by.DriverCall s called.Disable) past due f = by_call (disable_due def s past due).call
   where
     by_call : (due_call def s past ≡ Some (calls.Disable, 0))
@@ -284,6 +285,10 @@ follows_more def (by.Driver s (drivers.Affinity answer mask)) past due f =
     (goes_affinity s mask answer u.count) f
 follows_more def (by.Driver s (drivers.Moment at)) past due f = let u = moment_due def s at past due in
     follows def s (by.Driver s (drivers.Moment at)) past (calls.Moment at) u.count (λ r. refl) u.call (goes_moment s at u.count) f
+follows_more def (by.DriverCall s (called.Wake woken x)) past due f = no_new_call def s (called.Wake woken x) past refl due
+follows_more def (by.DriverCall s (called.Quiet x)) past due f = no_new_call def s (called.Quiet x) past refl due
+follows_more def (by.DriverCall s (called.Arm makes x)) past due f = no_new_call def s (called.Arm makes x) past refl due
+follows_more def (by.DriverCall s (called.Serve x served)) past due f = no_new_call def s (called.Serve x served) past refl due
 follows_more def e past due f = f
 
 pub follows_past : (def : LineDef) (past : List Entry) → IsLegalPast def past → FollowsScriptsPast def past

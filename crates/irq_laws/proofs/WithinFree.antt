@@ -21,6 +21,7 @@ use Rattle.irq_laws.proofs.Chosen.{the_same}
 use Rattle.irq_laws.proofs.Progress.{standing, same_count, same_call, due_at, entries_more, no_more}
 use Rattle.irq_laws.proofs.FreesKept.{is_free, never, not_freeing}
 use Rattle.irq_laws.proofs.ImpliesDriver.{ask_due, request_due, unlink_due, disable_due, hard_clear_due, synced_due, enable_due, affinity_due, moment_due}
+use Rattle.irq_laws.proofs.OwnLaws.{no_new_call}
 
 -- the due call goes on with e as one entry more
 goes_on_with : (def : LineDef) (r : DriverNo) (e : Entry) (past : List Entry) (c : Call) (n : ℕ) → is_by_driver r e ≡ true → due_call def r past ≡ Some (c, n)
@@ -92,7 +93,7 @@ clear_due def s past r d n due h = by_call (hard_clear_due def s past due).call
 within_more : (def : LineDef) (e : Entry) (past : List Entry) (r : DriverNo) (d : DevNo) → IsDue def e past
     → (freeing past ≡ Some (r, d) → Within def past r d) → freeing (e ∷ past) ≡ Some (r, d) → Within def (e ∷ past) r d
 within_more def (by.Driver s (drivers.Ask makes x)) past r d due k f =
-    let h = k f in let u = ask_due _ def s x past due in (h.0, other_due def r s (by.Driver s (drivers.Ask _ x)) past (calls.Ask x) u.count d h.0 refl refl u.call h.1)
+    let h = k f in let u = ask_due _ def s x past due in (h.0, other_due def r s (by.Driver s (drivers.Ask makes x)) past (calls.Ask x) u.count d h.0 refl refl u.call h.1)
 within_more def (by.DriverCall s called.Disable) past r d due k f = by_call (k f) (disable_due def s past due).call
   where
     by_call : Within def past r d → (due_call def s past ≡ Some (calls.Disable, 0))
@@ -135,6 +136,10 @@ within_more def (by.Driver s (drivers.Affinity answer mask)) past r d due k f =
 within_more def (by.Driver s (drivers.Moment at)) past r d due k f =
     let h = k f in let u = moment_due def s at past due in
     (h.0, other_due def r s (by.Driver s (drivers.Moment at)) past (calls.Moment at) u.count d h.0 refl refl u.call h.1)
+within_more def (by.DriverCall s (called.Wake woken x)) past r d due k f = no_new_call def s (called.Wake woken x) past refl due
+within_more def (by.DriverCall s (called.Quiet x)) past r d due k f = no_new_call def s (called.Quiet x) past refl due
+within_more def (by.DriverCall s (called.Arm makes x)) past r d due k f = no_new_call def s (called.Arm makes x) past refl due
+within_more def (by.DriverCall s (called.Serve x served)) past r d due k f = no_new_call def s (called.Serve x served) past refl due
 within_more def e past r d due k f = k f
 
 pub within_free : (def : LineDef) (past : List Entry) → IsLegalPast def past → (r : DriverNo) (d : DevNo)
