@@ -23,7 +23,8 @@ use Rattle.irq_model.specs.Reason.{is_being_freed}
 use Rattle.irq_model.specs.Rounds.{has_flow}
 use Rattle.irq_model.specs.Threads.{is_woken, is_running, active_count}
 use Rattle.irq_model.specs.Due.{due_call, holds_mutex}
-use Rattle.irq_model.specs.Next.{next_of_free, next_of_disable, next_of_sync, next_of_call, hard_clear_of, synced_of, freed_of, request_of, unlink_answer, next_past}
+use Rattle.irq_model.specs.Next.{next_of_free, next_of_disable, next_of_sync, next_of_call, hard_clear_of, synced_of}
+use Rattle.irq_model.specs.Next.{freed_of, request_of, unlink_answer, next_past}
 use Rattle.irq_model.specs.Valid.{IsValid}
 use Rattle.irq_base.specs.declared.entries.Actor.TheVariants as actors
 use Rattle.irq_steps.proofs.Same.{dev_from_same}

@@ -455,7 +455,8 @@ kill_stops def c again unmask note past due kill =
     or_kill d k h = grind arith
 
 end_masked : (def : LineDef) (c : CpuNo) (again unmask : Bool) (note : Note) (past : List Entry)
-    → is_masked def (by.Cpu c (cpus.End again unmask note) ∷ past) ≡ ((def.unlazy && is_kill (by.Cpu c (cpus.End again unmask note))) || (not unmask && is_masked def past))
+    → is_masked def (by.Cpu c (cpus.End again unmask note) ∷ past)
+    ≡ ((def.unlazy && is_kill (by.Cpu c (cpus.End again unmask note))) || (not unmask && is_masked def past))
 end_masked def c again unmask note past =
     masked_more def (by.Cpu c (cpus.End again unmask note)) past
     ∙ by_take (take_masks def def.flow (by.Cpu c (cpus.End again unmask note)) past) def.unlazy
@@ -495,7 +496,8 @@ end_marks def c again unmask note past h i due edgeless = by_tests (def.unlazy &
         opens : (k u m : Bool) → k ≡ false → u ≡ true → (k || (not u && m)) ≡ false
         opens k u m a b = grind arith
     by_tests false false k u =
-        leaves def (by.Cpu c (cpus.End again unmask note)) past h i refl edgeless (end_masked def c again unmask note past ∙ stays _ unmask (is_masked def past) k u)
+        leaves def (by.Cpu c (cpus.End again unmask note)) past h i refl edgeless
+        (end_masked def c again unmask note past ∙ stays _ unmask (is_masked def past) k u)
       where
         stays : (k u m : Bool) → k ≡ false → u ≡ false → (k || (not u && m)) ≡ m
         stays k u m a b = grind arith
@@ -646,7 +648,8 @@ cell_more def (by.DriverCall r (called.Unlink answer d)) past valid due k soft =
 cell_more def (by.Driver r (drivers.Request flags answer opened d)) past valid due k soft =
     by_start def (by.Driver r (drivers.Request flags answer opened d)) past opened due refl (plain _ refl refl refl refl) refl refl refl refl refl
 cell_more def (by.DriverCall r (called.Enable answer)) past valid due k soft =
-    by_start def (by.DriverCall r (called.Enable answer)) past (opened_of (by.DriverCall r (called.Enable answer))) due refl (plain _ refl refl refl refl) refl refl refl refl refl
+    by_start def (by.DriverCall r (called.Enable answer)) past (opened_of (by.DriverCall r (called.Enable answer))) due
+    refl (plain _ refl refl refl refl) refl refl refl refl refl
 cell_more def (by.CpuCall c call) past valid due k soft = no_cpu_call def c call past due
 cell_more def (by.ThreadCall x call) past valid due k soft = no_thread_call def x call past due
 cell_more def e past valid due k soft =

@@ -277,7 +277,8 @@ covered_again def c unmask note past d valid due edge linked = by_flow (is_eoi_f
         (valid.eoi_keeps edge eoi)))
     by_flow false other =
         by_ahead def (by.Cpu c (cpus.End true unmask note) ∷ past) d
-        (ahead_from (has_flow def (by.Cpu c (cpus.End true unmask note) ∷ past)) (is_linked past d) (has_begun def (by.Cpu c (cpus.End true unmask note) ∷ past) d)
+        (ahead_from (has_flow def (by.Cpu c (cpus.End true unmask note) ∷ past)) (is_linked past d)
+        (has_begun def (by.Cpu c (cpus.End true unmask note) ∷ past) d)
         (ap (λ (b : Bool). is_some (cpu_of_handle (cond (b && true) (Some (by.Cpu c (cpus.End true unmask note)))
         (last_of (λ e. is_handle e || closes def e) past)))) other
         ∙ has_a_flow c (flow def past) (end_due def c true unmask note past due).of_flow)
@@ -302,7 +303,8 @@ covered_old def (by.Cpu c (cpus.Take way takes.Handle)) past d valid due edge li
     by_ahead def (by.Cpu c (cpus.Take way takes.Handle) ∷ past) d (ahead_from true (is_linked past d) false refl linked refl)
 covered_old def (by.Cpu c (cpus.Take way takes.Busy)) past d valid due edge linked no_unlink no_begin h =
     by_pending def (by.Cpu c (cpus.Take way takes.Busy) ∷ past) d (ap (λ (b : Bool). (b && true) || is_pending def past) edge)
-covered_old def (by.Cpu c (cpus.Take way takes.Off)) past d valid due edge linked no_unlink no_begin h = by_pending def (by.Cpu c (cpus.Take way takes.Off) ∷ past) d refl
+covered_old def (by.Cpu c (cpus.Take way takes.Off)) past d valid due edge linked no_unlink no_begin h
+    = by_pending def (by.Cpu c (cpus.Take way takes.Off) ∷ past) d refl
 covered_old def (by.Cpu c (cpus.End true unmask note)) past d valid due edge linked no_unlink no_begin h
     = covered_again def c unmask note past d valid due edge linked
 covered_old def (by.Cpu c (cpus.End false unmask note)) past d valid due edge linked no_unlink no_begin h = covered_leave def c unmask note past d due linked h
@@ -317,8 +319,10 @@ covered_ask makes def r x past d k edges edge started = by_test (is_masked def p
     same : is_masked def (by.Driver r (drivers.Ask makes x) ∷ past) ≡ is_masked def past
     same = masked_by_opening def (by.Driver r (drivers.Ask makes x)) past refl refl refl
 
-    shown : (not (is_masked def (by.Driver r (drivers.Ask makes x) ∷ past)) || def.keeps) ≡ true → is_covered def (by.Driver r (drivers.Ask makes x) ∷ past) d ≡ true
-    shown h = by_mark def (by.Driver r (drivers.Ask makes x) ∷ past) d (new_mark def (by.Driver r (drivers.Ask makes x)) past refl (and_from _ _ edge (or_left makes _ edges)) h)
+    shown : (not (is_masked def (by.Driver r (drivers.Ask makes x) ∷ past)) || def.keeps) ≡ true
+        → is_covered def (by.Driver r (drivers.Ask makes x) ∷ past) d ≡ true
+    shown h = by_mark def (by.Driver r (drivers.Ask makes x) ∷ past) d
+        (new_mark def (by.Driver r (drivers.Ask makes x)) past refl (and_from _ _ edge (or_left makes _ edges)) h)
 
     by_test : (m k : Bool) → is_masked def past ≡ m → def.keeps ≡ k → is_covered def (by.Driver r (drivers.Ask makes x) ∷ past) d ≡ true
     by_test false b is it = shown (or_left _ _ (ap not (same ∙ is)))

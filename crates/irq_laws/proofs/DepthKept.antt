@@ -249,7 +249,8 @@ still_some : (def : LineDef) (e : Entry) (past : List Entry) → IsDue def e pas
     → is_none_linked past ≡ false → is_none_linked (e ∷ past) ≡ false
 still_some def (by.Driver s (drivers.Request flags links.Linked opened x)) past due no_last some
     = ap is_empty (linked_request s x flags opened past) ∙ some_last (filter (λ y. not (same_dev y x)) (linked past)) x
-still_some def (by.Driver s (drivers.Request flags (links.Refused error) opened x)) past due no_last some = ap is_empty (linked_refused s x flags error opened past) ∙ some
+still_some def (by.Driver s (drivers.Request flags (links.Refused error) opened x)) past due no_last some
+    = ap is_empty (linked_refused s x flags error opened past) ∙ some
 still_some def (by.DriverCall s (called.Unlink (unlinks.Unlinked last) x)) past due no_last some =
     let is = last_when (is_linked past x) last (is_only x (linked past)) (unlink_due def s x (unlinks.Unlinked last) past due).answer_is in
     let once : count_of (same_dev x) (linked past) ≤ 1

@@ -187,7 +187,8 @@ within_none def s x past due r d n h = by_step (free_before def r s (by.DriverCa
 within_freed : {P : Type 0} (def : LineDef) (s : DriverNo) (x : DevNo) (past : List Entry)
     → IsDue def (by.DriverCall s (called.Freed x)) past → KeepsFrees def past → (r : DriverNo) (d : DevNo) (n : ℕ)
     → due_call def r (by.DriverCall s (called.Freed x) ∷ past) ≡ Some (calls.Free d, suc n) → P
-within_freed {P} def s x past due k r d n h = by_step (free_before def r s (by.DriverCall s (called.Freed x)) past (calls.Free x) 2 d n refl (freed_is def s x past due k).0 h)
+within_freed {P} def s x past due k r d n h = by_step (free_before def r s (by.DriverCall s (called.Freed x)) past
+    (calls.Free x) 2 d n refl (freed_is def s x past due k).0 h)
   where
     by_step : FreeStep def r s (by.DriverCall s (called.Freed x)) past (calls.Free x) 2 d n → P
     by_step (inl h) =
@@ -290,9 +291,11 @@ unlinked_more def (by.DriverCall s (called.Unlink (unlinks.Unlinked last) x)) pa
         let p : DriverNo × DevNo = (s, x) in
         let q : DriverNo × DevNo = (r, d) in
         sym (ap (λ (y : DriverNo × DevNo). y.1) (the_same p q h))
-unlinked_more def (by.DriverCall s (called.Unlink unlinks.NotThere x)) past due k r d h = and_right (not (same_dev d x && false)) (is_linked past d) (k.unlinked r d h)
+unlinked_more def (by.DriverCall s (called.Unlink unlinks.NotThere x)) past due k r d h
+    = and_right (not (same_dev d x && false)) (is_linked past d) (k.unlinked r d h)
 unlinked_more def (by.DriverCall s (called.Freed x)) past due k r d h = cc
-unlinked_more def (by.Driver s (drivers.Request flags answer opened x)) past due k r d h = not_freeing past _ (request_due def s x flags answer opened past due).no_mutex h
+unlinked_more def (by.Driver s (drivers.Request flags answer opened x)) past due k r d h
+    = not_freeing past _ (request_due def s x flags answer opened past due).no_mutex h
 unlinked_more def (by.CpuCall c call) past due k r d h = no_cpu_call def c call past due
 unlinked_more def (by.ThreadCall x call) past due k r d h = no_thread_call def x call past due
 unlinked_more def e past due k r d h = k.unlinked r d h

@@ -1,6 +1,7 @@
 -- What a driver's entry implies when it is due: the call that it belongs to, and the conditions of
 -- its row.
-use Rattle.std.proofs.Common.{◌≡◌, ℕ, ◌⊎◌, inl, inr, Bool, true, false, ◌||◌, ◌==◌, cond, Option, Some, None, List, refl, sym, ap, ap₂, ◌∙◌, eqb-true, option_map}
+use Rattle.std.proofs.Common.{◌≡◌, ℕ, ◌⊎◌, inl, inr, Bool, true, false, ◌||◌, ◌==◌, cond, Option, Some, None, List}
+use Rattle.std.proofs.Common.{refl, sym, ap, ap₂, ◌∙◌, eqb-true, option_map}
 use Rattle.std.proofs.lemmas.Bool.{or_parts}
 use Rattle.irq_base.specs.declared.numbers.DevNo.{DevNo}
 use Rattle.irq_base.specs.declared.numbers.DriverNo.{DriverNo}
@@ -43,8 +44,10 @@ request_shape def r d flags past (links.Refused error) = refl
 pub data Row (def : LineDef) (r : DriverNo) (due : Option (Call × ℕ)) (past : List Entry) (e : Entry) : Type 0 where
   ask : (d : DevNo) (n : ℕ) → due ≡ Some (calls.Ask d, n) → by.Driver r (drivers.Ask true d) ≡ e → Row def r due past e
   request : (d : DevNo) (flags : Flags) (n : ℕ) → due ≡ Some (calls.Request d flags, n) → holds_mutex past ≡ false
-      → by.Driver r (drivers.Request flags (link_answer def d flags past) (opened_with def flags past (link_answer def d flags past)) d) ≡ e → Row def r due past e
-  unlink : (d : DevNo) → due ≡ Some (calls.Free d, 0) → holds_mutex past ≡ false → by.DriverCall r (called.Unlink (unlink_answer d past) d) ≡ e → Row def r due past e
+      → by.Driver r (drivers.Request flags (link_answer def d flags past)
+      (opened_with def flags past (link_answer def d flags past)) d) ≡ e → Row def r due past e
+  unlink : (d : DevNo) → due ≡ Some (calls.Free d, 0) → holds_mutex past ≡ false
+      → by.DriverCall r (called.Unlink (unlink_answer d past) d) ≡ e → Row def r due past e
   free_clear : (d : DevNo) → due ≡ Some (calls.Free d, 1) → has_flow def past ≡ false → by.DriverCall r called.HardClear ≡ e → Row def r due past e
   freed : (d : DevNo) (n : ℕ) → due ≡ Some (calls.Free d, n) → (n == 0) ≡ false → (n == 1) ≡ false
       → (is_woken past d || is_running past d) ≡ false → by.DriverCall r (called.Freed d) ≡ e → Row def r due past e
@@ -87,9 +90,11 @@ row_of_free def r d n due past e is (call, h, same) = first (chosen (n == 0) _ _
     step : (c : CallEntry) → c ≡ call → by.DriverCall r c ≡ e
     step c i = ap (by.DriverCall r) i ∙ same
 
-    rest : (n == 0) ≡ false → ((n == 1) ≡ true) × (hard_clear_of def past ≡ Some call) ⊎ ((n == 1) ≡ false) × (freed_of d past ≡ Some call) → Row def r due past e
+    rest : (n == 0) ≡ false → ((n == 1) ≡ true) × (hard_clear_of def past ≡ Some call) ⊎ ((n == 1) ≡ false)
+        × (freed_of d past ≡ Some call) → Row def r due past e
     rest some (inl h) = let c = clears def past call h.1 in free_clear d (at_one (calls.Free d) n due is h.0) c.0 (step called.HardClear c.1)
-    rest some (inr h) = let f = from_else (is_woken past d || is_running past d) (called.Freed d) call h.1 in freed d n is some h.0 f.0 (step (called.Freed d) f.1)
+    rest some (inr h) = let f = from_else (is_woken past d || is_running past d) (called.Freed d) call h.1 in
+        freed d n is some h.0 f.0 (step (called.Freed d) f.1)
 
     first : ((n == 0) ≡ true) × (cond (holds_mutex past) None (Some (called.Unlink (unlink_answer d past) d)) ≡ Some call)
         ⊎ ((n == 0) ≡ false) × (cond (n == 1) (hard_clear_of def past) (freed_of d past) ≡ Some call) → Row def r due past e
@@ -254,11 +259,13 @@ pub record IsMomentDue (def : LineDef) (r : DriverNo) (at : ℕ) (past : List En
 
 -- ---- the inversions
 
-ask_row : (makes : Bool) (def : LineDef) (r : DriverNo) (d : DevNo) (past : List Entry) → Row def r (due_call def r past) past (by.Driver r (drivers.Ask makes d)) → IsAskDue def r d past
+ask_row : (makes : Bool) (def : LineDef) (r : DriverNo) (d : DevNo) (past : List Entry)
+    → Row def r (due_call def r past) past (by.Driver r (drivers.Ask makes d)) → IsAskDue def r d past
 ask_row makes def r d past (ask x n is same) = let s : x ≡ d = cc in record { count = n; call = is ∙ ap (λ (y : DevNo). Some (calls.Ask y, n)) s }
 ask_row makes def r d past x = let n = kinds_agree x in cc
 
-pub ask_due : (makes : Bool) (def : LineDef) (r : DriverNo) (d : DevNo) (past : List Entry) → IsDue def (by.Driver r (drivers.Ask makes d)) past → IsAskDue def r d past
+pub ask_due : (makes : Bool) (def : LineDef) (r : DriverNo) (d : DevNo) (past : List Entry)
+    → IsDue def (by.Driver r (drivers.Ask makes d)) past → IsAskDue def r d past
 ask_due makes def r d past due = ask_row makes def r d past (driver_row def r past (by.Driver r (drivers.Ask makes d)) due)
 
 request_row : (def : LineDef) (r : DriverNo) (d : DevNo) (flags : Flags) (answer : LinkAnswer) (opened : Opened) (past : List Entry)
@@ -294,7 +301,8 @@ pub unlink_due : (def : LineDef) (r : DriverNo) (d : DevNo) (answer : UnlinkAnsw
     → IsDue def (by.DriverCall r (called.Unlink answer d)) past → IsUnlinkDue def r d answer past
 unlink_due def r d answer past due = unlink_row def r d answer past (driver_row def r past (by.DriverCall r (called.Unlink answer d)) due)
 
-freed_row : (def : LineDef) (r : DriverNo) (d : DevNo) (past : List Entry) → Row def r (due_call def r past) past (by.DriverCall r (called.Freed d)) → IsFreedDue def r d past
+freed_row : (def : LineDef) (r : DriverNo) (d : DevNo) (past : List Entry)
+    → Row def r (due_call def r past) past (by.DriverCall r (called.Freed d)) → IsFreedDue def r d past
 freed_row def r d past (freed x n is some more rest same) =
     let s : x ≡ d = cc in
     let at_rest : (is_woken past d || is_running past d) ≡ false = sym (ap (λ (y : DevNo). is_woken past y || is_running past y) s) ∙ rest in
@@ -313,7 +321,8 @@ freed_row def r d past x = let n = kinds_agree x in cc
 pub freed_due : (def : LineDef) (r : DriverNo) (d : DevNo) (past : List Entry) → IsDue def (by.DriverCall r (called.Freed d)) past → IsFreedDue def r d past
 freed_due def r d past due = freed_row def r d past (driver_row def r past (by.DriverCall r (called.Freed d)) due)
 
-disable_row : (def : LineDef) (r : DriverNo) (past : List Entry) → Row def r (due_call def r past) past (by.DriverCall r called.Disable) → IsDisableDue def r past
+disable_row : (def : LineDef) (r : DriverNo) (past : List Entry)
+    → Row def r (due_call def r past) past (by.DriverCall r called.Disable) → IsDisableDue def r past
 disable_row def r past (disable is same) = record { call = inl is }
 disable_row def r past (nosync n is same) = record { call = inr (n, is) }
 disable_row def r past x = let n = kinds_agree x in cc
@@ -321,7 +330,8 @@ disable_row def r past x = let n = kinds_agree x in cc
 pub disable_due : (def : LineDef) (r : DriverNo) (past : List Entry) → IsDue def (by.DriverCall r called.Disable) past → IsDisableDue def r past
 disable_due def r past due = disable_row def r past (driver_row def r past (by.DriverCall r called.Disable) due)
 
-hard_clear_row : (def : LineDef) (r : DriverNo) (past : List Entry) → Row def r (due_call def r past) past (by.DriverCall r called.HardClear) → IsHardClearDue def r past
+hard_clear_row : (def : LineDef) (r : DriverNo) (past : List Entry)
+    → Row def r (due_call def r past) past (by.DriverCall r called.HardClear) → IsHardClearDue def r past
 hard_clear_row def r past (free_clear d is no_flow same) = record { call = inl (d, is); no_flow = no_flow }
 hard_clear_row def r past (disable_clear is no_flow same) = record { call = inr (inl is); no_flow = no_flow }
 hard_clear_row def r past (sync_clear is no_flow same) = record { call = inr (inr is); no_flow = no_flow }

@@ -187,7 +187,8 @@ idle_thread handled def d count past x kinds.Check is run met none = by_test (sa
         ≡ 0 = ap (λ (k : Kind). unserved_by k d (before (is_thread_begin d) past)) (sym kind) ∙ (sym met ∙ none) in
         subst (λ (y : DevNo). same_dev y d ≡ true → unserved_by kinds.Check y (by.Thread d (threads.Return handled count) ∷ past)
         ≡ unserved_by kinds.Check y past) (sym equal)
-        (λ self. returns_none (is_ask d) (is_thread_begin d) (is_thread_return d) (thread_begin_alone d) (by.Thread d (threads.Return handled count)) past run self zero) same
+        (λ self. returns_none (is_ask d) (is_thread_begin d) (is_thread_return d) (thread_begin_alone d)
+        (by.Thread d (threads.Return handled count)) past run self zero) same
 idle_thread handled def d count past x kinds.Null is run met none = by_test (same_dev x d) refl
   where
     by_test : (b : Bool) → same_dev x d ≡ b → unserved_by kinds.Null x (by.Thread d (threads.Return handled count) ∷ past) ≡ unserved_by kinds.Null x past
@@ -197,8 +198,10 @@ idle_thread handled def d count past x kinds.Null is run met none = by_test (sam
         let kind : kind_of def d ≡ kinds.Null = subst (λ (y : DevNo). kind_of def y ≡ kinds.Null) equal is in
         let zero : unserved_by kinds.Null d (before (is_thread_begin d) past)
         ≡ 0 = ap (λ (k : Kind). unserved_by k d (before (is_thread_begin d) past)) (sym kind) ∙ (sym met ∙ none) in
-        subst (λ (y : DevNo). same_dev y d ≡ true → unserved_by kinds.Null y (by.Thread d (threads.Return handled count) ∷ past) ≡ unserved_by kinds.Null y past) (sym equal)
-        (λ self. returns_none (is_ask d) (is_thread_begin d) (is_thread_return d) (thread_begin_alone d) (by.Thread d (threads.Return handled count)) past run self zero) same
+        subst (λ (y : DevNo). same_dev y d ≡ true → unserved_by kinds.Null y
+        (by.Thread d (threads.Return handled count) ∷ past) ≡ unserved_by kinds.Null y past) (sym equal)
+        (λ self. returns_none (is_ask d) (is_thread_begin d) (is_thread_return d) (thread_begin_alone d)
+        (by.Thread d (threads.Return handled count)) past run self zero) same
 
 pub high_thread_return : (handled : Bool) (def : LineDef) (d : DevNo) (count : ℕ) (past : List Entry)
     → IsDue def (by.Thread d (threads.Return handled count)) past → nat_lt 0 count ≡ false

@@ -58,7 +58,8 @@ off_by true o h = cc
 off_by false true h = (refl, refl)
 off_by false false h = cc
 
-pub busy_has_flow : (def : LineDef) (c : CpuNo) (way : Way) (past : List Entry) → IsDue def (by.Cpu c (cpus.Take way takes.Busy)) past → has_flow def past ≡ true
+pub busy_has_flow : (def : LineDef) (c : CpuNo) (way : Way) (past : List Entry)
+    → IsDue def (by.Cpu c (cpus.Take way takes.Busy)) past → has_flow def past ≡ true
 busy_has_flow def c way past due = busy_by (has_flow def past) _ (take_due def c way takes.Busy past due).answer_is
 
 pub not_disabled : (past : List Entry) → depth past ≡ 0 → is_disabled past ≡ false
@@ -87,7 +88,8 @@ lazy t y u m = grind arith
 pub take_masked : (def : LineDef) (f : FlowKind) (c : CpuNo) (way : Way) (answer : TakeAnswer) (past : List Entry) → def.flow ≡ f
     → is_masked def (by.Cpu c (cpus.Take way answer) ∷ past) ≡ (take_masks def f (by.Cpu c (cpus.Take way answer)) past || is_masked def past)
 take_masked def f c way answer past is =
-    masked_more def (by.Cpu c (cpus.Take way answer)) past ∙ lazy (take_masks def def.flow (by.Cpu c (cpus.Take way answer)) past) def.unlazy false (is_masked def past)
+    masked_more def (by.Cpu c (cpus.Take way answer)) past
+    ∙ lazy (take_masks def def.flow (by.Cpu c (cpus.Take way answer)) past) def.unlazy false (is_masked def past)
     ∙ ap (λ (g : FlowKind). take_masks def g (by.Cpu c (cpus.Take way answer)) past || is_masked def past) is
 
 starts_alone : (call : CallEntry) → is_started_opened (opened_by_call call) ≡ true

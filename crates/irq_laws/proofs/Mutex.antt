@@ -90,7 +90,8 @@ freeing_stands (by.DriverCall s (called.Unlink (unlinks.Unlinked last) x) ∷ pa
     let same : s ≡ r = ap (λ (y : DriverNo × DevNo). y.0) (the_same p q h) in
     or_left _ _ (and_from _ _ (subst (λ (y : DriverNo). same_driver r y ≡ true) (sym same) (same_self_driver r)) refl)
 freeing_stands (by.DriverCall s (called.Freed x) ∷ past) r d h = cc
-freeing_stands (by.DriverCall s call ∷ past) r d h = unended (same_driver r s && is_unlink (by.DriverCall s call)) (same_driver r s) _ (freeing_stands past r d h)
+freeing_stands (by.DriverCall s call ∷ past) r d h = unended (same_driver r s && is_unlink (by.DriverCall s call))
+    (same_driver r s) _ (freeing_stands past r d h)
 freeing_stands (by.Driver s e ∷ past) r d h = unended (same_driver r s && false) (same_driver r s) _ (freeing_stands past r d h)
 freeing_stands (e ∷ past) r d h = freeing_stands past r d h
 

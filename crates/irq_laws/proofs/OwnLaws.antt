@@ -1,6 +1,7 @@
 -- What is due of an actor is that actor's entry, and one that some step makes; who takes, and who
 -- moves in a flow.
-use Rattle.std.proofs.Common.{◌≡◌, ℕ, ◌==◌, Bool, true, false, not, ◌||◌, cond, IsSome, Option, Some, None, is_some, List, reverse, refl, sym, ap, ◌∙◌, subst, option_map}
+use Rattle.std.proofs.Common.{◌≡◌, ℕ, ◌==◌, Bool, true, false, not, ◌||◌, cond, IsSome, Option, Some, None, is_some}
+use Rattle.std.proofs.Common.{List, reverse, refl, sym, ap, ◌∙◌, subst, option_map}
 use Rattle.irq_base.specs.declared.numbers.CpuNo.{CpuNo}
 use Rattle.irq_base.specs.declared.numbers.DevNo.{DevNo}
 use Rattle.irq_base.specs.declared.numbers.DriverNo.{DriverNo}

@@ -93,7 +93,8 @@ freed_named_more def (by.DriverCall s (called.Unlink (unlinks.Unlinked last) x))
         in
         k.rest.named d (was_linked past d there)
     by_case (inr was) = k.rest.freed_named d was
-freed_named_more def (by.DriverCall s (called.Unlink unlinks.NotThere x)) past due k d h = k.rest.freed_named d (sym (not_here (same_dev d x) (is_being_freed past d)) ∙ h)
+freed_named_more def (by.DriverCall s (called.Unlink unlinks.NotThere x)) past due k d h
+    = k.rest.freed_named d (sym (not_here (same_dev d x) (is_being_freed past d)) ∙ h)
 freed_named_more def (by.DriverCall s (called.Freed x)) past due k d h = k.rest.freed_named d (and_parts (not (same_dev d x)) _ h).1
 freed_named_more def (by.CpuCall c call) past due k d h = no_cpu_call def c call past due
 freed_named_more def (by.ThreadCall x call) past due k d h = no_thread_call def x call past due
@@ -326,7 +327,8 @@ work_more def (by.Thread x threads.Begin) past due k d h = by_test (same_dev d x
     by_test false other = rw other (k.rest.at_work d h)
 work_more def (by.Thread x (threads.Finish true unmask)) past due k d h = by_test (same_dev d x) refl
   where
-    by_test : (b : Bool) → same_dev d x ≡ b → (is_woken (by.Thread x (threads.Finish true unmask) ∷ past) d || is_finishing (by.Thread x (threads.Finish true unmask) ∷ past) d) ≡ true
+    by_test : (b : Bool) → same_dev d x ≡ b → (is_woken (by.Thread x (threads.Finish true unmask) ∷ past) d ||
+        is_finishing (by.Thread x (threads.Finish true unmask) ∷ past) d) ≡ true
     by_test true same = or_left _ _ (subst (λ (y : DevNo). is_woken past y ≡ true) (sym (dev_from_same d x same))
         (sym (finish_due def x true unmask past due).kept_is))
     by_test false other = rw other (k.rest.at_work d h)

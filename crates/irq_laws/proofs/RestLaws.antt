@@ -99,7 +99,8 @@ no_standstill def h valid legal still = record { still = still; complete = λ r.
 -- ---- a settled line
 
 settled_idle : (def : LineDef) (h : List Entry) → IsValid def → IsLegal def h → IsSettled def h → IsIdle def (reverse h)
-settled_idle def h valid legal settled = idle def (reverse h) (kept def (reverse h) valid legal) (λ d. settled.still (actors.Thread d)) (λ c. settled.still (actors.Cpu c))
+settled_idle def h valid legal settled = idle def (reverse h) (kept def (reverse h) valid legal)
+    (λ d. settled.still (actors.Thread d)) (λ c. settled.still (actors.Cpu c))
 
 pub settled_is_delivered : (def : LineDef) (h : List Entry) → IsValid def → IsLegal def h → IsSettled def h → IsDelivered def h
 settled_is_delivered def h valid legal settled = delivered def h valid legal (λ c. settled.still (actors.Cpu c)) (settled_idle def h valid legal settled)

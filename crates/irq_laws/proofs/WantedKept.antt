@@ -163,7 +163,8 @@ wanted_more def (by.Driver s (drivers.Request flags (links.Refused error) opened
 wanted_more def (by.DriverCall s (called.Unlink (unlinks.Unlinked last) x)) past due k w d h =
     let p = and_parts (not (same_dev d x && true)) (is_linked past d) h in
     let u = unlink_due def s x (unlinks.Unlinked last) past due in
-    keeps_wanted def s (by.DriverCall s (called.Unlink (unlinks.Unlinked last) x)) past (calls.Free x) 0 d (λ r. refl) u.call (differs (same_dev d x) p.0) (w d p.1)
+    keeps_wanted def s (by.DriverCall s (called.Unlink (unlinks.Unlinked last) x)) past (calls.Free x) 0 d (λ r. refl)
+    u.call (differs (same_dev d x) p.0) (w d p.1)
   where
     differs : (s : Bool) → not (s && true) ≡ true → s ≡ false
     differs s h = grind arith

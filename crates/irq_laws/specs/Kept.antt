@@ -34,10 +34,12 @@ pub record KeepsRuns (def : LineDef) (past : List Entry) : Type 0 where
   pub working : (d : DevNo) → at_work past ≡ Some d
       → (is_called past d ≡ true) × (has_flow def past ≡ true) × (has_begun def past d ≡ true)
 
--- the driver and the device of the last unlink, unless a free was completed after it
+-- the driver and the device of the last unlink, unless a free was completed after it; only drivers
+-- free
 abbrev pub freeing : List Entry → Option (DriverNo × DevNo)
 freeing [] = None
-freeing (by.DriverCall driver (called.Unlink (unlinks.Unlinked last) dev) ∷ past) = Some (driver, dev)
+freeing (by.DriverCall driver (called.Unlink (unlinks.Unlinked last) dev) ∷ past)
+    = Some (driver, dev)
 freeing (by.DriverCall driver (called.Freed dev) ∷ past) = None
 freeing (_ ∷ past) = freeing past
 

@@ -9,8 +9,6 @@ use Rattle.irq_base.specs.declared.calls.Call.TheVariants as calls
 use Rattle.irq_base.specs.declared.lines.LineDef.{LineDef}
 use Rattle.irq_base.specs.declared.entries.Entry.{Entry}
 use Rattle.irq_base.specs.declared.entries.Entry.TheVariants as by
-use Rattle.irq_base.specs.declared.entries.CpuEntry.TheVariants as cpus
-use Rattle.irq_base.specs.declared.entries.ThreadEntry.TheVariants as threads
 use Rattle.irq_base.specs.declared.entries.DriverEntry.TheVariants as drivers
 use Rattle.irq_base.specs.declared.entries.CallEntry.TheVariants as called
 use Rattle.irq_base.specs.declared.entries.UnlinkAnswer.TheVariants as unlinks
@@ -137,7 +135,8 @@ most_made : (c : Call) (es : List Entry) → MakesAll c es → count_of is_by_an
 most_made (calls.Ask d) (by.Driver r (drivers.Ask makes dev) ∷ []) h = omega arith
 most_made (calls.Request d flags) (by.Driver r (drivers.Request given answer opened dev) ∷ []) h = omega arith
 most_made (calls.Free d) (by.DriverCall r (called.Unlink unlinks.NotThere dev) ∷ []) h = omega arith
-most_made (calls.Free d) (by.DriverCall r (called.Unlink (unlinks.Unlinked last) dev) ∷ by.DriverCall s called.HardClear ∷ by.DriverCall t (called.Freed freed) ∷ []) h = omega arith
+most_made (calls.Free d) (by.DriverCall r (called.Unlink (unlinks.Unlinked last) dev) ∷ by.DriverCall s called.HardClear
+    ∷ by.DriverCall t (called.Freed freed) ∷ []) h = omega arith
 most_made calls.Disable (by.DriverCall r called.Disable ∷ by.DriverCall s called.HardClear ∷ by.DriverCall t called.Synced ∷ []) h = omega arith
 most_made calls.DisableNosync (by.DriverCall r called.Disable ∷ []) h = omega arith
 most_made calls.Enable (by.DriverCall r (called.Enable answer) ∷ []) h = omega arith
@@ -150,7 +149,8 @@ asks_made : (c : Call) (es : List Entry) → MakesAll c es → count_of is_any_a
 asks_made (calls.Ask d) (by.Driver r (drivers.Ask makes dev) ∷ []) h = omega arith
 asks_made (calls.Request d flags) (by.Driver r (drivers.Request given answer opened dev) ∷ []) h = omega arith
 asks_made (calls.Free d) (by.DriverCall r (called.Unlink unlinks.NotThere dev) ∷ []) h = omega arith
-asks_made (calls.Free d) (by.DriverCall r (called.Unlink (unlinks.Unlinked last) dev) ∷ by.DriverCall s called.HardClear ∷ by.DriverCall t (called.Freed freed) ∷ []) h = omega arith
+asks_made (calls.Free d) (by.DriverCall r (called.Unlink (unlinks.Unlinked last) dev) ∷ by.DriverCall s called.HardClear
+    ∷ by.DriverCall t (called.Freed freed) ∷ []) h = omega arith
 asks_made calls.Disable (by.DriverCall r called.Disable ∷ by.DriverCall s called.HardClear ∷ by.DriverCall t called.Synced ∷ []) h = omega arith
 asks_made calls.DisableNosync (by.DriverCall r called.Disable ∷ []) h = omega arith
 asks_made calls.Enable (by.DriverCall r (called.Enable answer) ∷ []) h = omega arith
@@ -161,9 +161,11 @@ asks_made c es h = absurd h
 
 renewals_made : (c : Call) (es : List Entry) → MakesAll c es → count_of is_renewal es ≤ one_if (not (is_ask_call c))
 renewals_made (calls.Ask d) (by.Driver r (drivers.Ask makes dev) ∷ []) h = omega arith
-renewals_made (calls.Request d flags) (by.Driver r (drivers.Request given answer opened dev) ∷ []) h = at_most_one (is_renewal (by.Driver r (drivers.Request given answer opened dev)))
+renewals_made (calls.Request d flags) (by.Driver r (drivers.Request given answer opened dev) ∷ []) h
+    = at_most_one (is_renewal (by.Driver r (drivers.Request given answer opened dev)))
 renewals_made (calls.Free d) (by.DriverCall r (called.Unlink unlinks.NotThere dev) ∷ []) h = omega arith
-renewals_made (calls.Free d) (by.DriverCall r (called.Unlink (unlinks.Unlinked last) dev) ∷ by.DriverCall s called.HardClear ∷ by.DriverCall t (called.Freed freed) ∷ []) h = omega arith
+renewals_made (calls.Free d) (by.DriverCall r (called.Unlink (unlinks.Unlinked last) dev)
+    ∷ by.DriverCall s called.HardClear ∷ by.DriverCall t (called.Freed freed) ∷ []) h = omega arith
 renewals_made calls.Disable (by.DriverCall r called.Disable ∷ by.DriverCall s called.HardClear ∷ by.DriverCall t called.Synced ∷ []) h = omega arith
 renewals_made calls.DisableNosync (by.DriverCall r called.Disable ∷ []) h = omega arith
 renewals_made calls.Enable (by.DriverCall r (called.Enable answer) ∷ []) h = at_most_one (is_renewal (by.DriverCall r (called.Enable answer)))

@@ -150,7 +150,8 @@ off_idle false o h = refl
 pend_more : (def : LineDef) (e : Entry) (past : List Entry) → IsDue def e past → StaysBelow is_again is_busy (λ past. one_if (goes_on_later def past)) e past
 pend_more def (by.Cpu c (cpus.Take way takes.Handle)) past due =
     let m = cleared_mark (has_flow def (by.Cpu c (cpus.Take way takes.Handle) ∷ past)) false (is_edge_line def) (is_pending def past) in omega (arith, m)
-pend_more def (by.Cpu c (cpus.Take way takes.Busy)) past due = let m = mark_most (goes_on_later def (by.Cpu c (cpus.Take way takes.Busy) ∷ past)) in omega (arith, m)
+pend_more def (by.Cpu c (cpus.Take way takes.Busy)) past due = let m
+    = mark_most (goes_on_later def (by.Cpu c (cpus.Take way takes.Busy) ∷ past)) in omega (arith, m)
 pend_more def (by.Cpu c (cpus.Take way takes.Off)) past due =
     let e = by.Cpu c (cpus.Take way takes.Off) in
     let same : has_flow def (e ∷ past) ≡ has_flow def past = ap is_some (flow_quiet def e past refl refl refl) in

@@ -124,8 +124,10 @@ handled_more def (by.Cpu c (cpus.Return answer x served)) past valid level due =
     return_marks (has_flow def past) (has_flow def (by.Cpu c (cpus.Return answer x served) ∷ past)) (round_handles def past)
     (is_handled answer) _ (flow_stays def (by.Cpu c (cpus.Return answer x served)) past refl refl refl)
 handled_more def (by.Cpu c (cpus.Take way takes.Handle)) past valid level due = omega arith
-handled_more def (by.Cpu c (cpus.Take way takes.Busy)) past valid level due = quiet_marks _ _ _ _ (flow_stays def (by.Cpu c (cpus.Take way takes.Busy)) past refl refl refl)
-handled_more def (by.Cpu c (cpus.Take way takes.Off)) past valid level due = quiet_marks _ _ _ _ (flow_stays def (by.Cpu c (cpus.Take way takes.Off)) past refl refl refl)
+handled_more def (by.Cpu c (cpus.Take way takes.Busy)) past valid level due
+    = quiet_marks _ _ _ _ (flow_stays def (by.Cpu c (cpus.Take way takes.Busy)) past refl refl refl)
+handled_more def (by.Cpu c (cpus.Take way takes.Off)) past valid level due
+    = quiet_marks _ _ _ _ (flow_stays def (by.Cpu c (cpus.Take way takes.Off)) past refl refl refl)
 handled_more def (by.Driver s (drivers.Request flags links.Linked opened x)) past valid level due
     = quiet_marks _ _ _ _ (flow_stays def (by.Driver s (drivers.Request flags links.Linked opened x)) past refl refl refl)
 handled_more def (by.Driver s (drivers.Request flags (links.Refused error) opened x)) past valid level due

@@ -218,7 +218,8 @@ apart_thread d e h = cc
 no_thread_return : (handled : Bool) {P : Type 0} (def : LineDef) (d x : DevNo) (count : ℕ) (past : List Entry) → IsLegalPast def past
     → IsDue def (by.Thread x (threads.Return handled count)) past → same_dev d x ≡ true → has_thread (kind_of def d) ≡ false → P
 no_thread_return handled def d x count past legal due same none =
-    both_ways (has_thread (kind_of def d)) (running_thread def d past legal (return_tells def d (by.Thread x (threads.Return handled count)) past due same).0) none
+    both_ways (has_thread (kind_of def d)) (running_thread def d past legal
+    (return_tells def d (by.Thread x (threads.Return handled count)) past due same).0) none
 
 direct_more : (def : LineDef) (d : DevNo) (e : Entry) (past : List Entry) → kind_of def d ≡ kinds.Direct
     → IsLegalPast def past → KeepsRuns def past → IsDue def e past → ServedMore def kinds.Direct d e past
@@ -268,7 +269,8 @@ thread_more def d (by.Thread x (threads.Return handled count)) past kind is thre
     by_kind kinds.Stuck is t = cc
 
     by_same : (b : Bool) → same_dev d x ≡ b
-        → asks_served d (by.Thread x (threads.Return handled count)) + unserved (is_ask d) (is_thread_begin d) (is_thread_return d) (by.Thread x (threads.Return handled count) ∷ past)
+        → asks_served d (by.Thread x (threads.Return handled count)) + unserved (is_ask d) (is_thread_begin d)
+        (is_thread_return d) (by.Thread x (threads.Return handled count) ∷ past)
         ≡ unserved (is_ask d) (is_thread_begin d) (is_thread_return d) past + one_if (is_ask d (by.Thread x (threads.Return handled count)))
     by_same true same =
         let t = return_tells def d (by.Thread x (threads.Return handled count)) past due same in
@@ -338,7 +340,8 @@ handled_serves def c x answer count past due h =
     ap (λ (n : ℕ). nat_lt 0 n) all ∙ by.1
 
 serves_some : (def : LineDef) (d : DevNo) (e : Entry) (past : List Entry) → IsDue def e past → one_if (serves_of d e) ≤ asks_served d e
-serves_some def d (by.Cpu c (cpus.Return answer x count)) past due = some_if (same_dev d x) (is_handled answer) count (handled_serves def c x answer count past due)
+serves_some def d (by.Cpu c (cpus.Return answer x count)) past due
+    = some_if (same_dev d x) (is_handled answer) count (handled_serves def c x answer count past due)
 serves_some def d (by.Thread x (threads.Return handled count)) past due = some_if (same_dev d x) (nat_lt 0 count) count (λ h. h)
 serves_some def d e past due = omega arith
 

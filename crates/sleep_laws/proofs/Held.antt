@@ -250,7 +250,8 @@ begun : (def : LineDef) (r s : DriverNo) (past : List Entry) → lowered past �
 begun def r s past exact =
     let n = raised_more (by.DriverCall s called.Disable) past refl in
     record {
-      deeper = disable_depth (raised past) (lowered past) (raised (by.DriverCall s called.Disable ∷ past)) (lowered (by.DriverCall s called.Disable ∷ past)) exact n.0 n.1;
+      deeper = disable_depth (raised past) (lowered past) (raised (by.DriverCall s called.Disable ∷ past))
+          (lowered (by.DriverCall s called.Disable ∷ past)) exact n.0 n.1;
       links = refl;
       cleared = λ h. cc;
       waited = λ h. cc;
