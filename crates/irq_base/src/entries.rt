@@ -161,16 +161,10 @@ pub enum ThreadEntry {
     Begin,
     /// Its handler returned. `handled`: whether the answer is IRQ_HANDLED. `served`: how many asks
     /// it served.
-    Return {
-        handled: bool,
-        served: u32,
-    },
+    Return { handled: bool, served: u32 },
     /// `irq_finalize_oneshot`. `kept`: the thread was woken again, and its bit stays. `unmask`: the
     /// chip's mask is opened.
-    Finish {
-        kept: bool,
-        unmask: bool,
-    },
+    Finish { kept: bool, unmask: bool },
     /// Its run is counted off, and it waits for its next wake (`wake_threads_waitq`).
     Done,
 }
@@ -212,38 +206,20 @@ pub enum CallEntry {
     /// `synchronize_irq` found no thread at work.
     Synced,
     /// `enable_irq`.
-    Enable {
-        answer: EnableAnswer,
-    },
+    Enable { answer: EnableAnswer },
     /// The first step of `__free_irq`.
-    Unlink {
-        answer: UnlinkAnswer,
-        dev: DevNo,
-    },
+    Unlink { answer: UnlinkAnswer, dev: DevNo },
     /// The last step of `__free_irq`: the device's thread is at rest.
-    Freed {
-        dev: DevNo,
-    },
+    Freed { dev: DevNo },
     /// `irq_wake_thread`. `woken`: whether the thread is woken by it. No step makes it yet.
-    Wake {
-        woken: bool,
-        dev: DevNo,
-    },
+    Wake { woken: bool, dev: DevNo },
     /// The device's own interrupt is turned off. No step makes it yet.
-    Quiet {
-        dev: DevNo,
-    },
+    Quiet { dev: DevNo },
     /// The device's own interrupt is turned on. `edge`: whether that makes an edge. No step makes
     /// it yet.
-    Arm {
-        edge: bool,
-        dev: DevNo,
-    },
+    Arm { edge: bool, dev: DevNo },
     /// The device is served outside of a return. `served`: how many asks. No step makes it yet.
-    Serve {
-        dev: DevNo,
-        served: u32,
-    },
+    Serve { dev: DevNo, served: u32 },
 }
 
 /// One hold of a line's lock in this model, by who makes it; Linux makes some of these steps

@@ -1,6 +1,6 @@
 -- Each entry drives the cell to the marks that are read off the past.
 use Rattle.std.proofs.Common.{◌≡◌, ℕ, Bool, true, false, not, ◌||◌, ◌&&◌, cond, is_some, List, [], ◌∷◌, nat_lt, reverse, refl, sym, ap, ◌∙◌, arith}
-use Rattle.std.proofs.lemmas.Bool.{and_parts, or_parts, false_from_ne_true}
+use Rattle.std.proofs.lemmas.Bool.{and_parts, and_from, and_right, or_parts, false_from_ne_true}
 use Rattle.std.specs.List.{list_any}
 use Rattle.irq_base.specs.declared.numbers.CpuNo.{CpuNo}
 use Rattle.irq_base.specs.declared.devices.DeviceDef.{DeviceDef}
@@ -49,6 +49,7 @@ use Rattle.irq_laws.proofs.Starts.{chip_resend, soft_has_edges}
 use Rattle.irq_laws.proofs.LevelSteps.{moves_level, high_quiet, high_return, high_thread_return}
 use Rattle.irq_laws.proofs.CellSteps.{mask_is, accept_is, ack_is, eoi_is, same_rest, level_sent, marks, mask_to}
 use Rattle.irq_laws.proofs.CellSteps.{unmask_to, leaves, resend_to, again_to, edge_to, take_to}
+use Rattle.irq_laws.proofs.OwnLaws.{no_cpu_call, no_thread_call}
 
 -- ---- the level
 
@@ -86,24 +87,27 @@ opening def e past p still edgeless n =
 
 -- ---- a device asks, or a run of it returned
 
-asks : (def : LineDef) (e : Entry) (past : List Entry) → IsPlain e → is_device_edge e ≡ true
-    → is_masked def (e ∷ past) ≡ is_masked def past → asked def (e ∷ past) (cell_of def past) ≡ cell_of def (e ∷ past)
-asks def e past p ask same = by_line (is_edge_line def) refl
+asks : (def : LineDef) (e : Entry) (past : List Entry) (makes : Bool) → IsPlain e → is_edge def e ≡ (is_edge_line def && makes)
+    → is_masked def (e ∷ past) ≡ is_masked def past → asked def makes (e ∷ past) (cell_of def past) ≡ cell_of def (e ∷ past)
+asks def e past makes p comes same = by_line (is_edge_line def) makes refl refl
   where
-    is_one : (E a x : Bool) → E ≡ true → a ≡ true → (E && (a || x)) ≡ true
-    is_one E a x h g = grind arith
+    off : (E m : Bool) → E ≡ false → (E && m) ≡ false
+    off E m h = grind arith
 
-    is_none : (E x : Bool) → E ≡ false → (E && x) ≡ false
-    is_none E x h = grind arith
-
-    by_line : (b : Bool) → is_edge_line def ≡ b → cond b (after_edge (cell_of def past))
+    by_line : (b m : Bool) → is_edge_line def ≡ b → makes ≡ m → cond b (cond m (after_edge (cell_of def past)) (cell_of def past))
         (after_high (is_high def (e ∷ past)) (cell_of def past)) ≡ cell_of def (e ∷ past)
-    by_line true edge =
-        edge_to def e past (is_high def past) (serves def && has_flow def past) p.no_take (is_one (is_edge_line def) (is_device_edge e) _ edge ask) same
+    by_line true true edge is =
+        edge_to def e past (is_high def past) (serves def && has_flow def past) p.no_take (comes ∙ and_from _ _ edge is) same
         ∙ same_rest def _ _ _ _ _ _ _ (edge_high def past edge ∙ sym (edge_high def (e ∷ past) edge)) (in_service_same def e past p)
-    by_line false level =
-        leaves def e past (is_high def (e ∷ past)) (serves def && has_flow def past) p.no_take (is_none (is_edge_line def) _ level) same
+    by_line true false edge is =
+        leaves def e past (is_high def past) (serves def && has_flow def past) p.no_take (comes ∙ and_right (is_edge_line def) makes is) same
+        ∙ same_rest def _ _ _ _ _ _ _ (edge_high def past edge ∙ sym (edge_high def (e ∷ past) edge)) (in_service_same def e past p)
+    by_line false m level is =
+        leaves def e past (is_high def (e ∷ past)) (serves def && has_flow def past) p.no_take (comes ∙ off (is_edge_line def) makes level) same
         ∙ same_rest def _ _ _ _ _ _ _ refl (in_service_same def e past p)
+
+an_edge : (E m f : Bool) → (E && (m || (false || (f && false)))) ≡ (E && m)
+an_edge E m f = grind arith
 
 -- a run that served sets the level anew; one that served nothing leaves it
 returns : (def : LineDef) (e : Entry) (past : List Entry) (count : ℕ) → IsPlain e → is_edge def e ≡ false
@@ -451,7 +455,8 @@ kill_stops def c again unmask note past due kill =
     or_kill d k h = grind arith
 
 end_masked : (def : LineDef) (c : CpuNo) (again unmask : Bool) (note : Note) (past : List Entry)
-    → is_masked def (by.Cpu c (cpus.End again unmask note) ∷ past) ≡ ((def.unlazy && is_kill (by.Cpu c (cpus.End again unmask note))) || (not unmask && is_masked def past))
+    → is_masked def (by.Cpu c (cpus.End again unmask note) ∷ past)
+    ≡ ((def.unlazy && is_kill (by.Cpu c (cpus.End again unmask note))) || (not unmask && is_masked def past))
 end_masked def c again unmask note past =
     masked_more def (by.Cpu c (cpus.End again unmask note)) past
     ∙ by_take (take_masks def def.flow (by.Cpu c (cpus.End again unmask note)) past) def.unlazy
@@ -491,7 +496,8 @@ end_marks def c again unmask note past h i due edgeless = by_tests (def.unlazy &
         opens : (k u m : Bool) → k ≡ false → u ≡ true → (k || (not u && m)) ≡ false
         opens k u m a b = grind arith
     by_tests false false k u =
-        leaves def (by.Cpu c (cpus.End again unmask note)) past h i refl edgeless (end_masked def c again unmask note past ∙ stays _ unmask (is_masked def past) k u)
+        leaves def (by.Cpu c (cpus.End again unmask note)) past h i refl edgeless
+        (end_masked def c again unmask note past ∙ stays _ unmask (is_masked def past) k u)
       where
         stays : (k u m : Bool) → k ≡ false → u ≡ false → (k || (not u && m)) ≡ m
         stays k u m a b = grind arith
@@ -603,17 +609,18 @@ asks_nothing def e past p still edgeless no_deepening no_last no_open =
 
 pub cell_more : (def : LineDef) (e : Entry) (past : List Entry) → IsValid def → IsDue def e past → Kept def past
     → (is_soft past ≡ true → is_edge_line def ≡ true) → driven def e past (cell_of def past) ≡ cell_of def (e ∷ past)
-cell_more def (by.Driver r (drivers.Ask makes d)) past valid due k soft = asks def (by.Driver r (drivers.Ask _ d)) past (plain _ refl refl refl refl)
-    refl (masked_by_opening def (by.Driver r (drivers.Ask _ d)) past refl refl refl)
+cell_more def (by.Driver r (drivers.Ask makes d)) past valid due k soft =
+    asks def (by.Driver r (drivers.Ask makes d)) past makes (plain _ refl refl refl refl) (an_edge (is_edge_line def) makes (is_eoi_flow def.flow))
+    (masked_by_opening def (by.Driver r (drivers.Ask makes d)) past refl refl refl)
 cell_more def (by.Cpu c (cpus.Return answer d count)) past valid due k soft =
     returns def (by.Cpu c (cpus.Return answer d count)) past count (plain _ refl refl refl refl)
     (no_edge (is_edge_line def) (is_eoi_flow def.flow))
     (masked_by_opening def (by.Cpu c (cpus.Return answer d count)) past refl refl refl)
     (high_return def c d answer count past due k.runs)
 cell_more def (by.Thread d (threads.Return handled count)) past valid due k soft =
-    returns def (by.Thread d (threads.Return _ count)) past count (plain _ refl refl refl refl)
+    returns def (by.Thread d (threads.Return handled count)) past count (plain _ refl refl refl refl)
     (no_edge (is_edge_line def) (is_eoi_flow def.flow))
-    (masked_by_opening def (by.Thread d (threads.Return _ count)) past refl refl refl)
+    (masked_by_opening def (by.Thread d (threads.Return handled count)) past refl refl refl)
     (high_thread_return _ def d count past due)
 cell_more def (by.Cpu c (cpus.Take way answer)) past valid due k soft =
     ap (λ (x : Cell). taken def def.flow (is_oneshot past) answer x) (accepted_is def c way answer past due soft)
@@ -641,7 +648,10 @@ cell_more def (by.DriverCall r (called.Unlink answer d)) past valid due k soft =
 cell_more def (by.Driver r (drivers.Request flags answer opened d)) past valid due k soft =
     by_start def (by.Driver r (drivers.Request flags answer opened d)) past opened due refl (plain _ refl refl refl refl) refl refl refl refl refl
 cell_more def (by.DriverCall r (called.Enable answer)) past valid due k soft =
-    by_start def (by.DriverCall r (called.Enable answer)) past (opened_of (by.DriverCall r (called.Enable answer))) due refl (plain _ refl refl refl refl) refl refl refl refl refl
+    by_start def (by.DriverCall r (called.Enable answer)) past (opened_of (by.DriverCall r (called.Enable answer))) due
+    refl (plain _ refl refl refl refl) refl refl refl refl refl
+cell_more def (by.CpuCall c call) past valid due k soft = no_cpu_call def c call past due
+cell_more def (by.ThreadCall x call) past valid due k soft = no_thread_call def x call past due
 cell_more def e past valid due k soft =
     asks_nothing def e past (plain _ refl refl refl refl) refl (no_edge (is_edge_line def) (is_eoi_flow def.flow)) refl refl refl
 

@@ -48,6 +48,7 @@ use Rattle.irq_laws.proofs.Masking.{start_opens, IsPlain, flow_same}
 use Rattle.irq_laws.proofs.KeptAlways.{kept}
 use Rattle.irq_laws.proofs.ImpliesFlow.{end_due, has_a_flow}
 use Rattle.irq_laws.proofs.ImpliesDriver.{enable_due, request_due, opened_with}
+use Rattle.irq_laws.proofs.OwnLaws.{no_cpu_call, no_thread_call}
 
 -- where an owed edge may be
 abbrev pub is_covered : LineDef → List Entry → DevNo → Bool
@@ -154,6 +155,8 @@ start_resends def (by.Driver s (drivers.Request flags (links.Refused error) open
     let u = request_due def s x flags (links.Refused error) opened past due in
     let is : opened ≡ opens.No = u.opened_is ∙ ap (λ (a : LinkAnswer). opened_with def flags past a) (sym u.answer_is) in
     both_ways (is_started_opened opened) h (ap is_started_opened is)
+start_resends def (by.CpuCall c call) past due h = no_cpu_call def c call past due
+start_resends def (by.ThreadCall x call) past due h = no_thread_call def x call past due
 start_resends def e past due h = cc
 
 -- what is pending when a start comes is sent by the chip, or kept for the software
@@ -274,7 +277,8 @@ covered_again def c unmask note past d valid due edge linked = by_flow (is_eoi_f
         (valid.eoi_keeps edge eoi)))
     by_flow false other =
         by_ahead def (by.Cpu c (cpus.End true unmask note) ∷ past) d
-        (ahead_from (has_flow def (by.Cpu c (cpus.End true unmask note) ∷ past)) (is_linked past d) (has_begun def (by.Cpu c (cpus.End true unmask note) ∷ past) d)
+        (ahead_from (has_flow def (by.Cpu c (cpus.End true unmask note) ∷ past)) (is_linked past d)
+        (has_begun def (by.Cpu c (cpus.End true unmask note) ∷ past) d)
         (ap (λ (b : Bool). is_some (cpu_of_handle (cond (b && true) (Some (by.Cpu c (cpus.End true unmask note)))
         (last_of (λ e. is_handle e || closes def e) past)))) other
         ∙ has_a_flow c (flow def past) (end_due def c true unmask note past due).of_flow)
@@ -299,7 +303,8 @@ covered_old def (by.Cpu c (cpus.Take way takes.Handle)) past d valid due edge li
     by_ahead def (by.Cpu c (cpus.Take way takes.Handle) ∷ past) d (ahead_from true (is_linked past d) false refl linked refl)
 covered_old def (by.Cpu c (cpus.Take way takes.Busy)) past d valid due edge linked no_unlink no_begin h =
     by_pending def (by.Cpu c (cpus.Take way takes.Busy) ∷ past) d (ap (λ (b : Bool). (b && true) || is_pending def past) edge)
-covered_old def (by.Cpu c (cpus.Take way takes.Off)) past d valid due edge linked no_unlink no_begin h = by_pending def (by.Cpu c (cpus.Take way takes.Off) ∷ past) d refl
+covered_old def (by.Cpu c (cpus.Take way takes.Off)) past d valid due edge linked no_unlink no_begin h
+    = by_pending def (by.Cpu c (cpus.Take way takes.Off) ∷ past) d refl
 covered_old def (by.Cpu c (cpus.End true unmask note)) past d valid due edge linked no_unlink no_begin h
     = covered_again def c unmask note past d valid due edge linked
 covered_old def (by.Cpu c (cpus.End false unmask note)) past d valid due edge linked no_unlink no_begin h = covered_leave def c unmask note past d due linked h
@@ -308,24 +313,26 @@ covered_old def e past d valid due edge linked no_unlink no_begin h =
 
 -- an edge that comes now
 covered_ask : (makes : Bool) (def : LineDef) (r : DriverNo) (x : DevNo) (past : List Entry) (d : DevNo) → Kept def past
-    → is_edge_line def ≡ true → is_started past ≡ true → is_covered def (by.Driver r (drivers.Ask makes x) ∷ past) d ≡ true
-covered_ask makes def r x past d k edge started = by_test (is_masked def past) def.keeps refl refl
+    → makes ≡ true → is_edge_line def ≡ true → is_started past ≡ true → is_covered def (by.Driver r (drivers.Ask makes x) ∷ past) d ≡ true
+covered_ask makes def r x past d k edges edge started = by_test (is_masked def past) def.keeps refl refl
   where
     same : is_masked def (by.Driver r (drivers.Ask makes x) ∷ past) ≡ is_masked def past
-    same = masked_by_opening def (by.Driver r (drivers.Ask _ x)) past refl refl refl
+    same = masked_by_opening def (by.Driver r (drivers.Ask makes x)) past refl refl refl
 
-    shown : (not (is_masked def (by.Driver r (drivers.Ask makes x) ∷ past)) || def.keeps) ≡ true → is_covered def (by.Driver r (drivers.Ask makes x) ∷ past) d ≡ true
-    shown h = by_mark def (by.Driver r (drivers.Ask _ x) ∷ past) d (new_mark def (by.Driver r (drivers.Ask _ x)) past refl (and_from _ _ edge refl) h)
+    shown : (not (is_masked def (by.Driver r (drivers.Ask makes x) ∷ past)) || def.keeps) ≡ true
+        → is_covered def (by.Driver r (drivers.Ask makes x) ∷ past) d ≡ true
+    shown h = by_mark def (by.Driver r (drivers.Ask makes x) ∷ past) d
+        (new_mark def (by.Driver r (drivers.Ask makes x)) past refl (and_from _ _ edge (or_left makes _ edges)) h)
 
     by_test : (m k : Bool) → is_masked def past ≡ m → def.keeps ≡ k → is_covered def (by.Driver r (drivers.Ask makes x) ∷ past) d ≡ true
     by_test false b is it = shown (or_left _ _ (ap not (same ∙ is)))
-    by_test true true is it = shown (or_right (not (is_masked def (by.Driver r (drivers.Ask _ x) ∷ past))) def.keeps it)
-    by_test true false is it = by_pending def (by.Driver r (drivers.Ask _ x) ∷ past) d
-        (pending_by_clearing def (by.Driver r (drivers.Ask _ x)) past refl ∙ k.edges.dropped edge it is started)
+    by_test true true is it = shown (or_right (not (is_masked def (by.Driver r (drivers.Ask makes x) ∷ past))) def.keeps it)
+    by_test true false is it = by_pending def (by.Driver r (drivers.Ask makes x) ∷ past) d
+        (pending_by_clearing def (by.Driver r (drivers.Ask makes x)) past refl ∙ k.edges.dropped edge it is started)
 
 covered_now : (def : LineDef) (e : Entry) (past : List Entry) (d : DevNo) → Kept def past → is_edge_line def ≡ true
     → is_device_edge e ≡ true → is_started past ≡ true → is_covered def (e ∷ past) d ≡ true
-covered_now def (by.Driver r (drivers.Ask makes x)) past d k edge asks started = covered_ask _ def r x past d k edge started
+covered_now def (by.Driver r (drivers.Ask makes x)) past d k edge asks started = covered_ask makes def r x past d k asks edge started
 covered_now def e past d k edge asks started = cc
 
 covered_at : (def : LineDef) → IsValid def → (past : List Entry) → IsLegalPast def past → is_edge_line def ≡ true

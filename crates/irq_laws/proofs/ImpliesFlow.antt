@@ -57,7 +57,8 @@ shape_by def flows.Eoi c past note =
     (opens_level def past (not (is_off_now past note) && is_oneshot past)) note
 
 pub end_shape : (def : LineDef) (c : CpuNo) (past : List Entry)
-    → end_of def c past ≡ by.Cpu c (cpus.End (again_by def def.flow past (note_of def past)) (unmask_by def def.flow past (note_of def past)) (note_of def past))
+    → end_of def c past ≡ by.Cpu c (cpus.End (again_by def def.flow past (note_of def past))
+    (unmask_by def def.flow past (note_of def past)) (note_of def past))
 end_shape def c past = shape_by def def.flow c past (note_of def past)
 
 -- ---- the records

@@ -185,9 +185,10 @@ idle_thread handled def d count past x kinds.Check is run met none = by_test (sa
         let kind : kind_of def d ≡ kinds.Check = subst (λ (y : DevNo). kind_of def y ≡ kinds.Check) equal is in
         let zero : unserved_by kinds.Check d (before (is_thread_begin d) past)
         ≡ 0 = ap (λ (k : Kind). unserved_by k d (before (is_thread_begin d) past)) (sym kind) ∙ (sym met ∙ none) in
-        subst (λ (y : DevNo). same_dev y d ≡ true → unserved_by kinds.Check y (by.Thread d (threads.Return _ count) ∷ past)
+        subst (λ (y : DevNo). same_dev y d ≡ true → unserved_by kinds.Check y (by.Thread d (threads.Return handled count) ∷ past)
         ≡ unserved_by kinds.Check y past) (sym equal)
-        (λ self. returns_none (is_ask d) (is_thread_begin d) (is_thread_return d) (thread_begin_alone d) (by.Thread d (threads.Return _ count)) past run self zero) same
+        (λ self. returns_none (is_ask d) (is_thread_begin d) (is_thread_return d) (thread_begin_alone d)
+        (by.Thread d (threads.Return handled count)) past run self zero) same
 idle_thread handled def d count past x kinds.Null is run met none = by_test (same_dev x d) refl
   where
     by_test : (b : Bool) → same_dev x d ≡ b → unserved_by kinds.Null x (by.Thread d (threads.Return handled count) ∷ past) ≡ unserved_by kinds.Null x past
@@ -197,15 +198,17 @@ idle_thread handled def d count past x kinds.Null is run met none = by_test (sam
         let kind : kind_of def d ≡ kinds.Null = subst (λ (y : DevNo). kind_of def y ≡ kinds.Null) equal is in
         let zero : unserved_by kinds.Null d (before (is_thread_begin d) past)
         ≡ 0 = ap (λ (k : Kind). unserved_by k d (before (is_thread_begin d) past)) (sym kind) ∙ (sym met ∙ none) in
-        subst (λ (y : DevNo). same_dev y d ≡ true → unserved_by kinds.Null y (by.Thread d (threads.Return _ count) ∷ past) ≡ unserved_by kinds.Null y past) (sym equal)
-        (λ self. returns_none (is_ask d) (is_thread_begin d) (is_thread_return d) (thread_begin_alone d) (by.Thread d (threads.Return _ count)) past run self zero) same
+        subst (λ (y : DevNo). same_dev y d ≡ true → unserved_by kinds.Null y
+        (by.Thread d (threads.Return handled count) ∷ past) ≡ unserved_by kinds.Null y past) (sym equal)
+        (λ self. returns_none (is_ask d) (is_thread_begin d) (is_thread_return d) (thread_begin_alone d)
+        (by.Thread d (threads.Return handled count)) past run self zero) same
 
 pub high_thread_return : (handled : Bool) (def : LineDef) (d : DevNo) (count : ℕ) (past : List Entry)
     → IsDue def (by.Thread d (threads.Return handled count)) past → nat_lt 0 count ≡ false
     → is_high def (by.Thread d (threads.Return handled count) ∷ past) ≡ is_high def past
 high_thread_return handled def d count past due none =
     let u = thread_return_due _ def d count past due in
-    high_by def (by.Thread d (threads.Return _ count)) past
+    high_by def (by.Thread d (threads.Return handled count)) past
     (λ x. idle_thread _ def d count past x (kind_of def x) refl
     (unreturned (is_thread_begin d) _ (is_thread_return d) past u.running u.not_returned) u.served_is
     (zero_by count none))

@@ -9,12 +9,14 @@ use Rattle.irq_base.specs.declared.entries.Entry.{Entry}
 use Rattle.irq_base.specs.declared.entries.Entry.TheVariants as by
 use Rattle.irq_base.specs.declared.entries.CpuEntry.TheVariants as cpus
 use Rattle.irq_base.specs.declared.entries.DriverEntry.TheVariants as drivers
+use Rattle.irq_base.specs.declared.entries.CallEntry.{CallEntry}
 use Rattle.irq_base.specs.declared.entries.CallEntry.TheVariants as called
 use Rattle.irq_base.specs.declared.entries.Way.{Way}
 use Rattle.irq_base.specs.declared.entries.TakeAnswer.{TakeAnswer}
 use Rattle.irq_base.specs.declared.entries.TakeAnswer.TheVariants as takes
 use Rattle.irq_base.specs.declared.entries.Note.{Note}
 use Rattle.irq_model.specs.Kinds.{is_take, is_handle, is_again, is_leave, is_start, is_disable, is_kill, is_last_unlink, is_reopening}
+use Rattle.irq_model.specs.Kinds.{is_started_opened, opened_by_call, disables, unlinks_last}
 use Rattle.irq_model.specs.Lines.{is_edge_flow, is_eoi_flow}
 use Rattle.irq_model.specs.Links.{depth, is_disabled, is_none_linked}
 use Rattle.irq_model.specs.Masks.{take_masks, is_masked}
@@ -56,7 +58,8 @@ off_by true o h = cc
 off_by false true h = (refl, refl)
 off_by false false h = cc
 
-pub busy_has_flow : (def : LineDef) (c : CpuNo) (way : Way) (past : List Entry) → IsDue def (by.Cpu c (cpus.Take way takes.Busy)) past → has_flow def past ≡ true
+pub busy_has_flow : (def : LineDef) (c : CpuNo) (way : Way) (past : List Entry)
+    → IsDue def (by.Cpu c (cpus.Take way takes.Busy)) past → has_flow def past ≡ true
 busy_has_flow def c way past due = busy_by (has_flow def past) _ (take_due def c way takes.Busy past due).answer_is
 
 pub not_disabled : (past : List Entry) → depth past ≡ 0 → is_disabled past ≡ false
@@ -85,11 +88,19 @@ lazy t y u m = grind arith
 pub take_masked : (def : LineDef) (f : FlowKind) (c : CpuNo) (way : Way) (answer : TakeAnswer) (past : List Entry) → def.flow ≡ f
     → is_masked def (by.Cpu c (cpus.Take way answer) ∷ past) ≡ (take_masks def f (by.Cpu c (cpus.Take way answer)) past || is_masked def past)
 take_masked def f c way answer past is =
-    masked_more def (by.Cpu c (cpus.Take way answer)) past ∙ lazy (take_masks def def.flow (by.Cpu c (cpus.Take way answer)) past) def.unlazy false (is_masked def past)
+    masked_more def (by.Cpu c (cpus.Take way answer)) past
+    ∙ lazy (take_masks def def.flow (by.Cpu c (cpus.Take way answer)) past) def.unlazy false (is_masked def past)
     ∙ ap (λ (g : FlowKind). take_masks def g (by.Cpu c (cpus.Take way answer)) past || is_masked def past) is
 
+starts_alone : (call : CallEntry) → is_started_opened (opened_by_call call) ≡ true
+    → (disables call ≡ false) × (unlinks_last call ≡ false)
+starts_alone (called.Enable answer) h = (refl, refl)
+starts_alone call h = cc
+
 start_alone : (e : Entry) → is_start e ≡ true → (is_take e ≡ false) × ((is_disable e || is_kill e) ≡ false) × (is_last_unlink e ≡ false)
-start_alone (by.DriverCall s (called.Enable answer)) h = (refl, refl, refl)
+start_alone (by.CpuCall c call) h = let a = starts_alone call h in (refl, rw (a.0) refl, a.1)
+start_alone (by.ThreadCall x call) h = let a = starts_alone call h in (refl, rw (a.0) refl, a.1)
+start_alone (by.DriverCall s call) h = let a = starts_alone call h in (refl, rw (a.0) refl, a.1)
 start_alone (by.Driver s (drivers.Request flags answer opened x)) h = (refl, refl, refl)
 start_alone e h = cc
 

@@ -50,7 +50,8 @@ in_requested (by.Driver driver (drivers.Request flags links.Linked opened dev) �
     by_test true is deeper = or_right _ _ (or_left (same_dev d dev) false is)
     by_test false is deeper =
         or_left _ _ (kept_others dev d (requested past) is (deeper (ap (λ (b : Bool). (b && true) || list_any (links_dev d) past) (sym is) ∙ h)))
-in_requested (by.Driver driver (drivers.Request flags (links.Refused error) opened dev) ∷ past) d h = by_case (or_cases (same_dev d dev && false) _ h) (in_requested past d)
+in_requested (by.Driver driver (drivers.Request flags (links.Refused error) opened dev) ∷ past) d h
+    = by_case (or_cases (same_dev d dev && false) _ h) (in_requested past d)
   where
     by_case : ((same_dev d dev && false) ≡ true) ⊎ (list_any (links_dev d) past ≡ true)
         → (list_any (links_dev d) past ≡ true → list_any (same_dev d) (requested past) ≡ true)

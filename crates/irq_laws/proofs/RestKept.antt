@@ -37,6 +37,7 @@ use Rattle.irq_laws.proofs.FreesKept.{freed_is, begun_is_linked, not_freeing}
 use Rattle.irq_laws.proofs.ImpliesFlow.{begin_due, return_due}
 use Rattle.irq_laws.proofs.ImpliesThread.{thread_begin_due, finish_due, done_due, has_finished}
 use Rattle.irq_laws.proofs.ImpliesDriver.{request_due, unlink_due, freed_due}
+use Rattle.irq_laws.proofs.OwnLaws.{no_cpu_call, no_thread_call}
 
 -- ---- a test with false beside it
 
@@ -92,8 +93,11 @@ freed_named_more def (by.DriverCall s (called.Unlink (unlinks.Unlinked last) x))
         in
         k.rest.named d (was_linked past d there)
     by_case (inr was) = k.rest.freed_named d was
-freed_named_more def (by.DriverCall s (called.Unlink unlinks.NotThere x)) past due k d h = k.rest.freed_named d (sym (not_here (same_dev d x) (is_being_freed past d)) ∙ h)
+freed_named_more def (by.DriverCall s (called.Unlink unlinks.NotThere x)) past due k d h
+    = k.rest.freed_named d (sym (not_here (same_dev d x) (is_being_freed past d)) ∙ h)
 freed_named_more def (by.DriverCall s (called.Freed x)) past due k d h = k.rest.freed_named d (and_parts (not (same_dev d x)) _ h).1
+freed_named_more def (by.CpuCall c call) past due k d h = no_cpu_call def c call past due
+freed_named_more def (by.ThreadCall x call) past due k d h = no_thread_call def x call past due
 freed_named_more def e past due k d h = k.rest.freed_named d h
 
 -- a device that is linked or being freed is a device of the line
@@ -141,6 +145,8 @@ after_more def (by.Driver s (drivers.Request flags (links.Refused error) opened 
     let p = and_parts (not (same_dev d x && false)) _ h in
     let r = k.rest.after_free d p.1 in
     (or_from _ _ (no_part (same_dev d x)) r.0, r.1)
+after_more def (by.CpuCall c call) past due k d h = no_cpu_call def c call past due
+after_more def (by.ThreadCall x call) past due k d h = no_thread_call def x call past due
 after_more def e past due k d h = k.rest.after_free d h
 
 -- ---- at rest
@@ -224,6 +230,8 @@ rest_more def (by.DriverCall s (called.Freed x)) past due k d l f = by_test (sam
         (is_running past y || (is_unfinished past y || is_called past y))) ≡ false) (sym (dev_from_same d x same))
         (freed_rest def s x past due k)
     by_test false other = k.rest.at_rest d l (ap (λ (b : Bool). not b && is_being_freed past d) (sym other) ∙ f)
+rest_more def (by.CpuCall c call) past due k d l f = no_cpu_call def c call past due
+rest_more def (by.ThreadCall x call) past due k d l f = no_thread_call def x call past due
 rest_more def e past due k d l f = k.rest.at_rest d l f
 
 -- ---- a thread bit that stands
@@ -319,7 +327,8 @@ work_more def (by.Thread x threads.Begin) past due k d h = by_test (same_dev d x
     by_test false other = rw other (k.rest.at_work d h)
 work_more def (by.Thread x (threads.Finish true unmask)) past due k d h = by_test (same_dev d x) refl
   where
-    by_test : (b : Bool) → same_dev d x ≡ b → (is_woken (by.Thread x (threads.Finish true unmask) ∷ past) d || is_finishing (by.Thread x (threads.Finish true unmask) ∷ past) d) ≡ true
+    by_test : (b : Bool) → same_dev d x ≡ b → (is_woken (by.Thread x (threads.Finish true unmask) ∷ past) d ||
+        is_finishing (by.Thread x (threads.Finish true unmask) ∷ past) d) ≡ true
     by_test true same = or_left _ _ (subst (λ (y : DevNo). is_woken past y ≡ true) (sym (dev_from_same d x same))
         (sym (finish_due def x true unmask past due).kept_is))
     by_test false other = rw other (k.rest.at_work d h)
@@ -398,6 +407,8 @@ flags_more def (by.DriverCall s (called.Freed x)) past due k d h = k.rest.flags 
   where
     more : (l s f : Bool) → (l || (s && f)) ≡ true → (l || f) ≡ true
     more l s f h = grind arith
+flags_more def (by.CpuCall c call) past due k d h = no_cpu_call def c call past due
+flags_more def (by.ThreadCall x call) past due k d h = no_thread_call def x call past due
 flags_more def e past due k d h = k.rest.flags d h
 
 pub rest_kept : (def : LineDef) (e : Entry) (past : List Entry) → IsValid def → IsDue def e past → Kept def past → KeepsRest def (e ∷ past)

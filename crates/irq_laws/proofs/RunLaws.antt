@@ -35,6 +35,7 @@ use Rattle.irq_laws.proofs.KeptAlways.{each}
 use Rattle.irq_laws.proofs.ImpliesFlow.{unmask_by, begin_due, return_due, end_due}
 use Rattle.irq_laws.proofs.ImpliesThread.{thread_begin_due, thread_return_due, finish_due, done_due}
 use Rattle.irq_laws.proofs.ImpliesDriver.{hard_clear_due, synced_due}
+use Rattle.irq_laws.proofs.OwnLaws.{no_cpu_call, no_thread_call}
 
 -- ---- no overlap
 
@@ -74,7 +75,8 @@ silent def (by.Cpu c (cpus.Begin x)) past due k d h = not_freed def past k d x (
     (or_left _ _ (begun_is_linked def past x (begin_due def c x past due).first).0)
 silent def (by.Cpu c (cpus.Return answer x served)) past due k d h =
     not_freed def past k d x (or_none _ h) (called_there def past k x (k.runs.working x (return_due def c x answer served past due).is_at_work).0)
-silent def (by.Thread x threads.Begin) past due k d h = not_freed def past k d x (or_none _ h) (woken_there def past k x (thread_begin_due def x past due).woken)
+silent def (by.Thread x threads.Begin) past due k d h = not_freed def past k d x (or_none _ h)
+    (woken_there def past k x (thread_begin_due def x past due).woken)
 silent def (by.Thread x (threads.Return handled served)) past due k d h
     = not_freed def past k d x (or_none _ h) (running_there def past k x
     (thread_return_due _ def x served past due).running)
@@ -112,8 +114,11 @@ all_idle def past k none d =
 synchronised_at : (def : LineDef) (e : Entry) (past : List Entry) → IsDue def e past → Kept def past → (d : DevNo)
     → (is_hard_clear e ≡ true → is_called past d ≡ false)
     × (is_synced e ≡ true → (is_woken past d || is_running past d) ≡ false)
-synchronised_at def (by.DriverCall s called.HardClear) past due k d = (λ is. nothing_called def past k.runs (hard_clear_due def s past due).no_flow d, λ none. cc)
+synchronised_at def (by.DriverCall s called.HardClear) past due k d
+    = (λ is. nothing_called def past k.runs (hard_clear_due def s past due).no_flow d, λ none. cc)
 synchronised_at def (by.DriverCall s called.Synced) past due k d = (λ none. cc, λ is. all_idle def past k (synced_due def s past due).none_active d)
+synchronised_at def (by.CpuCall c call) past due k d = no_cpu_call def c call past due
+synchronised_at def (by.ThreadCall x call) past due k d = no_thread_call def x call past due
 synchronised_at def e past due k d = (λ none. cc, λ none. cc)
 
 pub synchronised : (def : LineDef) (h : List Entry) → IsValid def → IsLegal def h → IsSynchronised def h

@@ -32,6 +32,7 @@ use Rattle.irq_steps.proofs.Same.{driver_from_same}
 use Rattle.irq_laws.proofs.Progress.{makes_one, same_count, same_call, due_at, entries_more}
 use Rattle.irq_laws.proofs.ImpliesDriver.{ask_due, request_due, unlink_due, freed_due, disable_due, hard_clear_due}
 use Rattle.irq_laws.proofs.ImpliesDriver.{synced_due, enable_due, affinity_due, moment_due}
+use Rattle.irq_laws.proofs.OwnLaws.{no_new_call}
 
 -- ---- how many entries a call makes
 
@@ -39,7 +40,8 @@ all_count : (c : Call) (es : List Entry) → MakesAll c es → entries_of_call c
 all_count (calls.Ask d) (by.Driver r (drivers.Ask makes dev) ∷ []) h = refl
 all_count (calls.Request d flags) (by.Driver r (drivers.Request given answer opened dev) ∷ []) h = refl
 all_count (calls.Free d) (by.DriverCall r (called.Unlink unlinks.NotThere dev) ∷ []) h = refl
-all_count (calls.Free d) (by.DriverCall r (called.Unlink (unlinks.Unlinked last) dev) ∷ by.DriverCall s called.HardClear ∷ by.DriverCall t (called.Freed freed) ∷ []) h = refl
+all_count (calls.Free d) (by.DriverCall r (called.Unlink (unlinks.Unlinked last) dev) ∷ by.DriverCall s called.HardClear
+    ∷ by.DriverCall t (called.Freed freed) ∷ []) h = refl
 all_count calls.Disable (by.DriverCall r called.Disable ∷ by.DriverCall s called.HardClear ∷ by.DriverCall t called.Synced ∷ []) h = refl
 all_count calls.DisableNosync (by.DriverCall r called.Disable ∷ []) h = refl
 all_count calls.Enable (by.DriverCall r (called.Enable answer) ∷ []) h = refl
@@ -56,7 +58,11 @@ nothing_made : (c : Call) → MakesSome c []
 nothing_made (calls.Ask d) = (by.Driver first_driver (drivers.Ask true d) ∷ [], refl)
 nothing_made (calls.Request d flags) = (by.Driver first_driver (drivers.Request flags links.Linked opens.No d) ∷ [], (refl, refl))
 nothing_made (calls.Free d) = (by.DriverCall first_driver (called.Unlink unlinks.NotThere d) ∷ [], refl)
-nothing_made calls.Disable = (by.DriverCall first_driver called.Disable ∷ by.DriverCall first_driver called.HardClear ∷ by.DriverCall first_driver called.Synced ∷ [], tt)
+nothing_made calls.Disable = (
+  by.DriverCall first_driver called.Disable ∷ by.DriverCall first_driver called.HardClear
+      ∷ by.DriverCall first_driver called.Synced ∷ [],
+  tt,
+)
 nothing_made calls.DisableNosync = (by.DriverCall first_driver called.Disable ∷ [], tt)
 nothing_made calls.Enable = (by.DriverCall first_driver (called.Enable enables.Unbalanced) ∷ [], tt)
 nothing_made calls.Sync = (by.DriverCall first_driver called.HardClear ∷ by.DriverCall first_driver called.Synced ∷ [], tt)
@@ -169,7 +175,8 @@ goes_free_clear s x (y ∷ []) (more, all) l lt = absurd all
 
 goes_freed : (s : DriverNo) (x : DevNo) (n : ℕ) → (n == 0) ≡ false → (n == 1) ≡ false → GoesOn (calls.Free x) n (by.DriverCall s (called.Freed x))
 goes_freed s x n some more [] made l lt = absurd (eqb-false n 0 some (sym l))
-goes_freed s x n some more (by.DriverCall r (called.Unlink (unlinks.Unlinked last) d) ∷ by.DriverCall a called.HardClear ∷ []) (by.DriverCall t (called.Freed freed) ∷ [], all) l lt = ([], (all.0, refl))
+goes_freed s x n some more (by.DriverCall r (called.Unlink (unlinks.Unlinked last) d) ∷ by.DriverCall a called.HardClear
+    ∷ []) (by.DriverCall t (called.Freed freed) ∷ [], all) l lt = ([], (all.0, refl))
 goes_freed s x n some more (y ∷ []) made l lt = absurd (eqb-false n 1 more (sym l))
 goes_freed s x n some more (y ∷ z ∷ w ∷ ys) made l lt = absurd
     (let below = ltb-true (length (y ∷ z ∷ w ∷ ys)) (entries_of_call (calls.Free x) (y ∷ z ∷ w ∷ ys)) lt in
@@ -190,7 +197,9 @@ goes_nosync s n (y ∷ ys) made l lt = alone y ys lt
 
 goes_disable_clear : (s : DriverNo) → GoesOn calls.Disable 1 (by.DriverCall s called.HardClear)
 goes_disable_clear s [] made l lt = absurd (omega (arith, l))
-goes_disable_clear s (by.DriverCall r called.Disable ∷ []) (by.DriverCall a called.HardClear ∷ by.DriverCall t called.Synced ∷ [], all) l lt = (by.DriverCall t called.Synced ∷ [], tt)
+goes_disable_clear s (by.DriverCall r called.Disable ∷ [])
+    (by.DriverCall a called.HardClear ∷ by.DriverCall t called.Synced ∷ [], all) l lt
+    = (by.DriverCall t called.Synced ∷ [], tt)
 goes_disable_clear s (y ∷ z ∷ ys) made l lt = absurd (omega (arith, l))
 goes_disable_clear s (y ∷ []) (more, all) l lt = absurd all
 
@@ -200,7 +209,8 @@ goes_sync_clear s (y ∷ ys) made l lt = first_of_all y ys l
 
 goes_disable_synced : (s : DriverNo) (n : ℕ) → (n == 0) ≡ false → (n == 1) ≡ false → GoesOn calls.Disable n (by.DriverCall s called.Synced)
 goes_disable_synced s n some more [] made l lt = absurd (eqb-false n 0 some (sym l))
-goes_disable_synced s n some more (by.DriverCall r called.Disable ∷ by.DriverCall a called.HardClear ∷ []) (by.DriverCall t called.Synced ∷ [], all) l lt = ([], tt)
+goes_disable_synced s n some more (by.DriverCall r called.Disable ∷ by.DriverCall a called.HardClear ∷ [])
+    (by.DriverCall t called.Synced ∷ [], all) l lt = ([], tt)
 goes_disable_synced s n some more (y ∷ []) made l lt = absurd (eqb-false n 1 more (sym l))
 goes_disable_synced s n some more (y ∷ z ∷ w ∷ ys) made l lt = absurd (let below = ltb-true (length (y ∷ z ∷ w ∷ ys)) 3 lt in omega (arith, below))
 goes_disable_synced s n some more (y ∷ z ∷ []) (rest, all) l lt = absurd all
@@ -242,7 +252,7 @@ follows def s e past c n by due goes f r = by_driver (same_driver r s) refl
 
 follows_more : (def : LineDef) (e : Entry) (past : List Entry) → IsDue def e past → FollowsScriptsPast def past → FollowsScriptsPast def (e ∷ past)
 follows_more def (by.Driver s (drivers.Ask makes x)) past due f = let u = ask_due _ def s x past due in
-    follows def s (by.Driver s (drivers.Ask _ x)) past (calls.Ask x) u.count (λ r. refl) u.call (goes_ask _ s x u.count) f
+    follows def s (by.Driver s (drivers.Ask makes x)) past (calls.Ask x) u.count (λ r. refl) u.call (goes_ask _ s x u.count) f
 follows_more def (by.DriverCall s called.Disable) past due f = by_call (disable_due def s past due).call
   where
     by_call : (due_call def s past ≡ Some (calls.Disable, 0))
@@ -284,6 +294,10 @@ follows_more def (by.Driver s (drivers.Affinity answer mask)) past due f =
     (goes_affinity s mask answer u.count) f
 follows_more def (by.Driver s (drivers.Moment at)) past due f = let u = moment_due def s at past due in
     follows def s (by.Driver s (drivers.Moment at)) past (calls.Moment at) u.count (λ r. refl) u.call (goes_moment s at u.count) f
+follows_more def (by.DriverCall s (called.Wake woken x)) past due f = no_new_call def s (called.Wake woken x) past refl due
+follows_more def (by.DriverCall s (called.Quiet x)) past due f = no_new_call def s (called.Quiet x) past refl due
+follows_more def (by.DriverCall s (called.Arm makes x)) past due f = no_new_call def s (called.Arm makes x) past refl due
+follows_more def (by.DriverCall s (called.Serve x served)) past due f = no_new_call def s (called.Serve x served) past refl due
 follows_more def e past due f = f
 
 pub follows_past : (def : LineDef) (past : List Entry) → IsLegalPast def past → FollowsScriptsPast def past

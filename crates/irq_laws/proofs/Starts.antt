@@ -21,6 +21,7 @@ use Rattle.irq_model.specs.Next.{resend_of, enable_answer}
 use Rattle.irq_model.specs.Legal.{IsDue, IsLegalPast}
 use Rattle.irq_laws.proofs.Lists.{stands_cases}
 use Rattle.irq_laws.proofs.ImpliesDriver.{enable_due, request_due, opened_with}
+use Rattle.irq_laws.proofs.OwnLaws.{no_cpu_call, no_thread_call}
 
 -- ---- a start resends what the line says
 
@@ -52,6 +53,8 @@ resends_what_is_pending def (by.DriverCall s (called.Enable answer)) past r due 
     enable_resends def past r (ap opened_by_enable (sym (enable_due def s answer past due).answer_is) ∙ h)
 resends_what_is_pending def (by.Driver s (drivers.Request flags answer opened x)) past r due h =
     let u = request_due def s x flags answer opened past due in request_resends def flags past _ r (sym u.opened_is ∙ h)
+resends_what_is_pending def (by.CpuCall c call) past r due h = no_cpu_call def c call past due
+resends_what_is_pending def (by.ThreadCall x call) past r due h = no_thread_call def x call past due
 resends_what_is_pending def e past r due h = cc
 
 -- ---- which resend that is

@@ -27,6 +27,7 @@ use Rattle.irq_laws.proofs.Progress.{entries_more}
 use Rattle.irq_laws.proofs.Scripted.{Completes, completes, unrequested, place_of}
 use Rattle.irq_laws.proofs.FreesKept.{freed_is}
 use Rattle.irq_laws.proofs.ImpliesDriver.{ask_due, request_due, unlink_due, disable_due, hard_clear_due, synced_due, enable_due, affinity_due, moment_due}
+use Rattle.irq_laws.proofs.OwnLaws.{no_cpu_call, no_thread_call, no_new_call}
 
 -- ---- the complete calls after one more entry
 
@@ -118,7 +119,7 @@ absent_when false v h = refl
 wanted_more : (def : LineDef) (e : Entry) (past : List Entry) → IsDue def e past → KeepsFrees def past
     → LinkedIsWanted def past → (d : DevNo) → is_linked (e ∷ past) d ≡ true → Wanted def (e ∷ past) d
 wanted_more def (by.Driver s (drivers.Ask makes x)) past due k w d h = let u = ask_due _ def s x past due in
-    keeps_wanted def s (by.Driver s (drivers.Ask _ x)) past (calls.Ask x) u.count d (λ r. refl) u.call refl (w d h)
+    keeps_wanted def s (by.Driver s (drivers.Ask makes x)) past (calls.Ask x) u.count d (λ r. refl) u.call refl (w d h)
 wanted_more def (by.DriverCall s called.Disable) past due k w d h = by_call (disable_due def s past due).call
   where
     by_call : (due_call def s past ≡ Some (calls.Disable, 0))
@@ -162,7 +163,8 @@ wanted_more def (by.Driver s (drivers.Request flags (links.Refused error) opened
 wanted_more def (by.DriverCall s (called.Unlink (unlinks.Unlinked last) x)) past due k w d h =
     let p = and_parts (not (same_dev d x && true)) (is_linked past d) h in
     let u = unlink_due def s x (unlinks.Unlinked last) past due in
-    keeps_wanted def s (by.DriverCall s (called.Unlink (unlinks.Unlinked last) x)) past (calls.Free x) 0 d (λ r. refl) u.call (differs (same_dev d x) p.0) (w d p.1)
+    keeps_wanted def s (by.DriverCall s (called.Unlink (unlinks.Unlinked last) x)) past (calls.Free x) 0 d (λ r. refl)
+    u.call (differs (same_dev d x) p.0) (w d p.1)
   where
     differs : (s : Bool) → not (s && true) ≡ true → s ≡ false
     differs s h = grind arith
@@ -182,6 +184,12 @@ wanted_more def (by.Driver s (drivers.Affinity answer mask)) past due k w d h =
     (w d h)
 wanted_more def (by.Driver s (drivers.Moment at)) past due k w d h = let u = moment_due def s at past due in
     keeps_wanted def s (by.Driver s (drivers.Moment at)) past (calls.Moment at) u.count d (λ r. refl) u.call refl (w d h)
+wanted_more def (by.CpuCall c call) past due k w d h = no_cpu_call def c call past due
+wanted_more def (by.ThreadCall x call) past due k w d h = no_thread_call def x call past due
+wanted_more def (by.DriverCall s (called.Wake woken x)) past due k w d h = no_new_call def s (called.Wake woken x) past refl due
+wanted_more def (by.DriverCall s (called.Quiet x)) past due k w d h = no_new_call def s (called.Quiet x) past refl due
+wanted_more def (by.DriverCall s (called.Arm makes x)) past due k w d h = no_new_call def s (called.Arm makes x) past refl due
+wanted_more def (by.DriverCall s (called.Serve x served)) past due k w d h = no_new_call def s (called.Serve x served) past refl due
 wanted_more def e past due k w d h =
     let v = w d h in record { driver = v.driver; place = v.place; call = v.call; there = v.there; own = v.own; requests = v.requests; wanted = v.wanted }
 

@@ -21,6 +21,7 @@ use Rattle.irq_laws.proofs.Chosen.{the_same}
 use Rattle.irq_laws.proofs.Progress.{standing, same_count, same_call, due_at, entries_more, no_more}
 use Rattle.irq_laws.proofs.FreesKept.{is_free, never, not_freeing}
 use Rattle.irq_laws.proofs.ImpliesDriver.{ask_due, request_due, unlink_due, disable_due, hard_clear_due, synced_due, enable_due, affinity_due, moment_due}
+use Rattle.irq_laws.proofs.OwnLaws.{no_new_call}
 
 -- the due call goes on with e as one entry more
 goes_on_with : (def : LineDef) (r : DriverNo) (e : Entry) (past : List Entry) (c : Call) (n : ℕ) → is_by_driver r e ≡ true → due_call def r past ≡ Some (c, n)
@@ -72,7 +73,8 @@ clear_due : (def : LineDef) (s : DriverNo) (past : List Entry) (r : DriverNo) (d
     → Within def (by.DriverCall s called.HardClear ∷ past) r d
 clear_due def s past r d n due h = by_call (hard_clear_due def s past due).call
   where
-    of_free : (x : DevNo) → due_call def s past ≡ Some (calls.Free x, 1) → (b : Bool) → same_driver r s ≡ b → Within def (by.DriverCall s called.HardClear ∷ past) r d
+    of_free : (x : DevNo) → due_call def s past ≡ Some (calls.Free x, 1) → (b : Bool) → same_driver r s ≡ b
+        → Within def (by.DriverCall s called.HardClear ∷ past) r d
     of_free x call true same =
         let mine : due_call def r past ≡ Some (calls.Free x, 1)
         = subst (λ (t : DriverNo). due_call def t past ≡ Some (calls.Free x, 1)) (sym (driver_from_same r s same))
@@ -92,7 +94,11 @@ clear_due def s past r d n due h = by_call (hard_clear_due def s past due).call
 within_more : (def : LineDef) (e : Entry) (past : List Entry) (r : DriverNo) (d : DevNo) → IsDue def e past
     → (freeing past ≡ Some (r, d) → Within def past r d) → freeing (e ∷ past) ≡ Some (r, d) → Within def (e ∷ past) r d
 within_more def (by.Driver s (drivers.Ask makes x)) past r d due k f =
-    let h = k f in let u = ask_due _ def s x past due in (h.0, other_due def r s (by.Driver s (drivers.Ask _ x)) past (calls.Ask x) u.count d h.0 refl refl u.call h.1)
+    let h = k f in let u = ask_due _ def s x past due in (
+      h.0,
+      other_due def r s (by.Driver s (drivers.Ask makes x)) past (calls.Ask x) u.count d h.0 refl refl u.call
+          h.1,
+    )
 within_more def (by.DriverCall s called.Disable) past r d due k f = by_call (k f) (disable_due def s past due).call
   where
     by_call : Within def past r d → (due_call def s past ≡ Some (calls.Disable, 0))
@@ -122,9 +128,13 @@ within_more def (by.DriverCall s (called.Unlink (unlinks.Unlinked last) x)) past
     let same : p ≡ q = the_same p q f in
     let u = unlink_due def s x (unlinks.Unlinked last) past due in
     let here : due_call def s (by.DriverCall s (called.Unlink (unlinks.Unlinked last) x) ∷ past) ≡ Some (calls.Free x, 1) =
-    goes_on_with def s (by.DriverCall s (called.Unlink (unlinks.Unlinked last) x)) past (calls.Free x) 0 (same_self_driver s) u.call (unlink_goes x s last) in
-    (0, subst (λ (y : DriverNo × DevNo). due_call def y.0 (by.DriverCall s (called.Unlink (unlinks.Unlinked last) x) ∷ past) ≡ Some (calls.Free y.1, 1)) same here)
-within_more def (by.DriverCall s (called.Unlink unlinks.NotThere x)) past r d due k f = not_freeing past _ (unlink_due def s x unlinks.NotThere past due).no_mutex f
+    goes_on_with def s (by.DriverCall s (called.Unlink (unlinks.Unlinked last) x)) past (calls.Free x) 0 (same_self_driver s) u.call (unlink_goes x s last) in (
+      0,
+      subst (λ (y : DriverNo × DevNo). due_call def y.0
+          (by.DriverCall s (called.Unlink (unlinks.Unlinked last) x) ∷ past) ≡ Some (calls.Free y.1, 1)) same here,
+    )
+within_more def (by.DriverCall s (called.Unlink unlinks.NotThere x)) past r d due k f
+    = not_freeing past _ (unlink_due def s x unlinks.NotThere past due).no_mutex f
 within_more def (by.DriverCall s (called.Freed x)) past r d due k f = cc
 within_more def (by.Driver s (drivers.Affinity answer mask)) past r d due k f =
     let h = k f in let u = affinity_due def s mask answer past due in (
@@ -135,6 +145,10 @@ within_more def (by.Driver s (drivers.Affinity answer mask)) past r d due k f =
 within_more def (by.Driver s (drivers.Moment at)) past r d due k f =
     let h = k f in let u = moment_due def s at past due in
     (h.0, other_due def r s (by.Driver s (drivers.Moment at)) past (calls.Moment at) u.count d h.0 refl refl u.call h.1)
+within_more def (by.DriverCall s (called.Wake woken x)) past r d due k f = no_new_call def s (called.Wake woken x) past refl due
+within_more def (by.DriverCall s (called.Quiet x)) past r d due k f = no_new_call def s (called.Quiet x) past refl due
+within_more def (by.DriverCall s (called.Arm makes x)) past r d due k f = no_new_call def s (called.Arm makes x) past refl due
+within_more def (by.DriverCall s (called.Serve x served)) past r d due k f = no_new_call def s (called.Serve x served) past refl due
 within_more def e past r d due k f = k f
 
 pub within_free : (def : LineDef) (past : List Entry) → IsLegalPast def past → (r : DriverNo) (d : DevNo)

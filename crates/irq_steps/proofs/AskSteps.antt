@@ -25,7 +25,8 @@ fresh_asks d past = count_of (is_ask d) (since (is_begin d) past)
 abbrev pub fresh_thread_asks : DevNo → List Entry → ℕ
 fresh_thread_asks d past = count_of (is_ask d) (since (is_thread_begin d) past)
 
-pub unserved_ask : (makes : Bool) (kind : Kind) (r : DriverNo) (d : DevNo) (past : List Entry) → unserved_by kind d (by.Driver r (drivers.Ask makes d) ∷ past) ≡ unserved_by kind d past + 1
+pub unserved_ask : (makes : Bool) (kind : Kind) (r : DriverNo) (d : DevNo) (past : List Entry)
+    → unserved_by kind d (by.Driver r (drivers.Ask makes d) ∷ past) ≡ unserved_by kind d past + 1
 unserved_ask makes kinds.Direct r d past = rw (same_self d) (omega arith)
 unserved_ask makes kinds.Check r d past = rw (same_self d) (omega arith)
 unserved_ask makes kinds.Null r d past = rw (same_self d) (omega arith)
@@ -34,11 +35,13 @@ unserved_ask makes kinds.Stuck r d past = rw (same_self d) (omega arith)
 pub fresh_ask : (makes : Bool) (r : DriverNo) (d : DevNo) (past : List Entry) → fresh_asks d (by.Driver r (drivers.Ask makes d) ∷ past) ≡ fresh_asks d past + 1
 fresh_ask makes r d past = rw (same_self d) refl
 
-pub fresh_thread_ask : (makes : Bool) (r : DriverNo) (d : DevNo) (past : List Entry) → fresh_thread_asks d (by.Driver r (drivers.Ask makes d) ∷ past) ≡ fresh_thread_asks d past + 1
+pub fresh_thread_ask : (makes : Bool) (r : DriverNo) (d : DevNo) (past : List Entry)
+    → fresh_thread_asks d (by.Driver r (drivers.Ask makes d) ∷ past) ≡ fresh_thread_asks d past + 1
 fresh_thread_ask makes r d past = rw (same_self d) refl
 
 -- a run that begins meets what is unserved
-pub met_begin : (def : LineDef) (cpu : CpuNo) (d : DevNo) (past : List Entry) → asks_of_handler def d (by.Cpu cpu (cpus.Begin d) ∷ past) ≡ unserved_asks def d past
+pub met_begin : (def : LineDef) (cpu : CpuNo) (d : DevNo) (past : List Entry)
+    → asks_of_handler def d (by.Cpu cpu (cpus.Begin d) ∷ past) ≡ unserved_asks def d past
 met_begin def cpu d past = rw (same_self d) refl
 
 pub met_thread_begin : (def : LineDef) (d : DevNo) (past : List Entry) → asks_of_thread def d (by.Thread d threads.Begin ∷ past) ≡ unserved_asks def d past
@@ -55,5 +58,6 @@ pub unserved_return : (cpu : CpuNo) (d : DevNo) (a : Answer) (n : ℕ) (past : L
     → unserved_by kinds.Direct d (by.Cpu cpu (cpus.Return a d n) ∷ past) ≡ fresh_asks d past
 unserved_return cpu d a n past = rw (same_self d) (omega arith)
 
-pub unserved_thread_return : (handled : Bool) (d : DevNo) (n : ℕ) (past : List Entry) → unserved_by kinds.Check d (by.Thread d (threads.Return handled n) ∷ past) ≡ fresh_thread_asks d past
+pub unserved_thread_return : (handled : Bool) (d : DevNo) (n : ℕ) (past : List Entry)
+    → unserved_by kinds.Check d (by.Thread d (threads.Return handled n) ∷ past) ≡ fresh_thread_asks d past
 unserved_thread_return handled d n past = rw (same_self d) (omega arith)

@@ -62,5 +62,6 @@ pub mutex_freed : (e : Entry) (past : List Entry) → is_call ends_free e ≡ tr
     → ((a' : Actor) → list_any (unlinks_by a') past ≡ true → a' ≡ actor_of e) → holds_mutex (e ∷ past) ≡ false
 mutex_freed e past ends h =
     ap (λ b. (b && not false) || some_place (λ a u. is_being_freed_at (e ∷ a) u) past) (no_unlink e ends)
-    ∙ some_ext _ (λ a u. false) past (λ a u is. done_free e a u ends (λ x. subst (λ (xs : List Entry). list_any (unlinks_by x) xs ≡ true → x ≡ actor_of e) (sym is) (h x)))
+    ∙ some_ext _ (λ a u. false) past (λ a u is. done_free e a u ends
+    (λ x. subst (λ (xs : List Entry). list_any (unlinks_by x) xs ≡ true → x ≡ actor_of e) (sym is) (h x)))
     ∙ some_none past

@@ -7,6 +7,7 @@ use Rattle.irq_base.specs.declared.lines.LineDef.{LineDef}
 use Rattle.irq_base.specs.declared.entries.Entry.{Entry}
 use Rattle.irq_base.specs.declared.entries.Entry.TheVariants as by
 use Rattle.irq_base.specs.declared.entries.CpuEntry.TheVariants as cpus
+use Rattle.irq_base.specs.declared.entries.DriverEntry.TheVariants as drivers
 use Rattle.irq_base.specs.declared.entries.Way.TheVariants as ways
 use Rattle.irq_base.specs.declared.entries.TakeAnswer.TheVariants as takes
 use Rattle.irq_base.specs.declared.entries.Note.{Note}
@@ -15,7 +16,7 @@ use Rattle.irq_base.specs.declared.entries.Opened.{Opened}
 use Rattle.irq_base.specs.declared.entries.Opened.TheVariants as opens
 use Rattle.irq_model.specs.Places.{count_of, last_of}
 use Rattle.irq_model.specs.Kinds.{opened_of, is_started_opened, is_chip_opened, is_soft_opened, is_take, is_line_take}
-use Rattle.irq_model.specs.Kinds.{is_resend_take, is_handle, is_busy, is_off, is_again, is_any_ask, is_start}
+use Rattle.irq_model.specs.Kinds.{is_resend_take, is_handle, is_busy, is_off, is_again, is_any_ask, is_device_edge, is_start}
 use Rattle.irq_model.specs.Kinds.{is_chip_start, is_soft_start}
 use Rattle.irq_model.specs.Lines.{is_edge_line, is_eoi_flow}
 use Rattle.irq_model.specs.Links.{is_disabled, is_none_linked}
@@ -149,7 +150,8 @@ off_idle false o h = refl
 pend_more : (def : LineDef) (e : Entry) (past : List Entry) → IsDue def e past → StaysBelow is_again is_busy (λ past. one_if (goes_on_later def past)) e past
 pend_more def (by.Cpu c (cpus.Take way takes.Handle)) past due =
     let m = cleared_mark (has_flow def (by.Cpu c (cpus.Take way takes.Handle) ∷ past)) false (is_edge_line def) (is_pending def past) in omega (arith, m)
-pend_more def (by.Cpu c (cpus.Take way takes.Busy)) past due = let m = mark_most (goes_on_later def (by.Cpu c (cpus.Take way takes.Busy) ∷ past)) in omega (arith, m)
+pend_more def (by.Cpu c (cpus.Take way takes.Busy)) past due = let m
+    = mark_most (goes_on_later def (by.Cpu c (cpus.Take way takes.Busy) ∷ past)) in omega (arith, m)
 pend_more def (by.Cpu c (cpus.Take way takes.Off)) past due =
     let e = by.Cpu c (cpus.Take way takes.Off) in
     let same : has_flow def (e ∷ past) ≡ has_flow def past = ap is_some (flow_quiet def e past refl refl refl) in
@@ -190,11 +192,22 @@ pub record EdgeCounts (def : LineDef) (past : List Entry) : Type 0 where
   pub rounds : count_of (begins_round def) past ≤ ask_calls def + other_calls def
   pub takes : count_of is_take past ≤ 2 * (ask_calls def + other_calls def)
 
+-- no more edges come from the devices than they ask
+edge_asks : (e : Entry) → is_device_edge e ≡ true → is_any_ask e ≡ true
+edge_asks (by.Driver s (drivers.Ask makes x)) h = refl
+edge_asks e h = cc
+
+pub edges_are_asks : (past : List Entry) → count_of is_device_edge past ≤ count_of is_any_ask past
+edges_are_asks past = count_imply is_device_edge is_any_ask past edge_asks
+
 -- from the counts that were kept
 pub edge_counts : (def : LineDef) (past : List Entry) → IsLegalPast def past
-    → count_of is_line_take past ≤ count_of is_any_ask past + count_of is_chip_start past + count_of (retriggers def) past
+    → count_of is_line_take past ≤ count_of is_device_edge past + count_of is_chip_start past + count_of (retriggers def) past
     → count_of is_resend_take past ≤ count_of is_soft_start past → EdgeCounts def past
-edge_counts def past legal by_line by_resend =
+edge_counts def past legal by_edges by_resend =
+    let edges = edges_are_asks past in
+    let by_line : count_of is_line_take past ≤ count_of is_any_ask past + count_of is_chip_start past + count_of (retriggers def) past
+    = omega (arith, by_edges, edges) in
     let answers = takes_by_answer past in
     let ways = takes_by_way past in
     let rounds = rounds_by_entry def past in

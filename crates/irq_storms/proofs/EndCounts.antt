@@ -1,5 +1,5 @@
 -- The ends of a level line that were judged handled, deferred, or nothing.
-use Rattle.std.proofs.Common.{◌≡◌, ℕ, ◌+◌, ◌*◌, ◌<◌, ◌≤◌, ◌==◌, Bool, true, false, not, ◌||◌, ◌&&◌, cond, nat_lt, List, [], ◌∷◌, refl, ap, ◌∙◌, arith}
+use Rattle.std.proofs.Common.{◌≡◌, ℕ, ◌+◌, ◌*◌, ◌<◌, ◌≤◌, ◌==◌, Bool, true, false, not, ◌||◌, ◌&&◌, cond, nat_lt, List, [], ◌∷◌, refl, sym, ap, ◌∙◌, arith}
 use Rattle.std.proofs.Math.Nat.{mul-add, mul-one}
 use Rattle.std.proofs.lemmas.Bool.{or_parts, false_from_ne_true}
 use Rattle.irq_base.specs.declared.numbers.CpuNo.{CpuNo}
@@ -22,6 +22,7 @@ use Rattle.irq_model.specs.Legal.{IsDue, IsLegalPast}
 use Rattle.irq_model.specs.Valid.{IsValid}
 use Rattle.irq_laws.proofs.Lists.{both_ways}
 use Rattle.irq_laws.proofs.ImpliesFlow.{end_due, has_a_flow}
+use Rattle.irq_laws.proofs.ImpliesThread.{thread_return_answer}
 use Rattle.irq_storms.specs.Tests.{is_end, is_any_serving, is_moment, is_renewal}
 use Rattle.irq_storms.specs.Judged.{one_if, count_where, judgement, is_handled_judgement, is_nothing_judgement}
 use Rattle.irq_storms.specs.Judged.{ends_handled, ends_nothing, ends_deferred, ends_clearing, handled_ends}
@@ -73,6 +74,9 @@ HandledMore def e past = StaysWithin (ends_handled def) (λ e past. is_any_servi
 quiet_marks : (f f' r : Bool) (t : ℕ) → f' ≡ f → 0 + (one_if (f' && r) + t) + 0 ≤ (one_if (f && r) + t) + 0 + 0
 quiet_marks f f' r t same = rw same (omega arith)
 
+idle_marks : (f f' r : Bool) (t n : ℕ) → f' ≡ f → 0 + (one_if (f' && r) + t) + 0 ≤ (one_if (f && r) + t) + 0 + n
+idle_marks f f' r t n same = rw same (omega arith)
+
 return_marks : (f f' r a : Bool) (t : ℕ) → f' ≡ f → 0 + (one_if (f' && (a || r)) + t) + 0 ≤ (one_if (f && r) + t) + 0 + one_if a
 return_marks f f' r a t same = rw same (by_tests f a)
   where
@@ -98,28 +102,32 @@ handled_more def (by.Cpu c (cpus.End again unmask note)) past valid level due =
     some : (a b : Bool) → a ≡ true → one_if (a && b) ≡ one_if b
     some a b h = grind arith
 handled_more def (by.Thread x (threads.Return handled served)) past valid level due
-    = by_served (nat_lt 0 served) (flow_stays def (by.Thread x (threads.Return _ served)) past refl refl refl)
+    = by_answer handled (flow_stays def (by.Thread x (threads.Return handled served)) past refl refl refl)
+    (thread_return_answer def x handled served past due)
   where
-    by_served : (b : Bool) → has_flow def (by.Thread x (threads.Return handled served) ∷ past) ≡ has_flow def past
+    by_answer : (b : Bool) → has_flow def (by.Thread x (threads.Return handled served) ∷ past) ≡ has_flow def past → b ≡ nat_lt 0 served
         → 0 + (one_if (has_flow def (by.Thread x (threads.Return handled served) ∷ past) && round_handles def past) + one_if
         (not ((cond b (record (counts_of def past) { threads_handled = (counts_of def past).threads_handled + 1 })
         (counts_of def past)).threads_handled == (cond b
         (record (counts_of def past) { threads_handled = (counts_of def past).threads_handled + 1 })
         (counts_of def past)).last))) + 0
-        ≤ serving_marks def past + 0 + one_if b
-    by_served true same =
+        ≤ serving_marks def past + 0 + one_if (nat_lt 0 served)
+    by_answer true same is =
         let m = mark_most (not ((counts_of def past).threads_handled + 1 == (counts_of def past).last)) in
-        let s : one_if (has_flow def (by.Thread x (threads.Return _ served) ∷ past) && round_handles def past)
+        let s : one_if (has_flow def (by.Thread x (threads.Return handled served) ∷ past) && round_handles def past)
         ≡ one_if (has_flow def past && round_handles def past)
         = ap (λ (f : Bool). one_if (f && round_handles def past)) same in
-        omega (arith, m, s)
-    by_served false same = quiet_marks _ _ _ _ same
+        let one : one_if (nat_lt 0 served) ≡ 1 = ap one_if (sym is) in
+        omega (arith, m, s, one)
+    by_answer false same is = idle_marks _ _ _ _ _ same
 handled_more def (by.Cpu c (cpus.Return answer x served)) past valid level due =
     return_marks (has_flow def past) (has_flow def (by.Cpu c (cpus.Return answer x served) ∷ past)) (round_handles def past)
     (is_handled answer) _ (flow_stays def (by.Cpu c (cpus.Return answer x served)) past refl refl refl)
 handled_more def (by.Cpu c (cpus.Take way takes.Handle)) past valid level due = omega arith
-handled_more def (by.Cpu c (cpus.Take way takes.Busy)) past valid level due = quiet_marks _ _ _ _ (flow_stays def (by.Cpu c (cpus.Take way takes.Busy)) past refl refl refl)
-handled_more def (by.Cpu c (cpus.Take way takes.Off)) past valid level due = quiet_marks _ _ _ _ (flow_stays def (by.Cpu c (cpus.Take way takes.Off)) past refl refl refl)
+handled_more def (by.Cpu c (cpus.Take way takes.Busy)) past valid level due
+    = quiet_marks _ _ _ _ (flow_stays def (by.Cpu c (cpus.Take way takes.Busy)) past refl refl refl)
+handled_more def (by.Cpu c (cpus.Take way takes.Off)) past valid level due
+    = quiet_marks _ _ _ _ (flow_stays def (by.Cpu c (cpus.Take way takes.Off)) past refl refl refl)
 handled_more def (by.Driver s (drivers.Request flags links.Linked opened x)) past valid level due
     = quiet_marks _ _ _ _ (flow_stays def (by.Driver s (drivers.Request flags links.Linked opened x)) past refl refl refl)
 handled_more def (by.Driver s (drivers.Request flags (links.Refused error) opened x)) past valid level due
@@ -141,13 +149,13 @@ DeferredMore def e past = StaysWithin (ends_deferred def) (ends_clearing def) (�
 
 deferred_more : (def : LineDef) (e : Entry) (past : List Entry) → DeferredMore def e past
 deferred_more def (by.Cpu c (cpus.End again unmask note)) past = let d = (facts_of def past).deferred in omega (arith, d)
-deferred_more def (by.Thread x (threads.Return handled served)) past = by_served (nat_lt 0 served)
+deferred_more def (by.Thread x (threads.Return handled served)) past = by_answer handled
   where
-    by_served : (b : Bool) → 0 + 0 + one_if (counts_of def past).deferred ≤ 0 + one_if
+    by_answer : (b : Bool) → 0 + 0 + one_if (counts_of def past).deferred ≤ 0 + one_if
         (cond b (record (counts_of def past) { threads_handled = (counts_of def past).threads_handled + 1 })
         (counts_of def past)).deferred + 0
-    by_served true = omega arith
-    by_served false = omega arith
+    by_answer true = omega arith
+    by_answer false = omega arith
 deferred_more def (by.Driver s (drivers.Request flags links.Linked opened x)) past = omega arith
 deferred_more def (by.Driver s (drivers.Request flags (links.Refused error) opened x)) past = omega arith
 deferred_more def e past = omega arith
@@ -179,12 +187,12 @@ clearing_past def (e ∷ past) =
 small_more : (def : LineDef) (e : Entry) (past : List Entry) → 0 < def.window
     → (counts_of def past).irq_count < def.window → (counts_of def (e ∷ past)).irq_count < def.window
 small_more def (by.Cpu c (cpus.End again unmask note)) past some small = (facts_of def past).small small
-small_more def (by.Thread x (threads.Return handled served)) past some small = by_served (nat_lt 0 served)
+small_more def (by.Thread x (threads.Return handled served)) past some small = by_answer handled
   where
-    by_served : (b : Bool) → (cond b (record (counts_of def past)
+    by_answer : (b : Bool) → (cond b (record (counts_of def past)
         { threads_handled = (counts_of def past).threads_handled + 1 }) (counts_of def past)).irq_count < def.window
-    by_served true = small
-    by_served false = small
+    by_answer true = small
+    by_answer false = small
 small_more def (by.Driver s (drivers.Request flags links.Linked opened x)) past some small = some
 small_more def (by.Driver s (drivers.Request flags (links.Refused error) opened x)) past some small = small
 small_more def e past some small = small
@@ -206,13 +214,13 @@ same_window def (by.Driver s (drivers.Moment at)) past no_end old = cc
 same_window def (by.Driver s (drivers.Request flags links.Linked opened x)) past no_end old
     = no_renewal (is_start (by.Driver s (drivers.Request flags links.Linked opened x))) false old
 same_window def (by.Driver s (drivers.Request flags (links.Refused error) opened x)) past no_end old = refl
-same_window def (by.Thread x (threads.Return handled served)) past no_end old = by_served (nat_lt 0 served)
+same_window def (by.Thread x (threads.Return handled served)) past no_end old = by_answer handled
   where
-    by_served : (b : Bool) → allowance def.window (now past)
+    by_answer : (b : Bool) → allowance def.window (now past)
         (cond b (record (counts_of def past) { threads_handled = (counts_of def past).threads_handled + 1 })
         (counts_of def past)) ≡ allowance def.window (now past) (counts_of def past)
-    by_served true = refl
-    by_served false = refl
+    by_answer true = refl
+    by_answer false = refl
 same_window def e past no_end old = refl
 
 abbrev NothingMore : LineDef → Entry → List Entry → Type 0

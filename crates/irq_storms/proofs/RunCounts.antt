@@ -86,7 +86,8 @@ rounds_past def (e ∷ past) legal =
     summed r' n' r n x y f g h i j k = omega (arith, h, i, j, k)
 
 -- an end that leaves closes the flow
-pub flow_closed : (def : LineDef) (c : CpuNo) (unmask : Bool) (note : Note) (past : List Entry) → has_flow def (by.Cpu c (cpus.End false unmask note) ∷ past) ≡ false
+pub flow_closed : (def : LineDef) (c : CpuNo) (unmask : Bool) (note : Note) (past : List Entry)
+    → has_flow def (by.Cpu c (cpus.End false unmask note) ∷ past) ≡ false
 flow_closed def c unmask note past = refl
 
 -- an entry that is neither a take that is handled nor an end leaves it

@@ -218,7 +218,8 @@ apart_thread d e h = cc
 no_thread_return : (handled : Bool) {P : Type 0} (def : LineDef) (d x : DevNo) (count : ℕ) (past : List Entry) → IsLegalPast def past
     → IsDue def (by.Thread x (threads.Return handled count)) past → same_dev d x ≡ true → has_thread (kind_of def d) ≡ false → P
 no_thread_return handled def d x count past legal due same none =
-    both_ways (has_thread (kind_of def d)) (running_thread def d past legal (return_tells def d (by.Thread x (threads.Return _ count)) past due same).0) none
+    both_ways (has_thread (kind_of def d)) (running_thread def d past legal
+    (return_tells def d (by.Thread x (threads.Return handled count)) past due same).0) none
 
 direct_more : (def : LineDef) (d : DevNo) (e : Entry) (past : List Entry) → kind_of def d ≡ kinds.Direct
     → IsLegalPast def past → KeepsRuns def past → IsDue def e past → ServedMore def kinds.Direct d e past
@@ -237,7 +238,7 @@ direct_more def d (by.Cpu c (cpus.Return answer x count)) past is legal k due = 
         (more (is_ask d) (is_begin d) (is_return d) (by.Cpu c (cpus.Return answer x count)) past other)
 direct_more def d (by.Thread x (threads.Return handled count)) past is legal k due =
     quiet _ _ _ _ (none_of (same_dev d x) count (λ same. no_thread_return _ def d x count past legal due same
-    (ap has_thread is))) (more (is_ask d) (is_begin d) (is_return d) (by.Thread x (threads.Return _ count)) past refl)
+    (ap has_thread is))) (more (is_ask d) (is_begin d) (is_return d) (by.Thread x (threads.Return handled count)) past refl)
 direct_more def d e past is legal k due = quiet _ _ _ _ refl (more (is_ask d) (is_begin d) (is_return d) e past refl)
 
 -- a device with a thread
@@ -268,17 +269,18 @@ thread_more def d (by.Thread x (threads.Return handled count)) past kind is thre
     by_kind kinds.Stuck is t = cc
 
     by_same : (b : Bool) → same_dev d x ≡ b
-        → asks_served d (by.Thread x (threads.Return handled count)) + unserved (is_ask d) (is_thread_begin d) (is_thread_return d) (by.Thread x (threads.Return handled count) ∷ past)
+        → asks_served d (by.Thread x (threads.Return handled count)) + unserved (is_ask d) (is_thread_begin d)
+        (is_thread_return d) (by.Thread x (threads.Return handled count) ∷ past)
         ≡ unserved (is_ask d) (is_thread_begin d) (is_thread_return d) past + one_if (is_ask d (by.Thread x (threads.Return handled count)))
     by_same true same =
-        let t = return_tells def d (by.Thread x (threads.Return _ count)) past due same in
+        let t = return_tells def d (by.Thread x (threads.Return handled count)) past due same in
         let run = still_standing (is_thread_begin d) (is_thread_return d) (is_done d) past t.0 t.1 in
-        let gone = served (is_ask d) (is_thread_begin d) (is_thread_return d) (apart_thread d) (by.Thread x (threads.Return _ count)) past same run in
+        let gone = served (is_ask d) (is_thread_begin d) (is_thread_return d) (apart_thread d) (by.Thread x (threads.Return handled count)) past same run in
         let counts : count ≡ asks_of_thread def d past = (thread_return_due _ def x count past due).served_is
         ∙ ap (λ (y : DevNo). asks_of_thread def y past) (sym (dev_from_same d x same)) in
         serving _ _ _ _ (of_this (same_dev d x) count same ∙ counts ∙ by_kind kind is thread) gone
     by_same false other = quiet _ _ _ _ (not_of (same_dev d x) count other)
-        (more (is_ask d) (is_thread_begin d) (is_thread_return d) (by.Thread x (threads.Return _ count)) past other)
+        (more (is_ask d) (is_thread_begin d) (is_thread_return d) (by.Thread x (threads.Return handled count)) past other)
 thread_more def d e past kind is thread legal due = quiet _ _ _ _ refl (more (is_ask d) (is_thread_begin d) (is_thread_return d) e past refl)
 
 stuck_more : (def : LineDef) (d : DevNo) (e : Entry) (past : List Entry) → kind_of def d ≡ kinds.Stuck
@@ -289,7 +291,7 @@ stuck_more def d (by.Cpu c (cpus.Return answer x count)) past is legal due =
     (more (is_ask d) (λ e. false) (λ e. false) (by.Cpu c (cpus.Return answer x count)) past refl)
 stuck_more def d (by.Thread x (threads.Return handled count)) past is legal due =
     quiet _ _ _ _ (none_of (same_dev d x) count (λ same. no_thread_return _ def d x count past legal due same
-    (ap has_thread is))) (more (is_ask d) (λ e. false) (λ e. false) (by.Thread x (threads.Return _ count)) past refl)
+    (ap has_thread is))) (more (is_ask d) (λ e. false) (λ e. false) (by.Thread x (threads.Return handled count)) past refl)
 stuck_more def d e past is legal due = quiet _ _ _ _ refl (more (is_ask d) (λ e. false) (λ e. false) e past refl)
 
 served_more : (def : LineDef) (d : DevNo) (e : Entry) (past : List Entry) (kind : Kind) → kind_of def d ≡ kind
@@ -338,7 +340,8 @@ handled_serves def c x answer count past due h =
     ap (λ (n : ℕ). nat_lt 0 n) all ∙ by.1
 
 serves_some : (def : LineDef) (d : DevNo) (e : Entry) (past : List Entry) → IsDue def e past → one_if (serves_of d e) ≤ asks_served d e
-serves_some def d (by.Cpu c (cpus.Return answer x count)) past due = some_if (same_dev d x) (is_handled answer) count (handled_serves def c x answer count past due)
+serves_some def d (by.Cpu c (cpus.Return answer x count)) past due
+    = some_if (same_dev d x) (is_handled answer) count (handled_serves def c x answer count past due)
 serves_some def d (by.Thread x (threads.Return handled count)) past due = some_if (same_dev d x) (nat_lt 0 count) count (λ h. h)
 serves_some def d e past due = omega arith
 

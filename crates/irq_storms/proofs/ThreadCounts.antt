@@ -68,7 +68,8 @@ finish_tells def d (by.Thread x (threads.Finish kept unmask)) past due h =
 finish_tells def d e past due h = cc
 
 done_tells : (def : LineDef) (d : DevNo) (e : Entry) (past : List Entry) → IsDue def e past → is_done d e ≡ true → is_running past d ≡ true
-done_tells def d (by.Thread x threads.Done) past due h = subst (λ (y : DevNo). is_running past y ≡ true) (sym (dev_from_same d x h)) (done_due def x past due).running
+done_tells def d (by.Thread x threads.Done) past due h
+    = subst (λ (y : DevNo). is_running past y ≡ true) (sym (dev_from_same d x h)) (done_due def x past due).running
 done_tells def d e past due h = cc
 
 -- ---- one more entry, as numbers

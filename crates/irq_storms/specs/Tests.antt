@@ -2,11 +2,14 @@
 use Rattle.std.specs.Prelude.{ℕ, ◌+◌, Bool, true, false, ◌||◌, ◌&&◌, if◌then◌else◌, nat_lt, List}
 use Rattle.std.specs.Prelude.{[], ◌∷◌}
 use Rattle.irq_base.specs.declared.numbers.DevNo.{DevNo}
+use Rattle.irq_base.specs.declared.entries.Actor.{Actor}
+use Rattle.irq_base.specs.declared.entries.Actor.TheVariants as actors
 use Rattle.irq_base.specs.declared.entries.Entry.{Entry}
 use Rattle.irq_base.specs.declared.entries.Entry.TheVariants as by
 use Rattle.irq_base.specs.declared.entries.CpuEntry.TheVariants as cpus
 use Rattle.irq_base.specs.declared.entries.ThreadEntry.TheVariants as threads
 use Rattle.irq_base.specs.declared.entries.DriverEntry.TheVariants as drivers
+use Rattle.irq_base.specs.Who.{actor_of}
 use Rattle.irq_model.specs.Kinds.{same_dev, is_handled, returns_handled, is_start}
 use Rattle.irq_model.specs.Kinds.{is_linked_request}
 
@@ -58,16 +61,12 @@ total w (x ∷ xs) = w x + total w xs
 -- ---- drivers
 
 -- some driver made the entry
+abbrev pub is_any_driver : Actor → Bool
+is_any_driver (actors.Driver driver) = true
+is_any_driver _ = false
+
 abbrev pub is_by_any_driver : Entry → Bool
-is_by_any_driver (by.Cpu cpu (cpus.Take way answer)) = false
-is_by_any_driver (by.Cpu cpu (cpus.Begin dev)) = false
-is_by_any_driver (by.Cpu cpu (cpus.Return answer dev served)) = false
-is_by_any_driver (by.Cpu cpu (cpus.End again unmask note)) = false
-is_by_any_driver (by.Thread dev threads.Begin) = false
-is_by_any_driver (by.Thread dev (threads.Return handled served)) = false
-is_by_any_driver (by.Thread dev (threads.Finish kept unmask)) = false
-is_by_any_driver (by.Thread dev threads.Done) = false
-is_by_any_driver _ = true
+is_by_any_driver e = is_any_driver (actor_of e)
 
 -- a moment is handed in
 abbrev pub is_moment : Entry → Bool

@@ -40,6 +40,7 @@ use Rattle.irq_steps.proofs.DepthSteps.{raised, lowered, raised_more}
 use Rattle.irq_steps.proofs.WaitSteps.{pending_by_clearing}
 use Rattle.irq_steps.proofs.Same.{driver_from_same}
 use Rattle.irq_laws.proofs.Lists.{both_ways}
+use Rattle.irq_laws.proofs.OwnLaws.{no_cpu_call, no_thread_call}
 use Rattle.irq_laws.proofs.KeptAlways.{kept}
 use Rattle.irq_laws.proofs.RunsKept.{handle_idle}
 use Rattle.irq_laws.proofs.RunLaws.{synchronised}
@@ -88,6 +89,8 @@ quiet def (by.Driver s (drivers.Request flags (links.Refused error) opened x)) p
 quiet def (by.DriverCall s (called.Unlink (unlinks.Unlinked last) x)) past due none = cc
 quiet def (by.DriverCall s (called.Unlink unlinks.NotThere x)) past due none =
     record { no_reset = refl; no_lowering = refl; no_start = refl; no_disable = refl; same_links = linked_not_there s x past }
+quiet def (by.CpuCall c call) past due none = no_cpu_call def c call past due
+quiet def (by.ThreadCall x call) past due none = no_thread_call def x call past due
 quiet def e past due none = record { no_reset = refl; no_lowering = refl; no_start = refl; no_disable = refl; same_links = refl }
 
 -- it makes the line deeper exactly if it kills it
@@ -247,7 +250,8 @@ begun : (def : LineDef) (r s : DriverNo) (past : List Entry) → lowered past �
 begun def r s past exact =
     let n = raised_more (by.DriverCall s called.Disable) past refl in
     record {
-      deeper = disable_depth (raised past) (lowered past) (raised (by.DriverCall s called.Disable ∷ past)) (lowered (by.DriverCall s called.Disable ∷ past)) exact n.0 n.1;
+      deeper = disable_depth (raised past) (lowered past) (raised (by.DriverCall s called.Disable ∷ past))
+          (lowered (by.DriverCall s called.Disable ∷ past)) exact n.0 n.1;
       links = refl;
       cleared = λ h. cc;
       waited = λ h. cc;

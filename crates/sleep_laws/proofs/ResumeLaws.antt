@@ -77,8 +77,10 @@ restored : (s : DriverNo) (answer : EnableAnswer) (past : List Entry) (d : ℕ)
     → depth (by.DriverCall s (called.Enable answer) ∷ past) ≡ d
 restored s answer past d lowering was =
     let n = raised_more (by.DriverCall s (called.Enable answer)) past refl in
-    let low : lowered (by.DriverCall s (called.Enable answer) ∷ past) ≡ lowered past + 1 = n.1 ∙ ap (λ (b : Bool). cond b (lowered past + 1) (lowered past)) lowering in
-    lower_by (raised past) (lowered past) (raised (by.DriverCall s (called.Enable answer) ∷ past)) (lowered (by.DriverCall s (called.Enable answer) ∷ past)) d n.0 low was
+    let low : lowered (by.DriverCall s (called.Enable answer) ∷ past) ≡ lowered past + 1 = n.1
+    ∙ ap (λ (b : Bool). cond b (lowered past + 1) (lowered past)) lowering in
+    lower_by (raised past) (lowered past) (raised (by.DriverCall s (called.Enable answer) ∷ past))
+    (lowered (by.DriverCall s (called.Enable answer) ∷ past)) d n.0 low was
 
 unchanged : (s : DriverNo) (answer : EnableAnswer) (past : List Entry)
     → is_lowering_opened (opened_by_enable answer) ≡ false → depth (by.DriverCall s (called.Enable answer) ∷ past) ≡ depth past

@@ -1,6 +1,6 @@
 -- Before its synced a driver has made its hard clear, in the same call.
 use Rattle.std.proofs.Common.{◌≡◌, ℕ, ◌+◌, ◌<◌, ◌==◌, ◌⊎◌, inl, inr, Bool, true, false, cond, Option, Some, None, List}
-use Rattle.std.proofs.Common.{[], ◌∷◌, length, refl, sym, ap, ◌∙◌, subst, arith}
+use Rattle.std.proofs.Common.{[], ◌∷◌, length, refl, sym, ap, ◌∙◌, subst, arith, option_map}
 use Rattle.std.proofs.lemmas.Bool.{ltb-true, eqb-false, or_left, or_right}
 use Rattle.std.specs.List.{list_any}
 use Rattle.irq_base.specs.declared.numbers.DriverNo.{DriverNo}
@@ -9,7 +9,7 @@ use Rattle.irq_base.specs.declared.calls.Call.TheVariants as calls
 use Rattle.irq_base.specs.declared.lines.LineDef.{LineDef}
 use Rattle.irq_base.specs.declared.entries.Entry.{Entry}
 use Rattle.irq_base.specs.declared.entries.Entry.TheVariants as by
-use Rattle.irq_base.specs.declared.entries.DriverEntry.TheVariants as drivers
+use Rattle.irq_base.specs.declared.entries.CallEntry.{CallEntry}
 use Rattle.irq_base.specs.declared.entries.CallEntry.TheVariants as called
 use Rattle.irq_model.specs.Places.{since}
 use Rattle.irq_model.specs.Kinds.{same_driver, is_by_driver}
@@ -18,7 +18,7 @@ use Rattle.irq_model.specs.Due.{calls_by, entries_by, due_call}
 use Rattle.irq_model.specs.Next.{hard_clear_of, next_of_call}
 use Rattle.irq_model.specs.Legal.{IsDue, IsLegalPast}
 use Rattle.irq_steps.proofs.Same.{same_self_driver, driver_from_same}
-use Rattle.irq_laws.proofs.Chosen.{from_else}
+use Rattle.irq_laws.proofs.Chosen.{the_same}
 use Rattle.irq_laws.proofs.Progress.{standing, fresh, OneMore, one_more, no_more}
 use Rattle.irq_laws.proofs.ImpliesDriver.{IsSyncedDue, synced_due}
 use Rattle.sleep_laws.specs.Sleeping.{is_disable_by, since_disable}
@@ -36,16 +36,8 @@ of_same def r s e past due same = subst (λ (t : DriverNo). next_of_call def t p
 
 pub own_due : (def : LineDef) (r : DriverNo) (e : Entry) (past : List Entry) → IsDue def e past
     → is_by_driver r e ≡ true → next_of_call def r past (due_call def r past) ≡ Some e
-own_due def r (by.Driver s (drivers.Ask makes x)) past due mine = of_same def r s (by.Driver s (drivers.Ask _ x)) past due mine
-own_due def r (by.DriverCall s called.Disable) past due mine = of_same def r s (by.DriverCall s called.Disable) past due mine
-own_due def r (by.DriverCall s called.HardClear) past due mine = of_same def r s (by.DriverCall s called.HardClear) past due mine
-own_due def r (by.DriverCall s called.Synced) past due mine = of_same def r s (by.DriverCall s called.Synced) past due mine
-own_due def r (by.DriverCall s (called.Enable answer)) past due mine = of_same def r s (by.DriverCall s (called.Enable answer)) past due mine
-own_due def r (by.Driver s (drivers.Request flags answer opened x)) past due mine = of_same def r s (by.Driver s (drivers.Request flags answer opened x)) past due mine
-own_due def r (by.DriverCall s (called.Unlink answer x)) past due mine = of_same def r s (by.DriverCall s (called.Unlink answer x)) past due mine
-own_due def r (by.DriverCall s (called.Freed x)) past due mine = of_same def r s (by.DriverCall s (called.Freed x)) past due mine
-own_due def r (by.Driver s (drivers.Affinity answer mask)) past due mine = of_same def r s (by.Driver s (drivers.Affinity answer mask)) past due mine
-own_due def r (by.Driver s (drivers.Moment at)) past due mine = of_same def r s (by.Driver s (drivers.Moment at)) past due mine
+own_due def r (by.Driver s x) past due mine = of_same def r s (by.Driver s x) past due mine
+own_due def r (by.DriverCall s call) past due mine = of_same def r s (by.DriverCall s call) past due mine
 own_due def r e past due mine = cc
 
 -- another's entry is no disable of r
@@ -58,9 +50,21 @@ not_own r e other = refl
 abbrev Waits : LineDef → DriverNo → List Entry → Type 0
 Waits def r past = (due_call def r past ≡ Some (calls.Disable, 2)) ⊎ (due_call def r past ≡ Some (calls.Sync, 1))
 
+-- the step of a call, in whichever branch it is made
+pub made_unless : (r : DriverNo) (b : Bool) (call : CallEntry) (e : Entry) → option_map (by.DriverCall r) (cond b None (Some call)) ≡ Some e
+    → by.DriverCall r call ≡ e
+made_unless r true call e h = cc
+made_unless r false call e h = the_same _ _ h
+
+pub made_when : (r : DriverNo) (b : Bool) (call : CallEntry) (e : Entry) → option_map (by.DriverCall r) (cond b (Some call) None) ≡ Some e
+    → by.DriverCall r call ≡ e
+made_when r true call e h = the_same _ _ h
+made_when r false call e h = cc
+
 -- the entry before was the hard clear
-clears : (def : LineDef) (r : DriverNo) (past : List Entry) (e : Entry) → hard_clear_of def r past ≡ Some e → e ≡ by.DriverCall r called.HardClear
-clears def r past e h = sym (from_else (has_flow def past) (by.DriverCall r called.HardClear) e h).1
+clears : (def : LineDef) (r : DriverNo) (past : List Entry) (e : Entry) → option_map (by.DriverCall r) (hard_clear_of def past) ≡ Some e
+    → e ≡ by.DriverCall r called.HardClear
+clears def r past e h = sym (made_unless r (has_flow def past) called.HardClear e h)
 
 one_before : (n : ℕ) → 2 ≡ n + 1 → n ≡ 1
 one_before n h = omega (arith, h)

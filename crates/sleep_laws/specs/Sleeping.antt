@@ -9,10 +9,11 @@ use Rattle.irq_base.specs.declared.entries.Actor.{Actor}
 use Rattle.irq_base.specs.declared.entries.Actor.TheVariants as actors
 use Rattle.irq_base.specs.declared.entries.Entry.{Entry}
 use Rattle.irq_base.specs.declared.entries.Entry.TheVariants as by
+use Rattle.irq_base.specs.declared.entries.CallEntry.{CallEntry}
 use Rattle.irq_base.specs.declared.entries.CallEntry.TheVariants as called
 use Rattle.irq_model.specs.Places.{stands, since, before}
-use Rattle.irq_model.specs.Kinds.{same_driver, is_device_edge, is_disable, is_linked_request}
-use Rattle.irq_model.specs.Kinds.{is_unlinked_answer}
+use Rattle.irq_model.specs.Kinds.{same_driver, is_call, is_any_ask, is_disable, is_linked_request}
+use Rattle.irq_model.specs.Kinds.{is_unlink}
 
 -- ---- the sleeper's entries
 
@@ -50,18 +51,17 @@ is_asleep r past = is_suspended r past && list_any (is_synced_by r) (since_disab
 
 -- ---- what others do meanwhile
 
+abbrev pub enables : CallEntry → Bool
+enables (called.Enable answer) = true
+enables _ = false
+
 abbrev pub is_any_enable : Entry → Bool
-is_any_enable (by.DriverCall driver (called.Enable answer)) = true
-is_any_enable _ = false
+is_any_enable e = is_call enables e
 
-abbrev pub is_any_unlink : Entry → Bool
-is_any_unlink (by.DriverCall driver (called.Unlink answer dev)) = is_unlinked_answer answer
-is_any_unlink _ = false
-
--- a driver disables or enables the line, or links or unlinks a device (`disable_irq`, `enable_irq`,
+-- somebody disables or enables the line, or links or unlinks a device (`disable_irq`, `enable_irq`,
 -- `request_threaded_irq`, `free_irq`)
 abbrev pub disturbs : Entry → Bool
-disturbs e = is_disable e || (is_any_enable e || (is_linked_request e || is_any_unlink e))
+disturbs e = is_disable e || (is_any_enable e || (is_linked_request e || is_unlink e))
 
 -- since r's disable nobody disturbed the line
 abbrev pub is_left_alone : DriverNo → List Entry → Bool
@@ -73,7 +73,7 @@ is_other_driver r _ = false
 
 -- another driver made the entry, and it is no ask
 abbrev pub is_other_call : DriverNo → Entry → Bool
-is_other_call r e = is_other_driver r (actor_of e) && not (is_device_edge e)
+is_other_call r e = is_other_driver r (actor_of e) && not (is_any_ask e)
 
 -- Since r's disable the other drivers have only asked. In 6.1 tasks are frozen before lines are
 -- suspended (`kernel/power/process.c`); devices go on.
