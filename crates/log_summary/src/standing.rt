@@ -6,8 +6,9 @@ ghost use Rattle.log_summary.specs.Standings.{StandsAfter, called_standing};
 ghost use Rattle.log_summary.specs.Standings.{requested_standing, standing_with};
 ghost use Rattle.log_summary.specs.Texts.{state_word};
 
-use irq_base::{CallEntry, CpuEntry, DriverEntry, EnableAnswer, Entry};
-use irq_base::{LinkAnswer, Note, Opened, UnlinkAnswer};
+use irq_base::{
+    CallEntry, CpuEntry, DriverEntry, EnableAnswer, Entry, LinkAnswer, Note, Opened, UnlinkAnswer,
+};
 
 /// How a line stands. The depth (`desc->depth`) is kept as two sums: the line is disabled if the
 /// depth was raised further than it was lowered.
