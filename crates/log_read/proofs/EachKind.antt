@@ -311,7 +311,12 @@ module _ (old mid new : Words) where
       let v = took.complete (acts.Own driver_verbs.Ask) (decimal dev.0 ∷ rest) tt h in
       let u = subst (λ a. TakesAct driver a mid new e) v.0 t in
       let s = u.1.complete dev.0 rest fits.0.small.1 v.1 in
-      (u.2 ∙ (ap (λ f. by.Driver driver f) s.0 ∙ (ap (λ x. by.Driver driver (drivers.Ask x dev)) (sym fits.0.printable) ∙ ap (λ z. by.Driver z (drivers.Ask edge dev)) (same_driver fits.1))), s.1)
+      (
+        u.2
+        ∙ (ap (λ f. by.Driver driver f) s.0
+        ∙ (ap (λ x. by.Driver driver (drivers.Ask x dev)) (sym fits.0.printable) ∙ ap (λ z. by.Driver z (drivers.Ask edge dev)) (same_driver fits.1))),
+        s.1,
+      )
   driver_complete driver act e took t (by.Driver c (drivers.Request flags answer opened dev)) rest fits h =
       let v = took.complete (acts.Own driver_verbs.Request) (decimal dev.0 ∷ flags_word flags ∷ (link_words answer opened ++ rest)) tt h in
       let u = subst (λ a. TakesAct driver a mid new e) v.0 t in
