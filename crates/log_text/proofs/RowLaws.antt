@@ -57,7 +57,8 @@ driver_entry driver verb args =
     (cond (is verb (codes "hardclear")) (by.DriverCall driver called.HardClear)
     (cond (is verb (codes "synced")) (by.DriverCall driver called.Synced)
     (cond (is verb (codes "enable")) (by.DriverCall driver (called.Enable (enable_at args)))
-    (cond (is verb (codes "request")) (by.Driver driver (drivers.Request (flags_at (at args 1)) (link_at (drop 2 args)) (linked_at (drop 2 args)) (dev_at args 0)))
+    (cond (is verb (codes "request"))
+    (by.Driver driver (drivers.Request (flags_at (at args 1)) (link_at (drop 2 args)) (linked_at (drop 2 args)) (dev_at args 0)))
     (cond (is verb (codes "unlink")) (by.DriverCall driver (called.Unlink (unlink_at (at args 1)) (dev_at args 0)))
     (cond (is verb (codes "freed")) (by.DriverCall driver (called.Freed (dev_at args 0)))
     (cond (is verb (codes "affinity")) (by.Driver driver (drivers.Affinity (affinity_at (drop 1 args)) (number_at args 0)))
@@ -94,9 +95,11 @@ abbrev line_no : ℕ → LineNo
 line_no n = record { 0 = n }
 
 entry_back : (e : Entry) → IsWritable e → entry_at (entry_words e) ≡ e
-entry_back (by.Driver driver (drivers.Ask edge dev)) w = ap2 (λ a b. by.Driver (driver_no a) (drivers.Ask true (dev_no b))) (number_back driver.0 w.small.0) (number_back dev.0 w.small.1)
+entry_back (by.Driver driver (drivers.Ask edge dev)) w =
+    ap2 (λ a b. by.Driver (driver_no a) (drivers.Ask true (dev_no b))) (number_back driver.0 w.small.0) (number_back dev.0 w.small.1)
     ∙ ap (λ x. by.Driver driver (drivers.Ask x dev)) (sym w.printable)
-entry_back (by.Cpu cpu (cpus.Take way answer)) w = ap3 (λ a b c. by.Cpu (cpu_no a) (cpus.Take b c)) (number_back cpu.0 w.small.0) (way_back way) (take_back answer)
+entry_back (by.Cpu cpu (cpus.Take way answer)) w =
+    ap3 (λ a b c. by.Cpu (cpu_no a) (cpus.Take b c)) (number_back cpu.0 w.small.0) (way_back way) (take_back answer)
 entry_back (by.Cpu cpu (cpus.Begin dev)) w = ap2 (λ a b. by.Cpu (cpu_no a) (cpus.Begin (dev_no b))) (number_back cpu.0 w.small.0) (number_back dev.0 w.small.1)
 entry_back (by.Cpu cpu (cpus.Return answer dev served)) w =
     ap4 (λ a b c d. by.Cpu (cpu_no a) (cpus.Return c (dev_no b) d)) (number_back cpu.0 w.small.0)
@@ -104,14 +107,17 @@ entry_back (by.Cpu cpu (cpus.Return answer dev served)) w =
 entry_back (by.Cpu cpu (cpus.End again unmask note)) w =
     ap4 (λ a b c d. by.Cpu (cpu_no a) (cpus.End b c d)) (number_back cpu.0 w.small.0) (loop_back again) (mask_back unmask) (note_back note)
 entry_back (by.Thread dev threads.Begin) w = ap (λ a. by.Thread (dev_no a) threads.Begin) (number_back dev.0 w.small.0)
-entry_back (by.Thread dev (threads.Return handled served)) w = ap2 (λ a b. by.Thread (dev_no a) (threads.Return (nat_lt 0 b) b)) (number_back dev.0 w.small.0) (number_back served w.small.1)
+entry_back (by.Thread dev (threads.Return handled served)) w =
+    ap2 (λ a b. by.Thread (dev_no a) (threads.Return (nat_lt 0 b) b)) (number_back dev.0 w.small.0) (number_back served w.small.1)
     ∙ ap (λ x. by.Thread dev (threads.Return x served)) (sym w.printable)
-entry_back (by.Thread dev (threads.Finish kept unmask)) w = ap3 (λ a b c. by.Thread (dev_no a) (threads.Finish b c)) (number_back dev.0 w.small.0) (bit_back kept) (mask_back unmask)
+entry_back (by.Thread dev (threads.Finish kept unmask)) w =
+    ap3 (λ a b c. by.Thread (dev_no a) (threads.Finish b c)) (number_back dev.0 w.small.0) (bit_back kept) (mask_back unmask)
 entry_back (by.Thread dev threads.Done) w = ap (λ a. by.Thread (dev_no a) threads.Done) (number_back dev.0 w.small.0)
 entry_back (by.DriverCall driver called.Disable) w = ap (λ a. by.DriverCall (driver_no a) called.Disable) (number_back driver.0 w.small.0)
 entry_back (by.DriverCall driver called.HardClear) w = ap (λ a. by.DriverCall (driver_no a) called.HardClear) (number_back driver.0 w.small.0)
 entry_back (by.DriverCall driver called.Synced) w = ap (λ a. by.DriverCall (driver_no a) called.Synced) (number_back driver.0 w.small.0)
-entry_back (by.DriverCall driver (called.Enable answer)) w = ap2 (λ a b. by.DriverCall (driver_no a) (called.Enable b)) (number_back driver.0 w.small.0) (enable_back answer)
+entry_back (by.DriverCall driver (called.Enable answer)) w =
+    ap2 (λ a b. by.DriverCall (driver_no a) (called.Enable b)) (number_back driver.0 w.small.0) (enable_back answer)
 entry_back (by.Driver driver (drivers.Request flags links.Linked opened dev)) w =
     ap4 (λ a b c d. by.Driver (driver_no a) (drivers.Request c links.Linked d (dev_no b))) (number_back driver.0 w.small.0)
     (number_back dev.0 w.small.1) (flags_back flags) (opened_back opened)
@@ -121,10 +127,12 @@ entry_back (by.Driver driver (drivers.Request flags (links.Refused errno) opened
     ∙ ap (λ o. by.Driver driver (drivers.Request flags (links.Refused errno) o dev)) (sym w.printable)
 entry_back (by.DriverCall driver (called.Unlink answer dev)) w =
     ap3 (λ a b c. by.DriverCall (driver_no a) (called.Unlink c (dev_no b))) (number_back driver.0 w.small.0) (number_back dev.0 w.small.1) (unlink_back answer)
-entry_back (by.DriverCall driver (called.Freed dev)) w = ap2 (λ a b. by.DriverCall (driver_no a) (called.Freed (dev_no b))) (number_back driver.0 w.small.0) (number_back dev.0 w.small.1)
+entry_back (by.DriverCall driver (called.Freed dev)) w =
+    ap2 (λ a b. by.DriverCall (driver_no a) (called.Freed (dev_no b))) (number_back driver.0 w.small.0) (number_back dev.0 w.small.1)
 entry_back (by.Driver driver (drivers.Affinity answer mask)) w =
     ap3 (λ a b c. by.Driver (driver_no a) (drivers.Affinity c b)) (number_back driver.0 w.small.0) (number_back mask w.small.1) (affinity_back answer)
-entry_back (by.Driver driver (drivers.Moment moment)) w = ap2 (λ a b. by.Driver (driver_no a) (drivers.Moment b)) (number_back driver.0 w.small.0) (number_back moment w.small.1)
+entry_back (by.Driver driver (drivers.Moment moment)) w =
+    ap2 (λ a b. by.Driver (driver_no a) (drivers.Moment b)) (number_back driver.0 w.small.0) (number_back moment w.small.1)
 entry_back (by.CpuCall cpu call) w = absurd w.printable
 entry_back (by.ThreadCall dev call) w = absurd w.printable
 entry_back (by.DriverCall driver (called.Wake woken dev)) w = absurd w.printable
