@@ -13,7 +13,8 @@ ghost use Rattle.line_state.specs.Entries.{taken_over};
 
 use crate::state::LineState;
 use irq_base::{
-    Chip, DevNo, DriverNo, EnableAnswer, Entry, Flags, LineDef, LinkAnswer, Opened, Trigger,
+    Chip, DevNo, DriverEntry, DriverNo, EnableAnswer, Entry, Flags, LineDef, LinkAnswer, Opened,
+    Trigger,
 };
 
 impl<C: Chip> LineState<C> {
@@ -42,13 +43,15 @@ impl<C: Chip> LineState<C> {
         } else {
             Opened::No
         };
-        Entry::Request {
+        Entry::Driver(
             driver,
-            dev,
-            flags,
-            answer,
-            opened,
-        }
+            DriverEntry::Request {
+                flags,
+                answer,
+                opened,
+                dev,
+            },
+        )
     }
 
     /// The action is linked, or refused.
