@@ -143,7 +143,8 @@ module _ (f : Bool) (r : RoundSeen) (c : CountsSeen) where
   served_same true le = ap with_counts (thread_same c.counts le)
   served_same false le = as_before
 
-  pub linked_tally : (d : DriverNo) (dev : DevNo) (flags : Flags) (answer : LinkAnswer) (opened : _) → SameTally (by.Driver d (drivers.Request flags answer opened dev))
+  pub linked_tally : (d : DriverNo) (dev : DevNo) (flags : Flags) (answer : LinkAnswer) (opened : _)
+      → SameTally (by.Driver d (drivers.Request flags answer opened dev))
   linked_tally d dev flags links.Linked opened = ap with_counts (ap (λ (x : Counts). record x { irq_count = 0; irqs_unhandled = 0 }) (again_same c.counts))
   linked_tally d dev flags (links.Refused error) opened = as_before
 

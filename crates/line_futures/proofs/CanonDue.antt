@@ -59,7 +59,8 @@ module _ (def : LineDef) (s : StateSeen) where
   by_stage d r stages.Idle is found = refl
   by_stage d r stages.Begun is found =
       let works : is_thread_working s.threads d ≡ true = ap (row_passes may_return false) found ∙ ap is_begun is in
-      ap (λ n. Some (by.Thread d (threads.Return (ltb 0 n) n))) (thread_met (serves_at s) (is_working s.round.working) (is_thread_working s.threads) d s.asks works)
+      ap (λ n. Some (by.Thread d (threads.Return (ltb 0 n) n)))
+      (thread_met (serves_at s) (is_working s.round.working) (is_thread_working s.threads) d s.asks works)
   by_stage d r stages.Returned is found = refl
   by_stage d r stages.Finished is found = refl
 
@@ -139,7 +140,8 @@ module _ (def : LineDef) (s : StateSeen) where
       (unlink_same d s.list.actions)
   driver_same r (Some (calls.Disable, n)) = refl
   driver_same r (Some (calls.DisableNosync, n)) = refl
-  driver_same r (Some (calls.Enable, n)) = ap (λ b. Some (by.DriverCall r (called.Enable (enable_by (not b) def.trigger s.desc s.cell)))) (none_same s.list.actions)
+  driver_same r (Some (calls.Enable, n)) = ap (λ b. Some
+      (by.DriverCall r (called.Enable (enable_by (not b) def.trigger s.desc s.cell)))) (none_same s.list.actions)
   driver_same r (Some (calls.Sync, n)) = refl
   driver_same r (Some (calls.Affinity mask, n)) = refl
   driver_same r (Some (calls.Moment at, n)) = refl

@@ -199,9 +199,15 @@ module _ (def : LineDef) (s : StateSeen) where
   list_same (by.Driver driver (drivers.Request flags answer opened dev)) made
       = linked def (new_flow (by.Driver driver (drivers.Request flags answer opened dev))) (in_flow s) s.list answer dev flags
       (stays (by.Driver driver (drivers.Request flags answer opened dev)) refl)
-  list_same (by.CpuCall cpu (called.Unlink (unlinks.Unlinked last) dev)) made = unlinked dev (new_flow (by.CpuCall cpu (called.Unlink (unlinks.Unlinked last) dev))) (stays (by.CpuCall cpu (called.Unlink (unlinks.Unlinked last) dev)) refl)
-  list_same (by.ThreadCall own (called.Unlink (unlinks.Unlinked last) dev)) made = unlinked dev (new_flow (by.ThreadCall own (called.Unlink (unlinks.Unlinked last) dev))) (stays (by.ThreadCall own (called.Unlink (unlinks.Unlinked last) dev)) refl)
-  list_same (by.DriverCall driver (called.Unlink (unlinks.Unlinked last) dev)) made = unlinked dev (new_flow (by.DriverCall driver (called.Unlink (unlinks.Unlinked last) dev))) (stays (by.DriverCall driver (called.Unlink (unlinks.Unlinked last) dev)) refl)
+  list_same (by.CpuCall cpu (called.Unlink (unlinks.Unlinked last) dev)) made
+      = unlinked dev (new_flow (by.CpuCall cpu (called.Unlink (unlinks.Unlinked last) dev)))
+      (stays (by.CpuCall cpu (called.Unlink (unlinks.Unlinked last) dev)) refl)
+  list_same (by.ThreadCall own (called.Unlink (unlinks.Unlinked last) dev)) made
+      = unlinked dev (new_flow (by.ThreadCall own (called.Unlink (unlinks.Unlinked last) dev)))
+      (stays (by.ThreadCall own (called.Unlink (unlinks.Unlinked last) dev)) refl)
+  list_same (by.DriverCall driver (called.Unlink (unlinks.Unlinked last) dev)) made
+      = unlinked dev (new_flow (by.DriverCall driver (called.Unlink (unlinks.Unlinked last) dev)))
+      (stays (by.DriverCall driver (called.Unlink (unlinks.Unlinked last) dev)) refl)
   list_same (by.Cpu cpu (cpus.Begin dev)) made = in_flow_begins def (new_flow (by.Cpu cpu (cpus.Begin dev))) (in_flow s) s.list dev made
   list_same e made = by_round def (new_flow e) (in_flow s) s.list (begins_round def e) (stays e)
 

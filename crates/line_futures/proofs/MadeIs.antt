@@ -112,7 +112,8 @@ module _ (def : LineDef) (past : List Entry) (valid : IsValid def) (legal : IsLe
   made (by.Cpu c (cpus.Begin d)) due = has_a_flow c (flow def past) (begin_due def c d past due).of_flow
   made (by.Cpu c (cpus.Return answer d served)) due = (return_due def c d answer served past due).is_at_work
   made (by.Cpu c (cpus.End again unmask note)) due = has_a_flow c (flow def past) (end_due def c again unmask note past due).of_flow
-  made (by.Thread d (threads.Return handled n)) due = by_row (state_of def past) d handled n (at (state_of def past).threads d) (sym (thread_is def past d valid legal) ∙ due)
+  made (by.Thread d (threads.Return handled n)) due = by_row (state_of def past) d handled n
+      (at (state_of def past).threads d) (sym (thread_is def past d valid legal) ∙ due)
   made _ due = tt
 
   pub may_follow : (e : Entry) → IsDue def e past → MayFollow e (state_of def past)

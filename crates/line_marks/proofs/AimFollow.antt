@@ -59,7 +59,8 @@ aim_more def (by.Driver r (drivers.Affinity moves.Later m)) past =
     same_aim (aim_of def (by.Driver r (drivers.Affinity moves.Later m) ∷ past))
     (aim_after (by.Driver r (drivers.Affinity moves.Later m)) (aim_of def past)) refl refl
     (no_take def.mask (by.Driver r (drivers.Affinity moves.Later m)) past refl) refl
-aim_more def (by.Driver r (drivers.Affinity (moves.Refused error) m)) past = still def (by.Driver r (drivers.Affinity (moves.Refused error) m)) past refl refl refl
+aim_more def (by.Driver r (drivers.Affinity (moves.Refused error) m)) past
+    = still def (by.Driver r (drivers.Affinity (moves.Refused error) m)) past refl refl refl
 aim_more def (by.Cpu c (cpus.Take way answer)) past =
     same_aim (aim_of def (by.Cpu c (cpus.Take way answer) ∷ past)) (aim_after (by.Cpu c (cpus.Take way answer)) (aim_of def past))
     refl refl (taken def.mask (λ a. by.Cpu c (cpus.Take way answer) ∷ a) past (λ a. refl)) refl

@@ -214,12 +214,16 @@ asks_more def (by.Thread x (threads.Return handled n)) past valid = own def (by.
     (λ d other. (refl, refl, refl, refl, other)) valid
     ∙ ap (λ (k : Kind). change (served (is_threaded k)) (asks_of def past) x) (sym (kind_is def x))
 asks_more def (by.Cpu c (cpus.Take way answer)) past valid = quiet def (by.Cpu c (cpus.Take way answer)) past (none (by.Cpu c (cpus.Take way answer)) refl)
-asks_more def (by.Cpu c (cpus.End again unmask note)) past valid = quiet def (by.Cpu c (cpus.End again unmask note)) past (none (by.Cpu c (cpus.End again unmask note)) refl)
-asks_more def (by.Thread x (threads.Finish kept unmask)) past valid = quiet def (by.Thread x (threads.Finish kept unmask)) past (none (by.Thread x (threads.Finish kept unmask)) refl)
+asks_more def (by.Cpu c (cpus.End again unmask note)) past valid
+    = quiet def (by.Cpu c (cpus.End again unmask note)) past (none (by.Cpu c (cpus.End again unmask note)) refl)
+asks_more def (by.Thread x (threads.Finish kept unmask)) past valid
+    = quiet def (by.Thread x (threads.Finish kept unmask)) past (none (by.Thread x (threads.Finish kept unmask)) refl)
 asks_more def (by.Thread x threads.Done) past valid = quiet def (by.Thread x threads.Done) past (none (by.Thread x threads.Done) refl)
 asks_more def (by.Driver r (drivers.Request flags answer opened x)) past valid
     = quiet def (by.Driver r (drivers.Request flags answer opened x)) past (none (by.Driver r (drivers.Request flags answer opened x)) refl)
-asks_more def (by.Driver r (drivers.Affinity answer mask)) past valid = quiet def (by.Driver r (drivers.Affinity answer mask)) past (none (by.Driver r (drivers.Affinity answer mask)) refl)
+asks_more def (by.Driver r (drivers.Affinity answer mask)) past valid
+    = quiet def (by.Driver r (drivers.Affinity answer mask)) past
+    (none (by.Driver r (drivers.Affinity answer mask)) refl)
 asks_more def (by.Driver r (drivers.Moment at)) past valid = quiet def (by.Driver r (drivers.Moment at)) past (none (by.Driver r (drivers.Moment at)) refl)
 asks_more def (by.CpuCall c call) past valid = quiet def (by.CpuCall c call) past (none (by.CpuCall c call) refl)
 asks_more def (by.ThreadCall x call) past valid = quiet def (by.ThreadCall x call) past (none (by.ThreadCall x call) refl)

@@ -188,7 +188,8 @@ handled_few def (by.Thread d (threads.Return handled served) ∷ past) = by_test
         (by.Thread d (threads.Return handled served) ∷ past)
     by_test true h = omega (arith, h)
     by_test false h = omega (arith, h)
-handled_few def (by.Driver r (drivers.Request flags links.Linked opened d) ∷ past) = later _ (by.Driver r (drivers.Request flags links.Linked opened d)) past (handled_few def past)
+handled_few def (by.Driver r (drivers.Request flags links.Linked opened d) ∷ past)
+    = later _ (by.Driver r (drivers.Request flags links.Linked opened d)) past (handled_few def past)
 handled_few def (by.Driver r (drivers.Request flags (links.Refused error) opened d) ∷ past)
     = later _ (by.Driver r (drivers.Request flags (links.Refused error) opened d)) past (handled_few def past)
 handled_few def (by.Cpu c (cpus.End again unmask note) ∷ past) =

@@ -148,7 +148,8 @@ module _ (def : LineDef) (c : CpuNo) (past : List Entry) where
         let k = kept def past valid legal in
         let on = called_there def past k d (k.runs.working d is).0 in
         let row : at (state_of def past).asks d ≡ Some (ask_row def past d) = at_device (ask_row def past) def.devices d (there_named def past k d on) in
-        ap (λ (x : Kind). by.Cpu c (cpus.Return (answer_of x parts.Primary (ask_row def past d).met_by_handler) d (served_by_handler x (ask_row def past d).met_by_handler))) (sym (kind_is def d))
+        ap (λ (x : Kind). by.Cpu c (cpus.Return (answer_of x parts.Primary (ask_row def past d).met_by_handler) d
+        (served_by_handler x (ask_row def past d).met_by_handler))) (sym (kind_is def d))
         ∙ ap (λ (o : Option AskRow). return_by (state_of def past) c d (met_by o)) (sym row)
     in_flow_is None is =
         ap (begin_or_end def c past) (left_known def past valid legal) ∙ walk_is (left_in (table_by (has_begun def past) def.devices) (actions_of past))

@@ -67,7 +67,8 @@ held_now true s = refl
 held_now false s = refl
 
 -- a wake of x, seen at d
-wakes_held : (def : LineDef) (c : CpuNo) (x : DevNo) (n : ℕ) (past : List Entry) → IsWokenHeld past → IsWokenHeld (by.Cpu c (cpus.Return answers.Wake x n) ∷ past)
+wakes_held : (def : LineDef) (c : CpuNo) (x : DevNo) (n : ℕ) (past : List Entry) → IsWokenHeld past
+    → IsWokenHeld (by.Cpu c (cpus.Return answers.Wake x n) ∷ past)
 wakes_held def c x n past h d = by_test (same_dev d x) refl
   where
     by_test : (b : Bool) → same_dev d x ≡ b → is_woken (by.Cpu c (cpus.Return answers.Wake x n) ∷ past) d ≡ true

@@ -131,7 +131,8 @@ no_last def (by.Driver r (drivers.Request flags links.Linked opened x) ∷ past)
     by_test false rest = rest refl
 no_last def (by.Driver r (drivers.Request flags (links.Refused error) opened x) ∷ past) legal some
     = no_last def past legal.1 (sym (ap is_empty (linked_refused r x flags error opened past)) ∙ some)
-no_last def (by.DriverCall r (called.Unlink (unlinks.Unlinked last) x) ∷ past) legal some = by_test last refl (is_none_linked past) refl (no_last def past legal.1)
+no_last def (by.DriverCall r (called.Unlink (unlinks.Unlinked last) x) ∷ past) legal some
+    = by_test last refl (is_none_linked past) refl (no_last def past legal.1)
   where
     left : is_empty (others x (linked past)) ≡ false
     left = sym (ap is_empty (linked_unlink r x last past)) ∙ some
@@ -144,7 +145,8 @@ no_last def (by.DriverCall r (called.Unlink (unlinks.Unlinked last) x) ∷ past)
         let w = last_when (is_linked past x) last (is_only x (linked past)) (unlink_due def r x (unlinks.Unlinked last) past legal.0).answer_is in
         both_ways (is_empty (others x (linked past))) (only_leaves x (linked past) (sym w.0 ∙ is)) left
     by_test false is false was rest = rest was
-no_last def (by.DriverCall r (called.Unlink unlinks.NotThere x) ∷ past) legal some = no_last def past legal.1 (sym (ap is_empty (linked_not_there r x past)) ∙ some)
+no_last def (by.DriverCall r (called.Unlink unlinks.NotThere x) ∷ past) legal some
+    = no_last def past legal.1 (sym (ap is_empty (linked_not_there r x past)) ∙ some)
 no_last def (by.CpuCall c call ∷ past) legal some = no_cpu_call def c call past legal.0
 no_last def (by.ThreadCall x call ∷ past) legal some = no_thread_call def x call past legal.0
 no_last def (e ∷ past) legal some = no_last def past legal.1 some

@@ -65,7 +65,8 @@ list_by_call _ l = l
 -- a linked request adds its action, an unlink takes an action out, a begin marks its device, and a
 -- new round clears all marks
 abbrev pub list_after : LineDef → Entry → ListSeen → ListSeen
-list_after def (by.Driver driver (drivers.Request flags answer opened dev)) l = after_link answer dev flags l
+list_after def (by.Driver driver (drivers.Request flags answer opened dev)) l
+    = after_link answer dev flags l
 list_after def (by.CpuCall cpu call) l = list_by_call call l
 list_after def (by.ThreadCall dev call) l = list_by_call call l
 list_after def (by.DriverCall driver call) l = list_by_call call l

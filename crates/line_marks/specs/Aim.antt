@@ -51,6 +51,7 @@ aimed_by a = number_of (lowest_in a.cpus a.mask)
 
 -- the processor that the chip is aimed at after the entry; `a` is the aim before it
 abbrev pub aimed_after : Entry → AimSeen → ℕ → ℕ
-aimed_after (by.Driver driver (drivers.Affinity moves.Now mask)) a n = aimed_by (after_set moves.Now mask a)
+aimed_after (by.Driver driver (drivers.Affinity moves.Now mask)) a n
+    = aimed_by (after_set moves.Now mask a)
 aimed_after (by.Cpu cpu (cpus.Take way answer)) a n = aimed_by (after_move a)
 aimed_after _ a n = n

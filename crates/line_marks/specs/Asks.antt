@@ -47,7 +47,8 @@ is_threaded _ = false
 -- an entry of a run counts as serving if the device's kind says so
 abbrev pub asks_after : List (DevNo × Kind) → Entry → List (DevNo × AskRow) → List (DevNo × AskRow)
 asks_after kinds (by.Driver driver (drivers.Ask edge dev)) t = change asked t dev
-asks_after kinds (by.Cpu cpu (cpus.Begin dev)) t = change (called (is_direct (kind_at kinds dev))) t dev
+asks_after kinds (by.Cpu cpu (cpus.Begin dev)) t
+    = change (called (is_direct (kind_at kinds dev))) t dev
 asks_after kinds (by.Cpu cpu (cpus.Return answer dev n)) t =
     change (served (is_direct (kind_at kinds dev))) t dev
 asks_after kinds (by.Thread dev threads.Begin) t =

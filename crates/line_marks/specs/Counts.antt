@@ -18,7 +18,8 @@ tally_of def past = record { window = def.window; limit = def.limit; counts = co
 
 -- what an entry makes of the counts; the round is the one before the entry
 abbrev pub tally_after : Entry → RoundSeen → CountsSeen → CountsSeen
-tally_after (by.Thread dev (threads.Return handled served)) r c = if handled then after_thread c else c
+tally_after (by.Thread dev (threads.Return handled served)) r c
+    = if handled then after_thread c else c
 tally_after (by.Driver driver (drivers.Request flags links.Linked opened dev)) r c = after_reset c
 tally_after (by.Cpu cpu (cpus.End again unmask note)) r c = after_note r.moment r.wakes r.handles c
 tally_after _ r c = c

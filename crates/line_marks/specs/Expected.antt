@@ -60,7 +60,8 @@ IsExpected def (by.Cpu cpu (cpus.End again unmask note)) s =
     (by.Cpu cpu (cpus.End again unmask note) ≡ end_with cpu (note_by s)
     (left_by def def.flow (is_held s) (killed_if (note_by s) s.desc)))
     × HasRounds s × HasDepth s × IsOpen def s
-IsExpected def (by.Thread dev (threads.Return handled served)) s = s.counts.counts.threads_handled < 2 ^ 32 - 1
+IsExpected def (by.Thread dev (threads.Return handled served)) s
+    = s.counts.counts.threads_handled < 2 ^ 32 - 1
 IsExpected def (by.Driver driver (drivers.Request flags answer opened dev)) s =
     (has dev s.list.actions ≡ false)
     × (answer ≡ link_answer_by (kind_at s.kinds dev) flags s.list.actions)

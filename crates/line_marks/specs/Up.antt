@@ -22,7 +22,8 @@ active_by_call bare _ active = active
 -- `bare`: nothing was linked before the entry. A first request activates, and the free of the last
 -- action deactivates
 abbrev pub active_after : Bool → Entry → Bool → Bool
-active_after bare (by.Driver driver (drivers.Request flags links.Linked opened dev)) active = bare || active
+active_after bare (by.Driver driver (drivers.Request flags links.Linked opened dev)) active
+    = bare || active
 active_after bare (by.CpuCall cpu call) active = active_by_call bare call active
 active_after bare (by.ThreadCall dev call) active = active_by_call bare call active
 active_after bare (by.DriverCall driver call) active = active_by_call bare call active

@@ -41,6 +41,7 @@ finish_is s d row there returned = by_woken row.woken refl
     by_woken false is =
         let found : finishes_at s.threads d ≡ finishes.Cleared = rw (there, returned, is) refl in
         let held : held_in (change finished_row s.threads d) ≡ held_in s.threads - one_if row.held = rw there (less s d row there returned is) in
-        ap (λ (x : Finished). by.Thread d (threads.Finish (is_kept x) (is_cleared x && may_open (ltb 0 (held_in (change finished_row s.threads d))) s.desc))) found
+        ap (λ (x : Finished). by.Thread d (threads.Finish (is_kept x)
+        (is_cleared x && may_open (ltb 0 (held_in (change finished_row s.threads d))) s.desc))) found
         ∙ (ap (λ n. by.Thread d (threads.Finish false (may_open (ltb 0 n) s.desc))) held
         ∙ ap (λ w. by.Thread d (threads.Finish w (not w && may_open (ltb 0 (held_in s.threads - one_if row.held)) s.desc))) (sym is))
