@@ -76,8 +76,7 @@ impl<C: Chip> LineState<C> {
 
     /// What the line takes over of a linked action: one-shot by its flags, the mark of a storm is
     /// cleared, and the window of the rule on spurious interrupts begins anew. The first action
-    /// starts
-    /// the line; a further one gives a line that a storm disabled another chance.
+    /// starts the line; a further one gives a line that a storm disabled another chance.
     fn set_up(&mut self, trigger: Trigger, first: bool, flags: Flags) -> Opened
         ensures opened { result ≡ (if first then
             (if flags.noauto then opens.No else opens.Started
