@@ -23,7 +23,7 @@ use Rattle.act_thread.specs.Steps.{may_return, is_returned, may_end, woken_row, 
 use Rattle.act_thread.specs.Threads.{threads_after}
 use Rattle.act_thread.specs.declared.rows.Stage.TheVariants as stages
 use Rattle.act_thread.specs.declared.rows.ThreadRow.{ThreadRow}
-use Rattle.ask_counts.specs.Rows.{asked, called, begun, served}
+use Rattle.ask_counts.specs.Rows.{asked, called as handler_called, begun, served}
 use Rattle.ask_counts.specs.declared.rows.AskRow.{AskRow}
 use Rattle.desc_state.specs.Desc.{DescSeen}
 use Rattle.spurious.specs.Seen.{CountsSeen}
@@ -133,8 +133,8 @@ module _ (def : LineDef) (s : StateSeen) where
   called_other : (d x : DevNo) → same_dev d x ≡ false → Lower (same_dev x d) (h x)
   called_other d x ne = none_low (same_dev x d) (h x) (same_both x d ∙ ne)
 
-  called_here : (d : DevNo) (r : AskRow) → AfterSame (kind d) (h d) (t d) (same_dev d d) (t d) r (called (is_direct (kind d)))
-  called_here d r = subst (λ b. AfterSame (kind d) (h d) (t d) b (t d) r (called (is_direct (kind d))))
+  called_here : (d : DevNo) (r : AskRow) → AfterSame (kind d) (h d) (t d) (same_dev d d) (t d) r (handler_called (is_direct (kind d)))
+  called_here d r = subst (λ b. AfterSame (kind d) (h d) (t d) b (t d) r (handler_called (is_direct (kind d))))
       (sym (same_self d)) (row_called (kind d) (h d) (t d) (t d) r (λ i. i))
 
   is_at_work : (d : DevNo) → s.round.working ≡ Some d → h d ≡ true
@@ -154,7 +154,7 @@ module _ (def : LineDef) (s : StateSeen) where
 
   pub asks_same : (e : Entry) → IsMade e s → HasOwnKeys s.asks → SameAsks e
   asks_same (by.Driver driver (drivers.Ask edge d)) made own = changed_one asked d h t own (λ x ne i. i) (λ x ne i. i) (λ r. row_asked (kind d) (h d) (t d) r)
-  asks_same (by.Cpu cpu (cpus.Begin d)) made own = changed_one (called (is_direct (kind d))) d (is_working (Some d)) t own
+  asks_same (by.Cpu cpu (cpus.Begin d)) made own = changed_one (handler_called (is_direct (kind d))) d (is_working (Some d)) t own
       (called_other d) (λ x ne i. i) (called_here d)
   asks_same (by.Cpu cpu (cpus.Return answers.Nothing d n)) made own
       = changed_one (served (is_direct (kind d))) d (is_working None) t own (λ x ne. none_works x) (λ x ne i. i)
