@@ -166,7 +166,8 @@ freed_last def (by.Driver s (drivers.Request flags links.Linked opened x) ∷ pa
     = both_ways (is_none_linked (by.Driver s (drivers.Request flags links.Linked opened x) ∷ past)) none
     (some_after s x flags opened past)
 freed_last def (by.Driver s (drivers.Request flags (links.Refused error) opened x) ∷ past) r d legal none f
-    = freed_last def past r d legal.1 (sym (ap is_empty (linked_refused s x flags error opened past)) ∙ none) f
+    = or_right (same_driver r s && false) _
+    (freed_last def past r d legal.1 (sym (ap is_empty (linked_refused s x flags error opened past)) ∙ none) f)
 freed_last def (by.DriverCall s (called.Unlink (unlinks.Unlinked last) x) ∷ past) r d legal none f =
     let w = last_when (is_linked past x) last (is_only x (linked past)) (unlink_due def s x (unlinks.Unlinked last) past legal.0).answer_is in
     let left : is_empty (others x (linked past)) ≡ true = sym (ap is_empty (linked_unlink s x last past)) ∙ none in
@@ -178,11 +179,12 @@ freed_last def (by.DriverCall s (called.Unlink (unlinks.Unlinked last) x) ∷ pa
     driver_in z None = z
     driver_in z (Some p) = p.0
 freed_last def (by.DriverCall s (called.Unlink unlinks.NotThere x) ∷ past) r d legal none f
-    = freed_last def past r d legal.1 (sym (ap is_empty (linked_not_there s x past)) ∙ none) f
+    = or_right (same_driver r s && false) _
+    (freed_last def past r d legal.1 (sym (ap is_empty (linked_not_there s x past)) ∙ none) f)
 freed_last def (by.DriverCall s (called.Freed x) ∷ past) r d legal none f = cc
 freed_last def (by.CpuCall c call ∷ past) r d legal none f = no_cpu_call def c call past legal.0
 freed_last def (by.ThreadCall x call ∷ past) r d legal none f = no_thread_call def x call past legal.0
-freed_last def (e ∷ past) r d legal none f = freed_last def past r d legal.1 none f
+freed_last def (e ∷ past) r d legal none f = or_right (last_by (actors.Driver r) e) _ (freed_last def past r d legal.1 none f)
 
 -- ---- what an entry makes of it
 
