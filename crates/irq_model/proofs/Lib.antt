@@ -6,3 +6,4 @@ mod DriverRows
 mod ValidRows
 pub mod Lists
 pub mod Lowest
+pub mod CallRows
