@@ -24,3 +24,5 @@ pub mod Laws
 pub mod Bounds
 pub mod Waits
 pub mod RunLaws
+pub mod RunBounds
+pub mod ValidRuns
