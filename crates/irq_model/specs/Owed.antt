@@ -47,9 +47,9 @@ is_stuck kinds.Stuck = true
 is_stuck _ = false
 
 -- on a line that isn't left disabled: no edge is owed, and on a level line every linked device that
--- works and isn't quiet has all its asks served. Why the two differ: an edge says that something happened, and is
--- gone once the handlers were called, whatever they found. A level stays until the device was
--- served, so the line comes back until it is.
+-- works and isn't quiet has all its asks served. Why the two differ: an edge says that something
+-- happened, and is gone once the handlers were called, whatever they found. A level stays until the
+-- device was served, so the line comes back until it is.
 pub record IsDelivered (def : LineDef) (h : List Entry) : Type 0 where
   pub edges : depth (reverse h) ≡ 0 → (d : DevNo) → is_owed def d (reverse h) ≡ false
   pub levels : depth (reverse h) ≡ 0 → is_level_line def ≡ true → (d : DevNo)

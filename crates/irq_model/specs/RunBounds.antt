@@ -1,6 +1,6 @@
 -- How long a legal history can be whose runs make calls and whose devices are told what to answer
 -- (ours). Where neither is so, the numbers are those of Bounds.
-use Rattle.std.specs.Prelude.{◌≡◌, ℕ, ◌+◌, ◌*◌, Bool, true, false, ◌&&◌, if◌then◌else◌, List}
+use Rattle.std.specs.Prelude.{◌≡◌, ℕ, ◌+◌, ◌*◌, ◌≤◌, Bool, true, false, ◌&&◌, if◌then◌else◌, List}
 use Rattle.std.specs.List.{list_any, sum_by}
 use Rattle.irq_base.specs.declared.numbers.DevNo.{DevNo}
 use Rattle.irq_base.specs.declared.calls.Call.{Call}
@@ -14,8 +14,12 @@ use Rattle.irq_base.specs.declared.devices.ToldAnswer.{ToldAnswer}
 use Rattle.irq_base.specs.declared.devices.ToldAnswer.TheVariants as tolds
 use Rattle.irq_base.specs.declared.lines.LineDef.{LineDef}
 use Rattle.irq_model.specs.Places.{count_of}
-use Rattle.irq_model.specs.Kinds.{same_dev}
+use Rattle.irq_base.specs.declared.entries.Entry.{Entry}
+use Rattle.irq_model.specs.Kinds.{same_dev, is_device_edge}
 use Rattle.irq_model.specs.Lines.{is_edge_line, is_eoi_flow, kind_of, run_script, told_answers}
+use Rattle.irq_model.specs.Rounds.{begins_round}
+use Rattle.irq_model.specs.Waiting.{is_pending, is_soft}
+use Rattle.irq_model.specs.Edges.{is_sent, is_stored}
 use Rattle.irq_model.specs.RunLaws.{is_enabling}
 use Rattle.irq_model.specs.Bounds.{ask_calls, other_calls}
 
@@ -93,6 +97,16 @@ device_edges def = ask_calls def + sum_by (λ x. edges_by_arms def x.dev x.kind)
 
 abbrev pub run_edge_bound : LineDef → ℕ
 run_edge_bound def = round_weight def * (device_edges def + other_calls def + 1)
+
+abbrev pub mark : Bool → ℕ
+mark b = if b then 1 else 0
+
+-- why: the rounds so far, and the places where an interrupt waits for one, are together at most the
+-- edges that devices made
+abbrev pub RoundsAreCountedPast : LineDef → List Entry → Type 0
+RoundsAreCountedPast def past = is_edge_line def ≡ true
+    → count_of (begins_round def) past + mark (is_sent def past) + mark (is_stored def past)
+    + mark (is_pending def past) + mark (is_soft past) ≤ count_of is_device_edge past
 
 -- ---- all lines: between two rounds that are judged handled the window closes
 

@@ -1,6 +1,6 @@
 -- The laws of what runs call.
 use Rattle.std.specs.Prelude.{◌≡◌, ◌⊎◌, ℕ, ◌≤◌, Bool, true, false, not, ◌||◌, ◌&&◌, if◌then◌else◌}
-use Rattle.std.specs.Prelude.{List, [], ◌∷◌, ◌++◌, reverse}
+use Rattle.std.specs.Prelude.{List, [], ◌∷◌, ◌++◌, reverse, Some, is_some}
 use Rattle.std.specs.List.{list_any}
 use Rattle.irq_base.specs.declared.numbers.DevNo.{DevNo}
 use Rattle.irq_base.specs.declared.numbers.DriverNo.{DriverNo}
@@ -15,21 +15,39 @@ use Rattle.irq_base.specs.declared.devices.ToldAnswer.{ToldAnswer}
 use Rattle.irq_base.specs.declared.devices.ToldAnswer.TheVariants as tolds
 use Rattle.irq_base.specs.declared.lines.LineDef.{LineDef}
 use Rattle.irq_base.specs.declared.entries.Entry.{Entry}
-use Rattle.irq_model.specs.Places.{EachEntry, count_of, since_place}
-use Rattle.irq_model.specs.Kinds.{is_return, is_thread_return, is_kill}
+use Rattle.irq_model.specs.Places.{EachEntry, count_of, since, since_place}
+use Rattle.irq_model.specs.Kinds.{is_return, is_thread_begin, is_thread_return, is_kill}
+use Rattle.irq_model.specs.Kinds.{is_cpu_call, is_thread_call}
 use Rattle.irq_model.specs.Lines.{kind_of, run_script, told_answers}
 use Rattle.irq_model.specs.Links.{is_reset, depth, is_none_linked}
-use Rattle.irq_model.specs.Scripts.{MakesAllOf}
+use Rattle.irq_model.specs.Rounds.{at_work}
+use Rattle.irq_model.specs.Threads.{is_running}
+use Rattle.irq_model.specs.Scripts.{MakesAllOf, AreMadeBy}
 use Rattle.irq_model.specs.Due.{calls_by}
 use Rattle.irq_model.specs.Runs.{entries_of_run, makes_calls}
 
--- Scripts of runs: as a handler or a thread returns, its run has made all calls of its script, each
--- once and in order, and none if the handler didn't recognise its device; before it returns, those
--- of a beginning of the script.
+-- Scripts of runs: the calls of processors and threads stand within runs. As a handler or a thread
+-- returns, its run has made all calls of its script, each once and in order, and none if the handler
+-- didn't recognise its device; before it returns, those of a beginning of the script.
 abbrev pub calls_of_run : LineDef → Part → DevNo → List Entry → List Call
 calls_of_run def part d past = if makes_calls def part d past then run_script def d part else []
 
+-- d's thread is in a run that hasn't returned
+abbrev pub is_in_run : List Entry → DevNo → Bool
+is_in_run past d =
+    is_running past d && not (list_any (is_thread_return d) (since (is_thread_begin d) past))
+
 pub record FollowsRunScripts (def : LineDef) (h : List Entry) : Type 0 where
+  pub within_handlers :
+      EachEntry (λ e past. is_cpu_call e ≡ true → is_some (at_work past) ≡ true) (reverse h)
+  pub within_threads : EachEntry (λ e past. (d : DevNo) → is_thread_call d e ≡ true
+      → is_in_run past d ≡ true) (reverse h)
+  pub handlers_so_far : (d : DevNo) → at_work (reverse h) ≡ Some d
+      → AreMadeBy (calls_of_run def parts.Primary d (reverse h))
+      (entries_of_run parts.Primary d (reverse h))
+  pub threads_so_far : (d : DevNo) → is_in_run (reverse h) d ≡ true
+      → AreMadeBy (calls_of_run def parts.Thread d (reverse h))
+      (entries_of_run parts.Thread d (reverse h))
   pub handlers : EachEntry (λ e past. (d : DevNo) → is_return d e ≡ true
       → MakesAllOf (calls_of_run def parts.Primary d past) (entries_of_run parts.Primary d past))
       (reverse h)
@@ -68,13 +86,14 @@ noauto_request (calls.Request d flags) = flags.noauto
 noauto_request _ = false
 
 pub record EnablesWhatItDisables (def : LineDef) : Type 0 where
-  -- a handler that disables does so once, and wakes its thread each time; its thread enables once
+  -- a handler that disables does so once, and wakes its thread each time; its thread enables once.
+  -- (One that waits as it disables hangs, and isn't at rest.)
   pub handlers : (d : DevNo)
       → list_any is_disabling (run_script def d parts.Primary) ≡ true
       → (always_wakes def d (kind_of def d) ≡ true)
       × (count_of is_disabling (run_script def d parts.Primary) ≡ 1)
       × (count_of is_enabling (run_script def d parts.Thread) ≡ 1)
-  -- no handler waits, and no thread disables
+  -- no thread disables
   pub threads : (d : DevNo) → count_of is_disabling (run_script def d parts.Thread) ≡ 0
   -- in each end of a driver's script there are at least as many enables as disables
   pub drivers : (r : DriverNo) (done rest : List Call) → calls_by r def.calls ≡ done ++ rest
@@ -85,7 +104,7 @@ abbrev pub killed_since_reset : List Entry → Bool
 killed_since_reset past = list_any is_kill (since_place is_reset past)
 
 -- unless an end killed the line since its depth was last set anew, it isn't left disabled: where
--- nothing is left to do and something is linked, the depth is 0
+-- nothing is left to do (IsAtRest of Waits) and something is linked, the depth is 0
 abbrev pub IsLeftEnabled : LineDef → List Entry → Type 0
 IsLeftEnabled def h = is_none_linked (reverse h) ≡ false
     → killed_since_reset (reverse h) ≡ false → depth (reverse h) ≡ 0

@@ -2,7 +2,7 @@
 -- `kthread_stop` in `__free_irq`, `desc->request_mutex`: `kernel/irq/manage.c`). What stands in the
 -- way ends by an entry of the other alone, so a circle of waits is for ever.
 use Rattle.std.specs.Prelude.{◌≡◌, ◌⊎◌, ℕ, zero, suc, ◌==◌, Bool, true, false, not, ◌||◌, ◌&&◌}
-use Rattle.std.specs.Prelude.{if◌then◌else◌, Option, Some, None, is_some, List, [], ◌∷◌}
+use Rattle.std.specs.Prelude.{if◌then◌else◌, Option, Some, None, is_some, List, [], ◌∷◌, reverse}
 use Rattle.std.specs.List.{list_any}
 use Rattle.irq_base.specs.declared.numbers.CpuNo.{CpuNo}
 use Rattle.irq_base.specs.declared.numbers.DevNo.{DevNo}
@@ -20,7 +20,7 @@ use Rattle.irq_model.specs.Rounds.{flow, is_cpu, at_work}
 use Rattle.irq_model.specs.Threads.{is_woken, is_running}
 use Rattle.irq_model.specs.Due.{due_call, is_being_freed_at}
 use Rattle.irq_model.specs.Runs.{due_in_run}
-use Rattle.irq_model.specs.Next.{next_past}
+use Rattle.irq_model.specs.Next.{next, next_past}
 
 -- what a step that isn't due yet waits for
 pub data Want : Type 0 where
@@ -113,6 +113,12 @@ abbrev pub is_unfinished_actor : LineDef → List Entry → Actor → Bool
 is_unfinished_actor def past (actors.Driver r) = is_some (due_call def r past)
 is_unfinished_actor def past (actors.Thread d) = is_woken past d || is_running past d
 is_unfinished_actor def past (actors.Cpu c) = is_cpu c (flow def past)
+
+-- nothing is left to do: no actor has a step, and none has begun what it can't end. It is settled,
+-- and nothing hangs; what is promised of a line at its end is promised of this
+pub record IsAtRest (def : LineDef) (h : List Entry) : Type 0 where
+  pub still : (a : Actor) → next def h a ≡ None
+  pub done : (a : Actor) → is_unfinished_actor def (reverse h) a ≡ false
 
 -- no standstill: where no actor has a step, whoever isn't done is hung or held up
 abbrev pub NoStandstillPast : LineDef → List Entry → Type 0
