@@ -19,6 +19,7 @@ class Maker:
         self.root = self.r.choice(ROOTS)
         self.cpus = self.r.choice((1, 2, 2, 3))
         self.devices, self.answers, self.runs = [], {}, {}
+        self.moves = self.cpus > 1 and self.root not in ("level", "eoi") and self.chance(0.6)
 
     def chance(self, part):
         return self.r.random() < part
@@ -98,6 +99,8 @@ class Maker:
 
     def any_call(self):
         dev = self.r.choice(self.numbers())
+        if self.moves and self.chance(0.3):
+            return f"affinity 1 {1 << self.r.randrange(self.cpus)}"
         if self.chance(0.55):
             return f"ask {dev}"
         calls = ["disable_nosync 1", "enable 1", "enable 1", "enable 1", "disable 1", "sync 1", "sync_hard 1", "disable_hard 1"]

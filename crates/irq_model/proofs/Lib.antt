@@ -7,3 +7,4 @@ mod ValidRows
 pub mod Lists
 pub mod Lowest
 pub mod CallRows
+pub mod RunRows
