@@ -1,4 +1,5 @@
-"""The rules of docs/DEFINITIONS.md once more: what is due on a line, and whole plays by `play`, `chained`, `hotplug` and `sleep`.
+"""The rules of docs/DEFINITIONS.md and docs/VERSION3.md once more: what is due on a line, and whole plays by `play`, `chained`,
+`hotplug` and `sleep`.
 
 It is written from the documents, to be compared with the program and with what cases/ has, and knows nothing of either. All is
 looked up in histories; nothing is kept beside them. An entry is the words of its row, who made it first. Boards with domains
@@ -735,6 +736,11 @@ class Play:
                 return next(line for line in self.board.lines if line.number == number), call
             done[number] -= 1
         return None
+
+    def hung(self):
+        """The first line on which an actor is hung, and the lowest such actor; None where none is."""
+        actors = self.board.actors("tcd")
+        return next(((line.number, who) for line in self.board.lines for who in actors if line.is_hung(who, line.past)), None)
 
     def take(self, step):
         line, entry = step

@@ -490,8 +490,8 @@ pub handler_enables_is_still :
 handler_enables_is_still = (refl, refl)
 
 -- A thread's enable over what came meanwhile: this chip can't send again, so the software does.
-abbrev pub sent_to_pin_line : LineDef
-sent_to_pin_line = record plain {
+abbrev pub resent_line : LineDef
+resent_line = record plain {
   devices = device 1 kinds.Check ∷ [];
   runs =
       (dev 1, parts.Primary, calls.DisableNosync) ∷
@@ -502,8 +502,8 @@ sent_to_pin_line = record plain {
       (driver 1, calls.Ask (dev 1)) ∷ [];
 }
 
-abbrev pub sent_to_pin_log : List Entry
-sent_to_pin_log =
+abbrev pub resent_log : List Entry
+resent_log =
     by.Driver (driver 1) (drivers.Request no_flags links.Linked (opens.Started resends.No) (dev 1)) ∷
     by.Driver (driver 1) (drivers.Ask true (dev 1)) ∷
     by.Cpu (cpu 0) (cpus.Take ways.Line takes.Handle) ∷
@@ -522,15 +522,15 @@ sent_to_pin_log =
     by.Cpu (cpu 0) (cpus.Return answers.Nothing (dev 1) 0) ∷
     by.Cpu (cpu 0) (cpus.End false false notes.Counted) ∷ []
 
-pub sent_to_pin_is_legal : IsLegal sent_to_pin_line sent_to_pin_log
-sent_to_pin_is_legal = (refl, (refl, (refl, (refl, (refl, (refl, (refl, (refl, (refl, (refl, (refl, (refl, (refl, (refl, (refl, (refl, (refl, tt)))))))))))))))))
+pub resent_is_legal : IsLegal resent_line resent_log
+resent_is_legal = (refl, (refl, (refl, (refl, (refl, (refl, (refl, (refl, (refl, (refl, (refl, (refl, (refl, (refl, (refl, (refl, (refl, tt)))))))))))))))))
 
 -- no actor of the line has a due entry
-pub sent_to_pin_is_still :
-    (next sent_to_pin_line sent_to_pin_log (actors.Cpu (cpu 0)) ≡ None)
-    × (next sent_to_pin_line sent_to_pin_log (actors.Driver (driver 1)) ≡ None)
-    × (next sent_to_pin_line sent_to_pin_log (actors.Thread (dev 1)) ≡ None)
-sent_to_pin_is_still = (refl, refl, refl)
+pub resent_is_still :
+    (next resent_line resent_log (actors.Cpu (cpu 0)) ≡ None)
+    × (next resent_line resent_log (actors.Driver (driver 1)) ≡ None)
+    × (next resent_line resent_log (actors.Thread (dev 1)) ≡ None)
+resent_is_still = (refl, refl, refl)
 
 -- A handler that synchronises its own line spins, with its device unserved: nobody has a step, the
 -- drivers' calls are complete, and the depth is 0, so the line is settled. It isn't at rest.

@@ -82,8 +82,8 @@ abbrev pub told_wakes : LineDef → DevNo → ℕ
 told_wakes def d = count_of is_wake_word (told_answers def d parts.Primary)
     + count_of (λ c. wakes_this d c.1) def.calls
 
--- how many edges a device makes as its own runs turn its interrupt on. An ask is unserved in at most
--- two runs of the thread that serves it: it may come within one and be served by the next
+-- how many edges a device makes as its own runs turn its interrupt on. An ask is unserved in at
+-- most two runs of the thread that serves it: it may come within one and be served by the next
 abbrev pub edges_by_arms : LineDef → DevNo → Kind → ℕ
 edges_by_arms def d kinds.Direct = asks_of def d * arms_of def parts.Primary d
 edges_by_arms def d kinds.Check = 2 * asks_of def d * arms_of def parts.Thread d

@@ -27,8 +27,8 @@ use Rattle.irq_model.specs.Due.{calls_by}
 use Rattle.irq_model.specs.Runs.{entries_of_run, makes_calls}
 
 -- Scripts of runs: the calls of processors and threads stand within runs. As a handler or a thread
--- returns, its run has made all calls of its script, each once and in order, and none if the handler
--- didn't recognise its device; before it returns, those of a beginning of the script.
+-- returns, its run has made all calls of its script, each once and in order, and none if the
+-- handler didn't recognise its device; before it returns, those of a beginning of the script.
 abbrev pub calls_of_run : LineDef → Part → DevNo → List Entry → List Call
 calls_of_run def part d past = if makes_calls def part d past then run_script def d part else []
 
