@@ -563,14 +563,52 @@ spinning_is_still = (refl, refl)
 pub spinning_is_unserved : unserved_asks spinning_line (dev 1) (reverse spinning_log) ≡ 1
 spinning_is_unserved = refl
 
-pub spinning_is_enabled : depth (reverse spinning_log) ≡ 0
-spinning_is_enabled = refl
+pub spinning_depth : depth (reverse spinning_log) ≡ 0
+spinning_depth = refl
 
 pub spinning_hangs : IsHungPast spinning_line (reverse spinning_log) (actors.Cpu (cpu 0))
 spinning_hangs = (zero, (refl, refl))
 
 pub spinning_isnt_at_rest : is_unfinished_actor spinning_line (reverse spinning_log) (actors.Cpu (cpu 0)) ≡ true
 spinning_isnt_at_rest = refl
+
+-- A handler that disables and answers Handled: nobody enables, and the line is left disabled.
+abbrev pub answers_handled_line : LineDef
+answers_handled_line = record latch {
+  devices = device 1 (kinds.Told true) ∷ [];
+  runs =
+      (dev 1, parts.Primary, calls.DisableNosync) ∷
+      (dev 1, parts.Thread, calls.Enable) ∷ [];
+  told =
+      (dev 1, parts.Primary, tolds.Handled) ∷
+      (dev 1, parts.Primary, tolds.Wake) ∷ [];
+  calls =
+      (driver 1, calls.Request (dev 1) no_flags) ∷
+      (driver 1, calls.Ask (dev 1)) ∷ [];
+}
+
+abbrev pub answers_handled_log : List Entry
+answers_handled_log =
+    by.Driver (driver 1) (drivers.Request no_flags links.Linked (opens.Started resends.No) (dev 1)) ∷
+    by.Driver (driver 1) (drivers.Ask true (dev 1)) ∷
+    by.Cpu (cpu 0) (cpus.Take ways.Line takes.Handle) ∷
+    by.Cpu (cpu 0) (cpus.Begin (dev 1)) ∷
+    by.CpuCall (cpu 0) (called.Disable) ∷
+    by.Cpu (cpu 0) (cpus.Return answers.Handled (dev 1) 0) ∷
+    by.Cpu (cpu 0) (cpus.End false false notes.Quiet) ∷ []
+
+pub answers_handled_is_legal : IsLegal answers_handled_line answers_handled_log
+answers_handled_is_legal = (refl, (refl, (refl, (refl, (refl, (refl, (refl, tt)))))))
+
+-- no actor of the line has a due entry
+pub answers_handled_is_still :
+    (next answers_handled_line answers_handled_log (actors.Cpu (cpu 0)) ≡ None)
+    × (next answers_handled_line answers_handled_log (actors.Driver (driver 1)) ≡ None)
+    × (next answers_handled_line answers_handled_log (actors.Thread (dev 1)) ≡ None)
+answers_handled_is_still = (refl, refl, refl)
+
+pub answers_handled_depth : depth (reverse answers_handled_log) ≡ 1
+answers_handled_depth = refl
 
 -- Two threads that free one another: the first waits for the second's end, the second for the mutex.
 abbrev pub mutual_line : LineDef

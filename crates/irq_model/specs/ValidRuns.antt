@@ -1,7 +1,7 @@
 -- What the rules of a board's text make sure of the scripts of runs and of the answers of told
 -- devices. It stands beside Valid; the laws of version 3 ask for both.
-use Rattle.std.specs.Prelude.{◌≡◌, ◌≤◌, Bool, true, false, not, ◌||◌, ◌&&◌, List, [], ◌∷◌}
-use Rattle.std.specs.Prelude.{length, All}
+use Rattle.std.specs.Prelude.{◌≡◌, ◌≤◌, Bool, true, false, ◌&&◌}
+use Rattle.std.specs.Prelude.{length, All, ◌+◌}
 use Rattle.std.specs.List.{list_any}
 use Rattle.irq_base.specs.declared.numbers.DevNo.{DevNo}
 use Rattle.irq_base.specs.declared.calls.Call.{Call}
@@ -76,6 +76,8 @@ pub record HasValidRuns (def : LineDef) : Type 0 where
   pub few_calls : length def.runs ≤ 256
   pub short_scripts : (d : DevNo) (part : Part) → length (run_script def d part) ≤ 16
   pub few_answers : length def.told ≤ 65536
+  pub short_answers : (d : DevNo) → length (told_answers def d parts.Primary)
+      + length (told_answers def d parts.Thread) ≤ 4096
   pub devices : All (λ c. has_device def c.0 ≡ true) def.runs
   pub scripts : All (λ c. has_script (kind_of def c.0) c.1 ≡ true) def.runs
   pub stand : All (λ c. may_stand (kind_of def c.0) c.1 c.0 c.2 ≡ true) def.runs
