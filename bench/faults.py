@@ -358,7 +358,8 @@ def fault_of(data):
 
 def unescaped(text):
     """The bytes of an input in a table of cases."""
-    text = re.sub(r"\\(x[0-9A-Fa-f]{2}|.)|\|", lambda it: {"|": "\n", "\\t": "\t", "\\r": "\r", "\\\\": "\\"}.get(it[0]) or chr(int(it[1][1:], 16)), text)
+    words = {"|": "\n", "\\t": "\t", "\\r": "\r", "\\\\": "\\"}
+    text = re.sub(r"\\(x[0-9A-Fa-f]{2}|.)|\|", lambda it: words.get(it[0]) or chr(int(it[1][1:], 16)), text)
     return text.encode("latin-1")
 
 

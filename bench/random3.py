@@ -51,13 +51,15 @@ class Maker:
     def run_calls(self, dev, part):
         """What may stand in the script of a run, as often as it is to come."""
         any_dev = self.r.choice(self.numbers())
-        calls = ["disable_nosync 1", "enable 1", f"quiet {dev}", f"quiet {dev}", f"quiet {any_dev}", f"serve {dev}", f"serve {any_dev}"]
+        calls = ["disable_nosync 1", "enable 1", f"quiet {dev}", f"quiet {dev}", f"quiet {any_dev}"]
+        calls += [f"serve {dev}", f"serve {any_dev}"]
         if part == "handler":
             calls += [f"wake {it}" for it in self.numbers()]
         if part == "thread" or self.kind(dev) == "direct":
             calls += [f"arm {dev}"] * 3
         if self.waits:
-            calls += ["disable 1", "sync 1"] * 2 if part == "handler" else ["disable 1", "sync 1", *(f"free {it}" for it in self.numbers())] * 2
+            calls += ["disable 1", "sync 1"] * 2
+            calls += [] if part == "handler" else [f"free {it}" for it in self.numbers()] * 2
         return calls
 
     def make_runs(self):
@@ -67,7 +69,7 @@ class Maker:
                     continue
                 if self.chance(0.75):
                     self.runs[dev, part] = [self.r.choice(self.run_calls(dev, part)) for _ in range(self.r.randint(1, 3))]
-        woken = {call.split()[1] for (_, part), calls in self.runs.items() if part == "handler" for call in calls if call.startswith("wake")}
+        woken = {call.split()[1] for (_, part), calls in self.runs.items() for call in calls if part == "handler" and call.startswith("wake")}
         for (dev, part), calls in self.runs.items():
             if part == "thread" and self.kind(dev) == "told" and str(dev) in woken:
                 self.runs[dev, part] = [call for call in calls if not call.startswith("arm")]
@@ -79,7 +81,8 @@ class Maker:
             return
         unwanted = ("disable", "enable") if self.shape == "pairs" else ("enable",)
         self.runs = {at: [call for call in calls if not call.startswith(unwanted)] for at, calls in self.runs.items()}
-        pairs = [dev for dev in self.numbers() if self.has_thread(dev) and self.kind(dev) in ("check", "told")[: 1 + (self.shape == "pairs")]]
+        kinds = ("check", "told") if self.shape == "pairs" else ("check",)
+        pairs = [dev for dev in self.numbers() if self.has_thread(dev) and self.kind(dev) in kinds]
         if self.shape == "bounded" and self.chance(0.4):
             self.runs = {at: [c for c in calls if not c.startswith(("disable", "wake"))] for at, calls in self.runs.items()}
         elif self.shape == "bounded":
@@ -143,7 +146,8 @@ class Maker:
         rows += [f"line 1 root 0{options}{mask}"]
         rows += [" ".join([f"device {dev} 1 {kind}", *words]) for dev, kind, words in self.devices]
         for dev in self.numbers():
-            rows += [f"answers {dev}{' thread' * (part == 'thread')} {' '.join(words)}" for part in ("handler", "thread") if (words := self.answers.get((dev, part)))]
+            for part, word in (("handler", ""), ("thread", " thread")):
+                rows += [f"answers {dev}{word} {' '.join(words)}"] if (words := self.answers.get((dev, part))) else []
             for part in ("handler", "thread"):
                 rows += [f"{part} {dev}", *self.runs[dev, part]] if self.runs.get((dev, part)) else []
         for number, script in enumerate(self.drivers(), 1):
@@ -170,7 +174,7 @@ class Kept(Line):
 
 for name in (
     "linked depth flags_of is_oneshot unserved is_quiet is_high flow ahead at_work is_pending is_soft is_masked cell signals aim target "
-    "is_woken is_running is_unfinished mutex_holder note run_word is_active"
+    "is_woken is_running is_unfinished mutex_holder note run_word"
 ).split():
     setattr(Kept, name, kept(getattr(Line, name)))
 

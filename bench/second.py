@@ -308,9 +308,6 @@ class Line:
         finished = lambda e: e[:3] == ("t" + dev, "finish", "cleared")  # noqa: E731
         return after_last(linked, wakes(dev), finished)
 
-    def is_active(self, past):
-        return any(self.is_woken(past, dev) or self.is_running(past, dev) for dev in self.devices())
-
     # -- scripts
 
     def calls(self, driver):
