@@ -78,4 +78,5 @@ is_quiet past d = stands (turns_off d) (turns_on d) past
 -- ask
 abbrev pub is_high : LineDef → List Entry → Bool
 is_high def past = is_level_line def
-    && list_any (λ x. not (is_quiet past x.dev) && nat_lt 0 (unserved_asks def x.dev past)) def.devices
+    && list_any (λ x. not (is_quiet past x.dev) && nat_lt 0 (unserved_asks def x.dev past))
+    def.devices

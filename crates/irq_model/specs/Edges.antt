@@ -12,7 +12,8 @@ use Rattle.irq_model.specs.Masks.{is_masked}
 -- the fast-EOI flow an end that retriggers
 abbrev pub is_edge : LineDef → Entry → Bool
 is_edge def e =
-    is_edge_line def && (is_device_edge e || (is_chip_start e || (is_eoi_flow def.flow && is_again e)))
+    is_edge_line def && (is_device_edge e
+    || (is_chip_start e || (is_eoi_flow def.flow && is_again e)))
 
 abbrev pub ends_in_edge : LineDef → List Entry → Bool
 ends_in_edge def [] = false

@@ -224,7 +224,8 @@ is_linked_answer _ = false
 
 -- a request that was linked
 abbrev pub is_linked_request : Entry → Bool
-is_linked_request (by.Driver driver (drivers.Request flags answer opened dev)) = is_linked_answer answer
+is_linked_request (by.Driver driver (drivers.Request flags answer opened dev)) =
+    is_linked_answer answer
 is_linked_request _ = false
 
 -- the request of d was linked

@@ -1,6 +1,7 @@
 -- The table of steps: the one entry that an actor may add. Each row is a definition.
 use Rattle.std.specs.Prelude.{ℕ, Bool, true, false, not, ◌||◌, ◌&&◌, ◌==◌, if◌then◌else◌, Option}
-use Rattle.std.specs.Prelude.{Some, None, is_some, List, [], ◌∷◌, nat_lt, length, reverse, option_map}
+use Rattle.std.specs.Prelude.{Some, None, is_some, List, [], ◌∷◌, nat_lt, length, reverse}
+use Rattle.std.specs.Prelude.{option_map}
 use Rattle.std.specs.List.{list_any}
 use Rattle.irq_base.specs.declared.numbers.CpuNo.{CpuNo}
 use Rattle.irq_base.specs.declared.numbers.DevNo.{DevNo}
@@ -176,8 +177,8 @@ abbrev pub ask_makes_edge : LineDef → DevNo → List Entry → Bool
 ask_makes_edge def d past = not (is_edge_line def)
     || (not (is_quiet past d) && (not (is_held def d) || (unserved_asks def d past == 0)))
 
--- as its own interrupt is turned on, a device makes an edge over what is unserved, unless it forgets;
--- on a level line none does
+-- as its own interrupt is turned on, a device makes an edge over what is unserved, unless it
+-- forgets; on a level line none does
 abbrev pub arm_makes_edge : LineDef → DevNo → List Entry → Bool
 arm_makes_edge def d past = is_edge_line def
     && (is_quiet past d && (nat_lt 0 (unserved_asks def d past) && not (does_forget def d)))
@@ -255,18 +256,21 @@ next_of_thread def d past =
 -- the handler returns: what it answers, and how many asks it served
 abbrev pub return_of : LineDef → CpuNo → DevNo → List Entry → Entry
 return_of def c d past = by.Cpu c
-    (cpus.Return (answer_of_run_now def parts.Primary d past) d (served_by_run def parts.Primary d past))
+    (cpus.Return (answer_of_run_now def parts.Primary d past) d
+    (served_by_run def parts.Primary d past))
 
 -- disabled already, or by this very note
 abbrev pub is_off_now : List Entry → Note → Bool
-is_off_now past note = is_disabled past || is_kill (by.Cpu (record { 0 = 0 }) (cpus.End false false note))
+is_off_now past note = is_disabled past
+    || is_kill (by.Cpu (record { 0 = 0 }) (cpus.End false false note))
 
 abbrev pub end_edge : LineDef → CpuNo → List Entry → Note → Bool → Entry
 end_edge def c past note again = by.Cpu c (cpus.End again (again && is_masked def past) note)
 
 abbrev pub end_level : LineDef → CpuNo → List Entry → Note → Bool → Entry
 end_level def c past note may_open =
-    by.Cpu c (cpus.End false (may_open && (is_masked def past && not (is_some_unfinished def past))) note)
+    by.Cpu c (cpus.End false
+    (may_open && (is_masked def past && not (is_some_unfinished def past))) note)
 
 -- the flow's end: the edge flow goes on with what is pending; the level flow opens the line unless
 -- a thread still holds it; the fast-EOI flow does so on a one-shot level line, and on an edge line
@@ -288,7 +292,8 @@ abbrev pub begin_or_end : LineDef → CpuNo → List Entry → Option DevNo → 
 begin_or_end def c past None = end_of def c past
 begin_or_end def c past (Some d) = by.Cpu c (cpus.Begin d)
 
-abbrev pub handler_or_return : LineDef → CpuNo → DevNo → List Entry → Option (Call × ℕ) → Option Entry
+abbrev pub handler_or_return : LineDef → CpuNo → DevNo → List Entry → Option (Call × ℕ)
+    → Option Entry
 handler_or_return def c d past (Some due) = next_of_call def (actors.Cpu c) past due
 handler_or_return def c d past None = Some (return_of def c d past)
 
@@ -315,7 +320,8 @@ abbrev pub next_take : LineDef → CpuNo → List Entry → Option Entry
 next_take def c past =
     if not (is_cpu c (target def past)) then None
     else (if signals def past then Some (by.Cpu c (cpus.Take ways.Line (take_answer def past)))
-    else (if is_soft past then Some (by.Cpu c (cpus.Take ways.Resend (take_answer def past))) else None))
+    else (if is_soft past then Some (by.Cpu c (cpus.Take ways.Resend (take_answer def past)))
+    else None))
 
 abbrev pub next_of_cpu : LineDef → CpuNo → List Entry → Option Entry
 next_of_cpu def c past =
