@@ -102,7 +102,8 @@ impl Space<Entry> for LineSpace {
     }
 
     fn is_wanted(&mut self, words: &[u32], found: &Found<Entry>) -> Result<bool, NoMemory> {
-        let _ = (words, found);
+        let _ = words;
+        let _ = found;
         Ok(false)
     }
 }
