@@ -38,11 +38,7 @@ pub fn shortest(
 
 /// The history as wanted that comes of the state at which the search stopped. The only error is
 /// `NoMemory`.
-fn history(
-    alloc: Global,
-    found: &Searched<Entry>,
-    wanted: Wanted,
-) -> Result<Vec<Entry>, NoMemory>
+fn history(alloc: Global, found: &Searched<Entry>, wanted: Wanted) -> Result<Vec<Entry>, NoMemory>
     requires { found.now.looked < length found.now.paths }
     ensures { IfOk result (λ entries. (p : List Entry)
         → slice_get found.now.paths found.now.looked ≡ Some p

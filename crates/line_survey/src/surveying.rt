@@ -101,7 +101,11 @@ impl LineSearch {
         let mut rests = Vec::new(self.alloc);
         for place in 0..self.searched.looked() {
             if self.is_at_rest(place) {
-                note(&mut rests, self.left_at(&mut reader, place)?, self.depth(place))?;
+                note(
+                    &mut rests,
+                    self.left_at(&mut reader, place)?,
+                    self.depth(place),
+                )?;
             }
         }
         Ok(rests)

@@ -35,11 +35,7 @@ impl Model for WantedSpace {
 
 impl WantedSpace {
     /// What is wanted of a line of that definition. The only error is `NoMemory`.
-    pub(crate) fn new(
-        alloc: Global,
-        def: &LineDef,
-        wanted: Wanted,
-    ) -> Result<WantedSpace, NoMemory>
+    pub(crate) fn new(alloc: Global, def: &LineDef, wanted: Wanted) -> Result<WantedSpace, NoMemory>
         requires { IsValid def.now }
         ensures { IfOk result (λ s. s ≡ record { def = def.now; wanted = wanted }) }
     {

@@ -35,15 +35,15 @@ loop-place-preserved c =
       | then-is_at_rest+in_ok-left_at+in_ok-note w ↦
           record {
             rows = subst So (sym w.rests-is)
-          (rows_count v.def paths c.loop-place.place within line.searches.rising c.loop-place.rests.items w.note.new.rests.items
-          w.in_ok-left_at.field-0 w.depth.result (c.is_at_rest.ensures.rests w.if-is_at_rest.true) w.in_ok-left_at.ensures.left w.depth.ensures.depth
-          c.loop-place.invariant.rows w.in_ok-note.ensures);
+                (rows_count v.def paths c.loop-place.place within line.searches.rising c.loop-place.rests.items w.note.new.rests.items
+                w.in_ok-left_at.field-0 w.depth.result (c.is_at_rest.ensures.rests w.if-is_at_rest.true) w.in_ok-left_at.ensures.left w.depth.ensures.depth
+                c.loop-place.invariant.rows w.in_ok-note.ensures);
             reader = subst (λ (r : Reader). IsReader v.def r) (sym w.reader-is) w.left_at.ensures.reader;
           }
       | else-is_at_rest w ↦
           record {
             rows = subst So (sym w.rests-is)
-          (rows_stay v.def paths c.loop-place.place within c.loop-place.rests.items (c.is_at_rest.ensures.moves w.if-is_at_rest.false) c.loop-place.invariant.rows);
+                (rows_stay v.def paths c.loop-place.place within c.loop-place.rests.items (c.is_at_rest.ensures.moves w.if-is_at_rest.false) c.loop-place.invariant.rows);
             reader = subst (λ (r : Reader). IsReader v.def r) (sym w.reader-is) c.loop-place.invariant.reader;
           }
     ]
