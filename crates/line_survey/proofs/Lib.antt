@@ -6,5 +6,5 @@ pub mod Rests
 pub mod Growing
 pub mod Surveys
 pub mod OfLine
-pub mod Wanting
-pub mod Shortest
+pub mod Met
+pub mod Sought

@@ -8,12 +8,12 @@ mod reader;
 mod resting;
 mod rows;
 pub mod searching;
-pub mod shortest;
+pub mod seeking;
 pub mod survey;
 mod surveying;
 mod wanting;
 
 pub use answer::Answer;
 pub use searching::LineSearch;
-pub use shortest::shortest;
+pub use seeking::shortest;
 pub use survey::{EntryRow, RestRow, Survey};

@@ -5,11 +5,11 @@ use Rattle.irq_base.specs.declared.entries.Entry.{Entry}
 use Rattle.irq_model.specs.Valid.{IsValid}
 use Rattle.line_wanted.specs.Wanted.{IsShortest}
 use Rattle.state_search.specs.Seen.{cut_of}
-use Rattle.line_survey.proofs.Shortest.{shortest_found, unmet_said, cut_few}
+use Rattle.line_survey.proofs.Sought.{shortest_found, unmet_said, cut_few}
 use Rattle.line_survey.specs.Answers.{IsAnswer}
 use Rattle.line_survey.specs.Wanting.{WantedSeen, unmet_answer, whole_past}
 use Rattle.line_survey.specs.declared.answer.Answer.{Answer}
-use Rattle.line_survey.proofs.shortest.shortest.Goals as goal
+use Rattle.line_survey.proofs.seeking.shortest.Goals as goal
 
 pub history-requires : goal.history-requires
 history-requires c =

@@ -1,6 +1,6 @@
 use Rattle.std.proofs.Common.{◌≡◌, ◌<◌, Some, length, reverse, slice_get, subst, arith}
-use Rattle.line_survey.proofs.Shortest.{rest_whole, row_whole}
-use Rattle.line_survey.proofs.shortest.history.Goals as goal
+use Rattle.line_survey.proofs.Sought.{rest_whole, row_whole}
+use Rattle.line_survey.proofs.seeking.history.Goals as goal
 
 pub path-requires : goal.path-requires
 path-requires c = omega (arith, c.looked.ensures, c.requires)
