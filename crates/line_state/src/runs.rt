@@ -1,5 +1,5 @@
 //! Asks, and the runs of handlers and threads.
-ghost use Rattle.std.specs.Prelude.{◌≡◌, ◌-◌, ◌<◌, ◌^◌};
+ghost use Rattle.std.specs.Prelude.{◌≡◌, ◌-◌, ◌<◌, ◌^◌, true};
 ghost use Rattle.irq_base.specs.Handlers.{answer_of};
 ghost use Rattle.irq_base.specs.declared.devices.Part.TheVariants as parts;
 ghost use Rattle.irq_base.specs.declared.entries.Entry.TheVariants as by;
