@@ -2,7 +2,9 @@
 use Rattle.std.specs.Prelude.{ℕ, Bool, true, Option, Some, None, List}
 use Rattle.irq_base.specs.declared.devices.Answer.TheVariants as answers
 use Rattle.irq_base.specs.declared.entries.Entry.{Entry}
-use Rattle.irq_base.specs.declared.entries.Entry.TheVariants as entries
+use Rattle.irq_base.specs.declared.entries.Entry.TheVariants as by
+use Rattle.irq_base.specs.declared.entries.CpuEntry.TheVariants as cpus
+use Rattle.irq_base.specs.declared.entries.ThreadEntry.TheVariants as threads
 use Rattle.irq_base.specs.declared.numbers.DevNo.{DevNo}
 use Rattle.device_table.specs.Rows.{at, change}
 use Rattle.device_table.specs.Sums.{weigh_all, how_many}
@@ -37,10 +39,10 @@ finishes_at t d = finish_of (at t d)
 
 -- what an entry makes of the threads of a line, one-shot or not
 abbrev pub threads_after : Bool → Entry → List (DevNo × ThreadRow) → List (DevNo × ThreadRow)
-threads_after oneshot (entries.Return cpu dev answers.Wake served) t =
+threads_after oneshot (by.Cpu cpu (cpus.Return answers.Wake dev served)) t =
     change (woken_row oneshot) t dev
-threads_after oneshot (entries.ThreadBegin dev) t = change begun_row t dev
-threads_after oneshot (entries.ThreadReturn dev served) t = change returned_row t dev
-threads_after oneshot (entries.Finish dev kept unmask) t = change finished_row t dev
-threads_after oneshot (entries.Done dev) t = change (done_row oneshot) t dev
+threads_after oneshot (by.Thread dev threads.Begin) t = change begun_row t dev
+threads_after oneshot (by.Thread dev (threads.Return handled served)) t = change returned_row t dev
+threads_after oneshot (by.Thread dev (threads.Finish kept unmask)) t = change finished_row t dev
+threads_after oneshot (by.Thread dev threads.Done) t = change (done_row oneshot) t dev
 threads_after _ _ t = t

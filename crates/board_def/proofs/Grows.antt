@@ -20,7 +20,7 @@ use Rattle.irq_model.specs.Kinds.{same_dev}
 use Rattle.domain_rules.specs.Levels.{root_kind, trigger_of_root, keeps}
 use Rattle.domain_rules.specs.Domains.{EachAfter, IsDomainAfter}
 use Rattle.board_def.specs.Rules.{IsBoard, IsDomainRowAfter, IsLineAfter, IsDeviceAfter, IsDriverAfter, IsCallAfter}
-use Rattle.board_def.specs.Rules.{IsActorOf, has_line, has_driver, find_device, fits_line, is_on_line, is_threaded_on}
+use Rattle.board_def.specs.Rules.{IsActorOf, has_line, has_driver, find_device, fits_line, is_on_line, is_threaded}
 use Rattle.board_def.specs.Rules.{is_bad_unlazy}
 use Rattle.board_def.specs.Seen.{BoardSeen}
 use Rattle.board_def.specs.Unnamed.{def_of, defs_of}
@@ -153,8 +153,8 @@ module _ (b : BoardSeen) (h : IsBoard b) (domain : Option DomainRow) (line : Opt
   }
 
   actor_kept : (a : Actor) → IsActorOf b a → IsActorOf after a
-  actor_kept (actors.Thread l dev) p =
-      still (λ ds. is_threaded_on l (find_device ds dev) ≡ true) b.devices device (test_stays (is_threaded_on l) refl dev b.devices) p
+  actor_kept (actors.Thread dev) p =
+      still (λ ds. is_threaded (find_device ds dev) ≡ true) b.devices device (test_stays is_threaded refl dev b.devices) p
   actor_kept (actors.Cpu cpu) p = p
   actor_kept (actors.Driver r) p = driver_declared r p
 

@@ -133,13 +133,13 @@ pub record IsCallAfter (b : BoardSeen) (earlier : List ScriptCall) (c : ScriptCa
 
 -- picks
 
-abbrev pub is_threaded_on : LineNo → Option DeviceDef → Bool
-is_threaded_on line (Some x) = has_thread x.kind && (x.line.0 == line.0)
-is_threaded_on line None = false
+abbrev pub is_threaded : Option DeviceDef → Bool
+is_threaded (Some x) = has_thread x.kind
+is_threaded None = false
 
--- the actor is there: a device's thread on its line, a processor, or a driver
+-- the actor is there: a device's thread, a processor, or a driver
 abbrev pub IsActorOf : BoardSeen → Actor → Type 0
-IsActorOf b (actors.Thread line dev) = is_threaded_on line (find_device b.devices dev) ≡ true
+IsActorOf b (actors.Thread dev) = is_threaded (find_device b.devices dev) ≡ true
 IsActorOf b (actors.Cpu cpu) = cpu.0 < b.cpus
 IsActorOf b (actors.Driver driver) = has_driver b.drivers driver ≡ true
 

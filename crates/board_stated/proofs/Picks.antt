@@ -6,50 +6,50 @@ use Rattle.std.proofs.lemmas.Bool.{ltb-false, leb-false, eq-eqb, not-false, and_
 use Rattle.std.proofs.lemmas.List.Elements.{All-nil, All-append, All-replicate}
 use Rattle.irq_base.specs.Handlers.{has_thread}
 use Rattle.irq_base.specs.declared.devices.DeviceDef.{DeviceDef}
-use Rattle.board_def.specs.Rules.{find_device, has_driver, is_threaded_on, IsActorOf, IsBoard}
+use Rattle.board_def.specs.Rules.{find_device, has_driver, is_threaded, IsActorOf, IsBoard}
 use Rattle.board_def.specs.Seen.{BoardSeen}
 use Rattle.board_def.proofs.Grows.{other_picks}
-use Rattle.board_words.specs.declared.statements.Picked.{Picked}
-use Rattle.board_words.specs.declared.statements.Picked.TheVariants as picked
+use Rattle.irq_base.specs.declared.entries.Actor.{Actor}
+use Rattle.irq_base.specs.declared.entries.Actor.TheVariants as actors
 use Rattle.board_words.specs.declared.statements.PickWord.{PickWord}
 use Rattle.board_words.specs.declared.statements.Statement.TheVariants as statements
 use Rattle.board_stated.specs.FaultsAfter.{has_no_thread, picks_nothing, is_not_there, count_of_picks, is_one_too_many}
-use Rattle.board_stated.specs.Stated.{line_or_none, actor_picked, actors_picked, with_statement}
+use Rattle.board_stated.specs.Stated.{actors_picked, with_statement}
 
 -- ---- each pick is of the board
 
-threaded : (o : Option DeviceDef) → has_no_thread o ≡ false → is_threaded_on (line_or_none o) o ≡ true
-threaded (Some x) h = and_from (has_thread x.kind) (x.line.0 == x.line.0) (not-false (has_thread x.kind) h) (eq-eqb x.line.0 x.line.0 refl)
+threaded : (o : Option DeviceDef) → has_no_thread o ≡ false → is_threaded o ≡ true
+threaded (Some x) h = not-false (has_thread x.kind) h
 threaded None h = absurd cc
 
-actor_there : (b : BoardSeen) (who : Picked) → picks_nothing b who ≡ false → IsActorOf b (actor_picked b.devices who)
-actor_there b (picked.Thread dev) h = threaded (find_device b.devices dev) h
-actor_there b (picked.Cpu cpu) h = leb-false b.cpus cpu.0 h
-actor_there b (picked.Driver driver) h = not-false (has_driver b.drivers driver) h
+actor_there : (b : BoardSeen) (who : Actor) → picks_nothing b who ≡ false → IsActorOf b who
+actor_there b (actors.Thread dev) h = threaded (find_device b.devices dev) h
+actor_there b (actors.Cpu cpu) h = leb-false b.cpus cpu.0 h
+actor_there b (actors.Driver driver) h = not-false (has_driver b.drivers driver) h
 
 actors_there : (b : BoardSeen) (picks : List PickWord) → list_any (λ p. picks_nothing b p.who) picks ≡ false
-    → All (IsActorOf b) (flat_map (actors_picked b.devices) picks)
+    → All (IsActorOf b) (flat_map actors_picked picks)
 actors_there b [] h = All-nil (IsActorOf b)
 actors_there b (p ∷ ps) h =
     let parts = or_parts (picks_nothing b p.who) (list_any (λ q. picks_nothing b q.who) ps) h in
-    All-append (IsActorOf b) (actors_picked b.devices p) (flat_map (actors_picked b.devices) ps)
-    (All-replicate (IsActorOf b) p.times (actor_picked b.devices p.who) (actor_there b p.who parts.0)) (actors_there b ps parts.1)
+    All-append (IsActorOf b) (actors_picked p) (flat_map actors_picked ps)
+    (All-replicate (IsActorOf b) p.times p.who (actor_there b p.who parts.0)) (actors_there b ps parts.1)
 
 -- ---- the number of picks is what the words tell
 
-count_told : (devices : List DeviceDef) (picks : List PickWord) → length (flat_map (actors_picked devices) picks) ≡ count_of_picks picks
-count_told devices [] = refl
-count_told devices (p ∷ ps) =
-    let rest = count_told devices ps in
-    let first = length-replicate p.times (actor_picked devices p.who) in
-    omega (arith, length-append (actors_picked devices p) (flat_map (actors_picked devices) ps))
+count_told : (picks : List PickWord) → length (flat_map actors_picked picks) ≡ count_of_picks picks
+count_told [] = refl
+count_told (p ∷ ps) =
+    let rest = count_told ps in
+    let first = length-replicate p.times p.who in
+    omega (arith, length-append (actors_picked p) (flat_map actors_picked ps))
 
 few_after : (b : BoardSeen) (picks : List PickWord) → is_one_too_many b (statements.Picks picks) ≡ false
-    → length (b.picks ++ flat_map (actors_picked b.devices) picks) ≤ 65536
+    → length (b.picks ++ flat_map actors_picked picks) ≤ 65536
 few_after b picks h =
     let few = ltb-false 65536 (length b.picks + count_of_picks picks) h in
-    let told = count_told b.devices picks in
-    omega (arith, length-append b.picks (flat_map (actors_picked b.devices) picks))
+    let told = count_told picks in
+    omega (arith, length-append b.picks (flat_map actors_picked picks))
 
 -- ---- more
 
@@ -57,5 +57,5 @@ pub picks_kept : (b : BoardSeen) (picks : List PickWord) → IsBoard b → is_no
     → is_one_too_many b (statements.Picks picks) ≡ false
     → IsBoard (with_statement (statements.Picks picks) b)
 picks_kept b picks board there room =
-    let more = flat_map (actors_picked b.devices) picks in
+    let more = flat_map actors_picked picks in
     other_picks b (b.picks ++ more) board (few_after b picks room) (All-append (IsActorOf b) b.picks more board.picks (actors_there b picks there))

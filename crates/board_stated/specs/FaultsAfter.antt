@@ -20,8 +20,8 @@ use Rattle.board_words.specs.declared.faults.FaultKind.{FaultKind}
 use Rattle.board_words.specs.declared.faults.FaultKind.TheVariants as faults
 use Rattle.board_words.specs.declared.statements.CallWords.{CallWords}
 use Rattle.board_words.specs.declared.statements.CallWords.TheVariants as words
-use Rattle.board_words.specs.declared.statements.Picked.{Picked}
-use Rattle.board_words.specs.declared.statements.Picked.TheVariants as picked
+use Rattle.irq_base.specs.declared.entries.Actor.{Actor}
+use Rattle.irq_base.specs.declared.entries.Actor.TheVariants as actors
 use Rattle.board_words.specs.declared.statements.PickWord.{PickWord}
 use Rattle.board_words.specs.declared.statements.Statement.{Statement}
 use Rattle.board_words.specs.declared.statements.Statement.TheVariants as statements
@@ -90,10 +90,10 @@ abbrev pub has_no_thread : Option DeviceDef → Bool
 has_no_thread (Some x) = not (has_thread x.kind)
 has_no_thread None = true
 
-abbrev pub picks_nothing : BoardSeen → Picked → Bool
-picks_nothing b (picked.Thread dev) = has_no_thread (find_device b.devices dev)
-picks_nothing b (picked.Cpu cpu) = nat_le b.cpus cpu.0
-picks_nothing b (picked.Driver driver) = not (has_driver b.drivers driver)
+abbrev pub picks_nothing : BoardSeen → Actor → Bool
+picks_nothing b (actors.Thread dev) = has_no_thread (find_device b.devices dev)
+picks_nothing b (actors.Cpu cpu) = nat_le b.cpus cpu.0
+picks_nothing b (actors.Driver driver) = not (has_driver b.drivers driver)
 
 abbrev pub is_not_there : BoardSeen → Statement → Bool
 is_not_there b (statements.Domain d) = is_parent_missing b.domains d.parent

@@ -6,7 +6,6 @@ use Rattle.irq_base.specs.declared.calls.Call.{Call}
 use Rattle.irq_base.specs.declared.calls.Call.TheVariants as calls
 use Rattle.irq_base.specs.declared.devices.DeviceDef.{DeviceDef}
 use Rattle.irq_base.specs.declared.entries.Actor.{Actor}
-use Rattle.irq_base.specs.declared.entries.Actor.TheVariants as actors
 use Rattle.irq_base.specs.declared.numbers.DevNo.{DevNo}
 use Rattle.irq_base.specs.declared.numbers.DriverNo.{DriverNo}
 use Rattle.irq_base.specs.declared.numbers.LineNo.{LineNo}
@@ -21,8 +20,6 @@ use Rattle.board_words.specs.declared.statements.CallWords.{CallWords}
 use Rattle.board_words.specs.declared.statements.CallWords.TheVariants as words
 use Rattle.board_words.specs.declared.statements.DomainWords.{DomainWords}
 use Rattle.board_words.specs.declared.statements.LineWords.{LineWords}
-use Rattle.board_words.specs.declared.statements.Picked.{Picked}
-use Rattle.board_words.specs.declared.statements.Picked.TheVariants as picked
 use Rattle.board_words.specs.declared.statements.PickWord.{PickWord}
 use Rattle.board_words.specs.declared.statements.Statement.{Statement}
 use Rattle.board_words.specs.declared.statements.Statement.TheVariants as statements
@@ -115,14 +112,9 @@ script_call b c = record {
   call = call_of_words c;
 }
 
-abbrev pub actor_picked : List DeviceDef → Picked → Actor
-actor_picked devices (picked.Thread dev) = actors.Thread (line_of_device devices dev) dev
-actor_picked devices (picked.Cpu cpu) = actors.Cpu cpu
-actor_picked devices (picked.Driver driver) = actors.Driver driver
-
 -- the picks of one word: its actor, as many times as it says
-abbrev pub actors_picked : List DeviceDef → PickWord → List Actor
-actors_picked devices p = replicate p.times (actor_picked devices p.who)
+abbrev pub actors_picked : PickWord → List Actor
+actors_picked p = replicate p.times p.who
 
 -- what a statement adds to the board; a header adds nothing
 abbrev pub with_statement : Statement → BoardSeen → BoardSeen
@@ -138,7 +130,7 @@ with_statement (statements.Device dev line kind) b =
 with_statement (statements.Driver driver) b = record b { drivers = b.drivers ++ driver ∷ [] }
 with_statement (statements.Call c) b = record b { calls = b.calls ++ script_call b c ∷ [] }
 with_statement (statements.Picks picks) b =
-    record b { picks = b.picks ++ flat_map (actors_picked b.devices) picks }
+    record b { picks = b.picks ++ flat_map actors_picked picks }
 
 -- the board that the statements state
 abbrev pub board_of : List Statement → BoardSeen

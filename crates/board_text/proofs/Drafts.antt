@@ -7,8 +7,8 @@ use Rattle.board_stated.specs.Sound.{draft_of}
 use Rattle.board_stated.specs.Stated.{board_of, with_statement}
 use Rattle.board_words.specs.declared.statements.CallWords.{CallWords}
 use Rattle.board_words.specs.declared.statements.CallWords.TheVariants as words
-use Rattle.board_words.specs.declared.statements.Picked.{Picked}
-use Rattle.board_words.specs.declared.statements.Picked.TheVariants as picked
+use Rattle.irq_base.specs.declared.entries.Actor.{Actor}
+use Rattle.irq_base.specs.declared.entries.Actor.TheVariants as actors
 use Rattle.board_words.specs.declared.statements.PickWord.{PickWord}
 use Rattle.board_words.specs.declared.statements.Statement.{Statement}
 use Rattle.board_words.specs.declared.statements.Statement.TheVariants as statements
@@ -73,10 +73,10 @@ names_same past (words.Sync line) = refl
 names_same past (words.Affinity line mask) = refl
 names_same past (words.Moment line at) = refl
 
-pick_same : (past : List Statement) (who : Picked) → picks_nothing (draft_of past) who ≡ picks_nothing (board_of past) who
-pick_same past (picked.Thread dev) = refl
-pick_same past (picked.Cpu cpu) = refl
-pick_same past (picked.Driver driver) = refl
+pick_same : (past : List Statement) (who : Actor) → picks_nothing (draft_of past) who ≡ picks_nothing (board_of past) who
+pick_same past (actors.Thread dev) = refl
+pick_same past (actors.Cpu cpu) = refl
+pick_same past (actors.Driver driver) = refl
 
 picks_same : (past : List Statement) (picks : List PickWord)
     → list_any (λ p. picks_nothing (draft_of past) p.who) picks

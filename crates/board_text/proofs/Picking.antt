@@ -7,7 +7,7 @@ use Rattle.irq_base.specs.declared.entries.Actor.{Actor}
 use Rattle.board_def.specs.Rules.{IsActorOf, IsBoard}
 use Rattle.board_def.specs.Seen.{BoardSeen}
 use Rattle.board_def.proofs.Grows.{other_picks}
-use Rattle.board_stated.specs.Stated.{actor_picked, actors_picked}
+use Rattle.board_stated.specs.Stated.{actors_picked}
 use Rattle.board_words.specs.declared.statements.PickWord.{PickWord}
 use Rattle.board_text.proofs.Left.{left_at}
 
@@ -38,30 +38,30 @@ one_pick b c a i n within is h =
 
 -- the picks of the word at place i
 pub word_of_picks : (b c : BoardSeen) (a : Actor) (picks : List PickWord) (i : ℕ) (p : PickWord) → slice_get picks i ≡ Some p → c ≡ with_picks b c.picks
-    → c.picks ++ flat_map (actors_picked b.devices) (drop i picks) ≡ b.picks ++ flat_map (actors_picked b.devices) picks → a ≡ actor_picked c.devices p.who
-    → IsBoard (with_picks b (b.picks ++ flat_map (actors_picked b.devices) picks)) → IsBoard (with_picks c (c.picks ++ replicate p.times a))
+    → c.picks ++ flat_map actors_picked (drop i picks) ≡ b.picks ++ flat_map actors_picked picks → a ≡ p.who
+    → IsBoard (with_picks b (b.picks ++ flat_map actors_picked picks)) → IsBoard (with_picks c (c.picks ++ replicate p.times a))
 word_of_picks b c a picks i p at same left is h =
     let devices : c.devices ≡ b.devices = ap (λ (x : BoardSeen). x.devices) same in
-    let actor : a ≡ actor_picked b.devices p.who = is ∙ ap (λ ds. actor_picked ds p.who) devices in
-    let rest = flat_map (actors_picked b.devices) (drop (i + 1) picks) in
-    let whole : (c.picks ++ replicate p.times (actor_picked b.devices p.who)) ++ rest ≡ b.picks ++ flat_map (actors_picked b.devices) picks =
-    append_assoc c.picks (replicate p.times (actor_picked b.devices p.who)) rest
-    ∙ (ap (λ xs. c.picks ++ flat_map (actors_picked b.devices) xs) (sym (left_at picks i p at)) ∙ left) in
-    let fewer = fewer_picks b (c.picks ++ replicate p.times (actor_picked b.devices p.who)) rest (subst (λ xs. IsBoard (with_picks b xs)) (sym whole) h) in
-    rw actor (subst (λ (x : BoardSeen). IsBoard (with_picks x (c.picks ++ replicate p.times (actor_picked b.devices p.who)))) (sym same) fewer)
+    let actor : a ≡ p.who = is in
+    let rest = flat_map actors_picked (drop (i + 1) picks) in
+    let whole : (c.picks ++ replicate p.times p.who) ++ rest ≡ b.picks ++ flat_map actors_picked picks =
+    append_assoc c.picks (replicate p.times p.who) rest
+    ∙ (ap (λ xs. c.picks ++ flat_map actors_picked xs) (sym (left_at picks i p at)) ∙ left) in
+    let fewer = fewer_picks b (c.picks ++ replicate p.times p.who) rest (subst (λ xs. IsBoard (with_picks b xs)) (sym whole) h) in
+    rw actor (subst (λ (x : BoardSeen). IsBoard (with_picks x (c.picks ++ replicate p.times p.who))) (sym same) fewer)
 
 -- and after them
 pub picks_so_far : (b c d : BoardSeen) (a : Actor) (picks : List PickWord) (i : ℕ) (p : PickWord) → slice_get picks i ≡ Some p → c ≡ with_picks b c.picks
-    → c.picks ++ flat_map (actors_picked b.devices) (drop i picks) ≡ b.picks ++ flat_map (actors_picked b.devices) picks → a ≡ actor_picked c.devices p.who
+    → c.picks ++ flat_map actors_picked (drop i picks) ≡ b.picks ++ flat_map actors_picked picks → a ≡ p.who
     → d ≡ with_picks c (c.picks ++ replicate p.times a)
-    → (d ≡ with_picks b d.picks) × (d.picks ++ flat_map (actors_picked b.devices) (drop (i + 1) picks) ≡ b.picks ++ flat_map (actors_picked b.devices) picks)
+    → (d ≡ with_picks b d.picks) × (d.picks ++ flat_map actors_picked (drop (i + 1) picks) ≡ b.picks ++ flat_map actors_picked picks)
 picks_so_far b c d a picks i p at same left is now =
     let devices : c.devices ≡ b.devices = ap (λ (x : BoardSeen). x.devices) same in
-    let actor : a ≡ actor_picked b.devices p.who = is ∙ ap (λ ds. actor_picked ds p.who) devices in
-    let rest = flat_map (actors_picked b.devices) (drop (i + 1) picks) in
-    let picks_now : d.picks ≡ c.picks ++ replicate p.times (actor_picked b.devices p.who)
+    let actor : a ≡ p.who = is in
+    let rest = flat_map actors_picked (drop (i + 1) picks) in
+    let picks_now : d.picks ≡ c.picks ++ replicate p.times p.who
     = ap (λ (x : BoardSeen). x.picks) now ∙ ap (λ x. c.picks ++ replicate p.times x) actor in (
       now ∙ (ap (λ (x : BoardSeen). with_picks x (c.picks ++ replicate p.times a)) same ∙ ap (with_picks b) (sym (ap (λ (x : BoardSeen). x.picks) now))),
-      ap (λ xs. xs ++ rest) picks_now ∙ (append_assoc c.picks (replicate p.times (actor_picked b.devices p.who)) rest
-          ∙ (ap (λ xs. c.picks ++ flat_map (actors_picked b.devices) xs) (sym (left_at picks i p at)) ∙ left)),
+      ap (λ xs. xs ++ rest) picks_now ∙ (append_assoc c.picks (replicate p.times p.who) rest
+          ∙ (ap (λ xs. c.picks ++ flat_map actors_picked xs) (sym (left_at picks i p at)) ∙ left)),
     )

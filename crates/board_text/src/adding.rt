@@ -4,13 +4,13 @@ ghost use Rattle.std.specs.List.{flat_map};
 ghost use Rattle.board_def.specs.Rules.{IsBoard};
 ghost use Rattle.board_stated.specs.Stated.{domain_row, line_row, script_call, call_of_words};
 ghost use Rattle.board_stated.specs.Stated.{line_of_call, line_of_device, line_or_none};
-ghost use Rattle.board_stated.specs.Stated.{actor_picked, actors_picked, mask_or_all};
+ghost use Rattle.board_stated.specs.Stated.{actors_picked, mask_or_all};
 ghost use Rattle.board_text.specs.Kept.{drafted};
 
 use crate::faults::{domain_place, driver_writing, parent_place};
 use crate::masks::all_processors;
 use board_def::{Board, DomainRow, LineRow, ScriptCall};
-use board_words::{CallWords, DomainWords, LineWords, PickList, Picked, Statement};
+use board_words::{CallWords, DomainWords, LineWords, PickList, Statement};
 use irq_base::{Actor, Call, DevNo, DeviceDef, DomainDef, LineNo, NoMemory};
 
 /// Adds to the board what the statement adds. A log limit waits for the end of the text.
@@ -135,16 +135,15 @@ fn line_of_device(board: &Board, dev: DevNo) -> LineNo
 fn add_picks(board: &mut Board, picks: &PickList) -> Result<(), NoMemory>
     requires { IsBoard
         (record board.old
-        { picks = board.old.picks ++ flat_map (actors_picked board.old.devices) picks.now }) }
+        { picks = board.old.picks ++ flat_map actors_picked picks.now }) }
     ensures { OnOk result
         (board.new
         ≡ record board.old
-        { picks = board.old.picks ++ flat_map (actors_picked board.old.devices) picks.now }) }
+        { picks = board.old.picks ++ flat_map actors_picked picks.now }) }
 {
     for i in 0..picks.len() {
         if let Some(pick) = picks.get(i) {
-            let actor = actor_picked(board, pick.who);
-            add_pick_times(board, actor, pick.times)?;
+            add_pick_times(board, pick.who, pick.times)?;
         }
     }
     Ok(())
@@ -160,15 +159,4 @@ fn add_pick_times(board: &mut Board, actor: Actor, times: u32) -> Result<(), NoM
         board.add_pick(actor)?;
     }
     Ok(())
-}
-
-/// The actor that is picked.
-fn actor_picked(board: &Board, who: Picked) -> Actor
-    ensures { result ≡ actor_picked board.now.devices who }
-{
-    match who {
-        Picked::Thread(dev) => Actor::Thread(line_of_device(board, dev), dev),
-        Picked::Cpu(cpu) => Actor::Cpu(cpu),
-        Picked::Driver(driver) => Actor::Driver(driver),
-    }
 }

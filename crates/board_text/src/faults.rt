@@ -14,8 +14,8 @@ ghost use Rattle.board_stated.specs.Stated.{line_of_call};
 
 use affinity::has_processor;
 use board_def::{Board, Name};
-use board_words::{CallWords, PickList, Picked, Statement};
-use irq_base::{DriverNo, LineNo};
+use board_words::{CallWords, PickList, Statement};
+use irq_base::{Actor, DriverNo, LineNo};
 
 /// The most domains of a board.
 const MOST_DOMAINS: usize = 32;
@@ -149,16 +149,16 @@ fn any_picks_nothing(board: &Board, picks: &PickList) -> bool
 }
 
 /// Whether there is no such actor.
-fn picks_nothing(board: &Board, who: Picked) -> bool
+fn picks_nothing(board: &Board, who: Actor) -> bool
     ensures { result ≡ picks_nothing board.now who }
 {
     match who {
-        Picked::Thread(dev) => match board.find_device(dev) {
+        Actor::Thread(dev) => match board.find_device(dev) {
             Some(device) => !device.kind.has_thread(),
             None => true,
         },
-        Picked::Cpu(cpu) => board.cpus() <= cpu.0,
-        Picked::Driver(driver) => !board.has_driver(driver),
+        Actor::Cpu(cpu) => board.cpus() <= cpu.0,
+        Actor::Driver(driver) => !board.has_driver(driver),
     }
 }
 

@@ -3,8 +3,8 @@ use Rattle.std.specs.Prelude.{ℕ, ◌+◌, ◌-◌, ◌*◌, Bool, false, not, 
 use Rattle.std.specs.Prelude.{if◌then◌else◌, Option, Some, None, List, [], ◌∷◌, length}
 use Rattle.std.specs.List.{list_all}
 use Rattle.board_def.specs.Names.{is_digit}
-use Rattle.board_words.specs.declared.statements.Picked.{Picked}
-use Rattle.board_words.specs.declared.statements.Picked.TheVariants as picked
+use Rattle.irq_base.specs.declared.entries.Actor.{Actor}
+use Rattle.irq_base.specs.declared.entries.Actor.TheVariants as actors
 use Rattle.board_words.specs.declared.statements.PickWord.{PickWord}
 
 -- the number whose digits are those of n, followed by these
@@ -49,21 +49,21 @@ abbrev pub times_of : Option (List ℕ) → Option ℕ
 times_of None = Some 1
 times_of (Some word) = number_between 1 65535 word
 
-abbrev pub numbered : (ℕ → Picked) → Option ℕ → Option Picked
+abbrev pub numbered : (ℕ → Actor) → Option ℕ → Option Actor
 numbered which (Some n) = Some (which n)
 numbered which None = None
 
 -- `t` and a device's number, `c` and a processor's, `d` and a driver's
-abbrev pub picked_of : List ℕ → Option Picked
+abbrev pub picked_of : List ℕ → Option Actor
 picked_of [] = None
 picked_of (b ∷ bs) =
-    if b == 116 then numbered (λ n. picked.Thread (record { 0 = n })) (number_between 1 65535 bs)
-    else if b == 99 then numbered (λ n. picked.Cpu (record { 0 = n })) (number_between 0 31 bs)
+    if b == 116 then numbered (λ n. actors.Thread (record { 0 = n })) (number_between 1 65535 bs)
+    else if b == 99 then numbered (λ n. actors.Cpu (record { 0 = n })) (number_between 0 31 bs)
     else if b == 100
-    then numbered (λ n. picked.Driver (record { 0 = n })) (number_between 1 65535 bs)
+    then numbered (λ n. actors.Driver (record { 0 = n })) (number_between 1 65535 bs)
     else None
 
-abbrev pub both_of : Option Picked → Option ℕ → Option PickWord
+abbrev pub both_of : Option Actor → Option ℕ → Option PickWord
 both_of (Some who) (Some times) = Some (record { who = who; times = times })
 both_of _ _ = None
 

@@ -22,7 +22,7 @@ pub use faults::{BoardFault, FaultKind};
 pub use reading::read_statement;
 pub use spelling::{name, number, pick};
 pub use statements::{
-    CallWords, DomainWords, LineWords, PickList, PickWord, Picked, Statement, StatementRefused,
+    CallWords, DomainWords, LineWords, PickList, PickWord, Statement, StatementRefused,
 };
 pub use text_lines::{TextLines, has_bad_byte};
 pub use words::Words;

@@ -8,9 +8,9 @@ ghost use Rattle.board_words.specs.Spelling.{value_of, is_decimal, begins_with_z
 ghost use Rattle.board_words.specs.Spelling.{number_between, before_star, after_star, times_of};
 ghost use Rattle.board_words.specs.Spelling.{picked_of, pick_of};
 
-use crate::statements::{PickWord, Picked};
+use crate::statements::PickWord;
 use board_def::{LONGEST_NAME, Name};
-use irq_base::{CpuNo, DevNo, DriverNo};
+use irq_base::{Actor, CpuNo, DevNo, DriverNo};
 
 /// The most digits of a number.
 const LONGEST_NUMBER: usize = 10;
@@ -174,14 +174,14 @@ fn star(word: &[u8]) -> Option<usize>
 }
 
 /// The actor that the pick names.
-fn picked(word: &[u8]) -> Option<Picked>
+fn picked(word: &[u8]) -> Option<Actor>
     ensures { result ≡ picked_of word.now }
 {
     let (first, rest) = word.split_first()?;
     match *first {
-        b't' => Some(Picked::Thread(DevNo(number(rest, 1, 65_535)?))),
-        b'c' => Some(Picked::Cpu(CpuNo(number(rest, 0, 31)?))),
-        b'd' => Some(Picked::Driver(DriverNo(number(rest, 1, 65_535)?))),
+        b't' => Some(Actor::Thread(DevNo(number(rest, 1, 65_535)?))),
+        b'c' => Some(Actor::Cpu(CpuNo(number(rest, 0, 31)?))),
+        b'd' => Some(Actor::Driver(DriverNo(number(rest, 1, 65_535)?))),
         _ => None,
     }
 }

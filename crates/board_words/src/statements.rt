@@ -2,7 +2,7 @@
 use crate::faults::FaultKind;
 use board_def::Name;
 use irq_base::{
-    ControllerKind, CpuNo, DevNo, DriverNo, Flags, ItemList, Kind, LineNo, MapKind, NoMemory,
+    Actor, ControllerKind, DevNo, DriverNo, Flags, ItemList, Kind, LineNo, MapKind, NoMemory,
 };
 use thiserror::Error;
 
@@ -85,22 +85,11 @@ pub enum CallWords {
     },
 }
 
-/// The actor of a pick.
-#[derive(Clone, Copy, PartialEq, Eq)]
-pub enum Picked {
-    /// The thread of a device.
-    Thread(DevNo),
-    /// A processor.
-    Cpu(CpuNo),
-    /// A driver.
-    Driver(DriverNo),
-}
-
 /// One word of a `picks` statement.
 #[derive(Clone, Copy, PartialEq, Eq)]
 pub struct PickWord {
     /// The actor.
-    pub who: Picked,
+    pub who: Actor,
     /// How many steps of the actor, 1 to 65,535.
     pub times: u32,
 }

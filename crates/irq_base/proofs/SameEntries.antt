@@ -6,10 +6,21 @@ use Rattle.irq_base.specs.declared.calls.Flags.{Flags}
 use Rattle.irq_base.specs.declared.entries.LinkAnswer.{LinkAnswer}
 use Rattle.irq_base.specs.declared.entries.Opened.{Opened}
 use Rattle.irq_base.specs.declared.entries.Entry.{Entry}
-use Rattle.irq_base.specs.declared.entries.Entry.TheVariants as entries
+use Rattle.irq_base.specs.declared.entries.Entry.TheVariants as by
+use Rattle.irq_base.specs.declared.entries.CpuEntry.{CpuEntry}
+use Rattle.irq_base.specs.declared.entries.CpuEntry.TheVariants as cpus
+use Rattle.irq_base.specs.declared.entries.ThreadEntry.{ThreadEntry}
+use Rattle.irq_base.specs.declared.entries.DriverEntry.{DriverEntry}
+use Rattle.irq_base.specs.declared.entries.DriverEntry.TheVariants as drivers
+use Rattle.irq_base.specs.declared.entries.CallEntry.{CallEntry}
+use Rattle.irq_base.specs.declared.entries.CallEntry.TheVariants as called
 use Rattle.irq_base.specs.contracts.calls.FlagsPartialEq.TheImpl as flags_eq
 use Rattle.irq_base.specs.contracts.entries.LinkAnswerPartialEq.TheImpl as link_eq
 use Rattle.irq_base.specs.contracts.entries.OpenedPartialEq.TheImpl as opened_eq
+use Rattle.irq_base.specs.contracts.entries.CpuEntryPartialEq.TheImpl as cpu_eq
+use Rattle.irq_base.specs.contracts.entries.ThreadEntryPartialEq.TheImpl as thread_eq
+use Rattle.irq_base.specs.contracts.entries.DriverEntryPartialEq.TheImpl as driver_eq
+use Rattle.irq_base.specs.contracts.entries.CallEntryPartialEq.TheImpl as call_eq
 use Rattle.irq_base.specs.contracts.entries.EntryPartialEq.TheImpl as entry_eq
 use Rattle.irq_base.specs.contracts.entries.EntryEq.TheImpl.Laws as entry_laws
 
@@ -22,58 +33,74 @@ same_link p q h = search rules
 same_opened : (p q : Opened) → (opened_eq.eq-value).it p q ≡ true → p ≡ q
 same_opened p q h = search rules
 
+same_cpu_entry : (p q : CpuEntry) → (cpu_eq.eq-value).it p q ≡ true → p ≡ q
+same_cpu_entry (cpus.Take a b) (cpus.Take v w) h = search rules
+same_cpu_entry (cpus.Take a b) q h = cc
+same_cpu_entry (cpus.Begin a) (cpus.Begin v) h = search rules
+same_cpu_entry (cpus.Begin a) q h = cc
+same_cpu_entry (cpus.Return a b c) (cpus.Return v w x) h = search rules
+same_cpu_entry (cpus.Return a b c) q h = cc
+same_cpu_entry (cpus.End a b c) (cpus.End v w x) h = search rules
+same_cpu_entry (cpus.End a b c) q h = cc
+
+same_thread_entry : (p q : ThreadEntry) → (thread_eq.eq-value).it p q ≡ true → p ≡ q
+same_thread_entry p q h = search rules
+
+same_driver_entry : (p q : DriverEntry) → (driver_eq.eq-value).it p q ≡ true → p ≡ q
+same_driver_entry (drivers.Ask a b) (drivers.Ask v w) h = search rules
+same_driver_entry (drivers.Ask a b) q h = cc
+same_driver_entry (drivers.Request a b c d) (drivers.Request v w x y) h =
+    let flags = (flags_eq.eq-value).it a v in
+    let links = (link_eq.eq-value).it b w in
+    let opens = (opened_eq.eq-value).it c x in
+    let dev = nat_eq d.0 y.0 in
+    let all = and_parts flags (links && (opens && dev)) h in
+    let but_flags = and_parts links (opens && dev) all.1 in
+    let answers = and_parts opens dev but_flags.1 in
+    let same_a = same_flags a v all.0 in
+    let same_b = same_link b w but_flags.0 in
+    let same_c = same_opened c x answers.0 in
+    let same_d : d ≡ y = (let n = answers.1 in search rules) in
+    cc
+same_driver_entry (drivers.Request a b c d) q h = cc
+same_driver_entry (drivers.Affinity a b) (drivers.Affinity v w) h = search rules
+same_driver_entry (drivers.Affinity a b) q h = cc
+same_driver_entry (drivers.Moment a) (drivers.Moment v) h = search rules
+same_driver_entry (drivers.Moment a) q h = cc
+
+same_call : (p q : CallEntry) → (call_eq.eq-value).it p q ≡ true → p ≡ q
+same_call called.Disable q h = search rules
+same_call called.HardClear q h = search rules
+same_call called.Synced q h = search rules
+same_call (called.Enable a) (called.Enable v) h = search rules
+same_call (called.Enable a) q h = cc
+same_call (called.Unlink a b) (called.Unlink v w) h = search rules
+same_call (called.Unlink a b) q h = cc
+same_call (called.Freed a) (called.Freed v) h = search rules
+same_call (called.Freed a) q h = cc
+same_call (called.Wake a b) (called.Wake v w) h = search rules
+same_call (called.Wake a b) q h = cc
+same_call (called.Quiet a) (called.Quiet v) h = search rules
+same_call (called.Quiet a) q h = cc
+same_call (called.Arm a b) (called.Arm v w) h = search rules
+same_call (called.Arm a b) q h = cc
+same_call (called.Serve a b) (called.Serve v w) h = search rules
+same_call (called.Serve a b) q h = cc
+
 -- two entries that are equal are one
 pub same_entries : (p q : Entry) → (entry_eq.eq-value).it p q ≡ true → p ≡ q
-same_entries (entries.Ask a b) (entries.Ask v w) h = search rules
-same_entries (entries.Ask a b) q h = cc
-same_entries (entries.Take a b c) (entries.Take v w x) h = search rules
-same_entries (entries.Take a b c) q h = cc
-same_entries (entries.Begin a b) (entries.Begin v w) h = search rules
-same_entries (entries.Begin a b) q h = cc
-same_entries (entries.Return a b c d) (entries.Return v w x y) h = search rules
-same_entries (entries.Return a b c d) q h = cc
-same_entries (entries.End a b c d) (entries.End v w x y) h = search rules
-same_entries (entries.End a b c d) q h = cc
-same_entries (entries.ThreadBegin a) (entries.ThreadBegin v) h = search rules
-same_entries (entries.ThreadBegin a) q h = cc
-same_entries (entries.ThreadReturn a b) (entries.ThreadReturn v w) h = search rules
-same_entries (entries.ThreadReturn a b) q h = cc
-same_entries (entries.Finish a b c) (entries.Finish v w x) h = search rules
-same_entries (entries.Finish a b c) q h = cc
-same_entries (entries.Done a) (entries.Done v) h = search rules
-same_entries (entries.Done a) q h = cc
-same_entries (entries.Disable a) (entries.Disable v) h = search rules
-same_entries (entries.Disable a) q h = cc
-same_entries (entries.HardClear a) (entries.HardClear v) h = search rules
-same_entries (entries.HardClear a) q h = cc
-same_entries (entries.Synced a) (entries.Synced v) h = search rules
-same_entries (entries.Synced a) q h = cc
-same_entries (entries.Enable a b) (entries.Enable v w) h = search rules
-same_entries (entries.Enable a b) q h = cc
-same_entries (entries.Request a b c d e) (entries.Request v w x y z) h =
-    let flags = (flags_eq.eq-value).it c x in
-    let links = (link_eq.eq-value).it d y in
-    let opens = (opened_eq.eq-value).it e z in
-    let dev = nat_eq b.0 w.0 in
-    let all = and_parts (nat_eq a.0 v.0) (dev && (flags && (links && opens))) h in
-    let but_driver = and_parts dev (flags && (links && opens)) all.1 in
-    let but_dev = and_parts flags (links && opens) but_driver.1 in
-    let answers = and_parts links opens but_dev.1 in
-    let same_driver : a ≡ v = (let n = all.0 in search rules) in
-    let same_dev : b ≡ w = (let n = but_driver.0 in search rules) in
-    let same_c = same_flags c x but_dev.0 in
-    let same_d = same_link d y answers.0 in
-    let same_e = same_opened e z answers.1 in
-    cc
-same_entries (entries.Request a b c d e) q h = cc
-same_entries (entries.Unlink a b c) (entries.Unlink v w x) h = search rules
-same_entries (entries.Unlink a b c) q h = cc
-same_entries (entries.Freed a b) (entries.Freed v w) h = search rules
-same_entries (entries.Freed a b) q h = cc
-same_entries (entries.Affinity a b c) (entries.Affinity v w x) h = search rules
-same_entries (entries.Affinity a b c) q h = cc
-same_entries (entries.Moment a b) (entries.Moment v w) h = search rules
-same_entries (entries.Moment a b) q h = cc
+same_entries (by.Cpu a b) (by.Cpu v w) h = search (rules, same_cpu_entry b w)
+same_entries (by.Cpu a b) q h = cc
+same_entries (by.Thread a b) (by.Thread v w) h = search (rules, same_thread_entry b w)
+same_entries (by.Thread a b) q h = cc
+same_entries (by.Driver a b) (by.Driver v w) h = search (rules, same_driver_entry b w)
+same_entries (by.Driver a b) q h = cc
+same_entries (by.CpuCall a b) (by.CpuCall v w) h = search (rules, same_call b w)
+same_entries (by.CpuCall a b) q h = cc
+same_entries (by.ThreadCall a b) (by.ThreadCall v w) h = search (rules, same_call b w)
+same_entries (by.ThreadCall a b) q h = cc
+same_entries (by.DriverCall a b) (by.DriverCall v w) h = search (rules, same_call b w)
+same_entries (by.DriverCall a b) q h = cc
 
 -- the test whether an entry was found, and is that one
 pub found_same : (found : Option Entry) (p : Entry) (answer : Bool)

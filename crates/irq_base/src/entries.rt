@@ -4,7 +4,7 @@ ghost use Rattle.irq_base.specs.Who.{actor_of};
 
 use crate::calls::Flags;
 use crate::devices::Answer;
-use crate::numbers::{CpuNo, DevNo, DriverNo, LineNo};
+use crate::numbers::{CpuNo, DevNo, DriverNo};
 
 /// The error numbers that calls answer (`include/uapi/asm-generic/errno-base.h`).
 #[derive(Clone, Copy, PartialEq, Eq)]
@@ -19,7 +19,7 @@ pub enum Errno {
 #[derive(Clone, Copy, PartialEq, Eq)]
 pub enum Actor {
     /// The thread of a device (`irq_thread`, `kernel/irq/manage.c`).
-    Thread(LineNo, DevNo),
+    Thread(DevNo),
     /// A processor in its interrupt entry.
     Cpu(CpuNo),
     /// A driver in process context.
@@ -123,136 +123,132 @@ pub enum AffinityAnswer {
     Refused(Errno),
 }
 
-/// One hold of a line's lock in this model; Linux makes some of these steps without its lock.
+/// What a processor does in the flow of an interrupt. The small fields come first, so that an entry
+/// takes twenty bytes.
 #[derive(Clone, Copy, PartialEq, Eq)]
-pub enum Entry {
-    /// A device asks for service.
-    Ask {
-        driver: DriverNo,
-        dev: DevNo,
-    },
-    /// A processor takes an interrupt: the flow handler up to its first handler, or the whole flow
-    /// handler if the answer is Busy or Off.
+pub enum CpuEntry {
+    /// It takes an interrupt: the flow handler up to its first handler, or the whole flow handler
+    /// if the answer is Busy or Off.
     Take {
-        cpu: CpuNo,
         way: Way,
         answer: TakeAnswer,
     },
     /// A primary handler is called (`__handle_irq_event_percpu`, `kernel/irq/handle.c`).
     Begin {
-        cpu: CpuNo,
         dev: DevNo,
     },
     /// The handler returned. `served`: how many asks it served.
     Return {
-        cpu: CpuNo,
-        dev: DevNo,
         answer: Answer,
+        dev: DevNo,
         served: u32,
     },
     /// The note (`note_interrupt`), and the rest of the flow handler once the last handler has
     /// returned. `again`: an interrupt that came meanwhile is handled too. `unmask`: the chip's
     /// mask is opened.
     End {
-        cpu: CpuNo,
         again: bool,
         unmask: bool,
         note: Note,
     },
-    /// A thread finds that it is to run, and clears the mark (`irq_wait_for_interrupt`,
+}
+
+/// What the thread of a device does.
+#[derive(Clone, Copy, PartialEq, Eq)]
+pub enum ThreadEntry {
+    /// It finds that it is to run, and clears the mark (`irq_wait_for_interrupt`,
     /// `kernel/irq/manage.c`).
-    ThreadBegin {
-        dev: DevNo,
-    },
-    /// The thread's handler returned. `served`: how many asks it served.
-    ThreadReturn {
-        dev: DevNo,
-        served: u32,
-    },
+    Begin,
+    /// Its handler returned. `handled`: whether the answer is IRQ_HANDLED. `served`: how many asks
+    /// it served.
+    Return { handled: bool, served: u32 },
     /// `irq_finalize_oneshot`. `kept`: the thread was woken again, and its bit stays. `unmask`: the
     /// chip's mask is opened.
-    Finish {
+    Finish { kept: bool, unmask: bool },
+    /// Its run is counted off, and it waits for its next wake (`wake_threads_waitq`).
+    Done,
+}
+
+/// What a driver does alone, in process context.
+#[derive(Clone, Copy, PartialEq, Eq)]
+pub enum DriverEntry {
+    /// A device asks for service. `edge`: whether it makes an edge, on an edge line; a level line's
+    /// asks all count as such.
+    Ask {
+        edge: bool,
         dev: DevNo,
-        kept: bool,
-        unmask: bool,
-    },
-    /// The thread's run is counted off, and it waits for its next wake (`wake_threads_waitq`).
-    Done {
-        dev: DevNo,
-    },
-    /// The depth grows by one (`__disable_irq`, `kernel/irq/manage.c`).
-    Disable {
-        driver: DriverNo,
-    },
-    /// `__synchronize_hardirq` found no flow in progress.
-    HardClear {
-        driver: DriverNo,
-    },
-    /// `synchronize_irq` found no thread at work.
-    Synced {
-        driver: DriverNo,
-    },
-    /// `enable_irq`.
-    Enable {
-        driver: DriverNo,
-        answer: EnableAnswer,
     },
     /// `__setup_irq`. A refused request has `opened` No.
     Request {
-        driver: DriverNo,
-        dev: DevNo,
         flags: Flags,
         answer: LinkAnswer,
         opened: Opened,
-    },
-    /// The first step of `__free_irq`.
-    Unlink {
-        driver: DriverNo,
-        dev: DevNo,
-        answer: UnlinkAnswer,
-    },
-    /// The last step of `__free_irq`: the device's thread is at rest.
-    Freed {
-        driver: DriverNo,
         dev: DevNo,
     },
     /// `irq_set_affinity`.
     Affinity {
-        driver: DriverNo,
-        mask: u32,
         answer: AffinityAnswer,
+        mask: u32,
     },
     /// The time in milliseconds is handed in.
     Moment {
-        driver: DriverNo,
         at: u32,
     },
 }
 
+/// A step of a call that a driver makes, and that a handler or a thread may make within its run.
+#[derive(Clone, Copy, PartialEq, Eq)]
+pub enum CallEntry {
+    /// The depth grows by one (`__disable_irq`, `kernel/irq/manage.c`).
+    Disable,
+    /// `__synchronize_hardirq` found no flow in progress.
+    HardClear,
+    /// `synchronize_irq` found no thread at work.
+    Synced,
+    /// `enable_irq`.
+    Enable { answer: EnableAnswer },
+    /// The first step of `__free_irq`.
+    Unlink { answer: UnlinkAnswer, dev: DevNo },
+    /// The last step of `__free_irq`: the device's thread is at rest.
+    Freed { dev: DevNo },
+    /// `irq_wake_thread`. `woken`: whether the thread is woken by it. No step makes it yet.
+    Wake { woken: bool, dev: DevNo },
+    /// The device's own interrupt is turned off. No step makes it yet.
+    Quiet { dev: DevNo },
+    /// The device's own interrupt is turned on. `edge`: whether that makes an edge. No step makes
+    /// it yet.
+    Arm { edge: bool, dev: DevNo },
+    /// The device is served outside of a return. `served`: how many asks. No step makes it yet.
+    Serve { dev: DevNo, served: u32 },
+}
+
+/// One hold of a line's lock in this model, by who makes it; Linux makes some of these steps
+/// without its lock.
+#[derive(Clone, Copy, PartialEq, Eq)]
+pub enum Entry {
+    /// By a processor, in the flow of an interrupt.
+    Cpu(CpuNo, CpuEntry),
+    /// By the thread of a device.
+    Thread(DevNo, ThreadEntry),
+    /// By a driver.
+    Driver(DriverNo, DriverEntry),
+    /// By a handler, on its processor. No step makes it yet.
+    CpuCall(CpuNo, CallEntry),
+    /// By the handler of a device's thread. No step makes it yet.
+    ThreadCall(DevNo, CallEntry),
+    /// By a driver.
+    DriverCall(DriverNo, CallEntry),
+}
+
 impl Entry {
-    /// Who made the entry: its processor, the thread of its device on that line, or its driver.
-    pub fn actor(&self, line: LineNo) -> Actor
-        ensures { result ≡ actor_of line self.now }
+    /// Who made the entry.
+    pub fn actor(&self) -> Actor
+        ensures { result ≡ actor_of self.now }
     {
         match *self {
-            Entry::Take { cpu, .. }
-            | Entry::Begin { cpu, .. }
-            | Entry::Return { cpu, .. }
-            | Entry::End { cpu, .. } => Actor::Cpu(cpu),
-            Entry::ThreadBegin { dev }
-            | Entry::ThreadReturn { dev, .. }
-            | Entry::Finish { dev, .. }
-            | Entry::Done { dev } => Actor::Thread(line, dev),
-            Entry::Ask { driver, .. }
-            | Entry::Disable { driver }
-            | Entry::HardClear { driver }
-            | Entry::Synced { driver }
-            | Entry::Enable { driver, .. }
-            | Entry::Request { driver, .. }
-            | Entry::Unlink { driver, .. }
-            | Entry::Freed { driver, .. }
-            | Entry::Affinity { driver, .. }
-            | Entry::Moment { driver, .. } => Actor::Driver(driver),
+            Entry::Cpu(cpu, _) | Entry::CpuCall(cpu, _) => Actor::Cpu(cpu),
+            Entry::Thread(dev, _) | Entry::ThreadCall(dev, _) => Actor::Thread(dev),
+            Entry::Driver(driver, _) | Entry::DriverCall(driver, _) => Actor::Driver(driver),
         }
     }
 }

@@ -15,7 +15,7 @@ use std::marker::Model;
 /// and `spare`, how many more fit without memory.
 ///
 /// An entry takes eight bytes. Only wide entries stand in a list of their own: those with a number
-/// that no board has, a processor above 31, or a driver or a device above 65,535.
+/// that no board has, as a processor or a device above 65,535.
 #[derive(Drop)]
 pub struct History {
     words: Vec<Packed>,

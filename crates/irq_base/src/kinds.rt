@@ -1,8 +1,9 @@
 //! The kinds of entries that a summary tells apart.
 ghost use Rattle.std.specs.Prelude.{◌≡◌};
-ghost use Rattle.irq_base.specs.EntryKinds.{kind_of_end, kind_of_entry};
+ghost use Rattle.irq_base.specs.EntryKinds.{kind_of_call, kind_of_cpu, kind_of_driver, kind_of_end};
+ghost use Rattle.irq_base.specs.EntryKinds.{kind_of_entry, kind_of_thread};
 
-use crate::entries::{Entry, Note};
+use crate::entries::{CallEntry, CpuEntry, DriverEntry, Entry, Note, ThreadEntry};
 
 /// The kind of an entry, among the kinds that a summary tells apart.
 #[derive(Clone, Copy, PartialEq, Eq)]
@@ -31,24 +32,60 @@ pub(crate) fn kind_of(entry: Entry) -> EntryKind
     ensures { result ≡ kind_of_entry entry }
 {
     match entry {
-        Entry::Ask { .. } => EntryKind::Ask,
-        Entry::Take { .. } => EntryKind::Take,
-        Entry::Begin { .. } => EntryKind::Begin,
-        Entry::Return { served, .. } => EntryKind::Return { served },
-        Entry::End { note, .. } => kind_of_end(note),
-        Entry::ThreadBegin { .. } => EntryKind::ThreadBegin,
-        Entry::ThreadReturn { served, .. } => EntryKind::ThreadReturn { served },
-        Entry::Disable { .. }
-        | Entry::Enable { .. }
-        | Entry::Request { .. }
-        | Entry::Unlink { .. } => EntryKind::Standing,
-        Entry::Finish { .. }
-        | Entry::Done { .. }
-        | Entry::HardClear { .. }
-        | Entry::Synced { .. }
-        | Entry::Freed { .. }
-        | Entry::Affinity { .. }
-        | Entry::Moment { .. } => EntryKind::Other,
+        Entry::Cpu(_, entry) => kind_of_cpu(entry),
+        Entry::Thread(_, entry) => kind_of_thread(entry),
+        Entry::Driver(_, entry) => kind_of_driver(entry),
+        Entry::CpuCall(_, call) | Entry::ThreadCall(_, call) | Entry::DriverCall(_, call) => {
+            kind_of_call(call)
+        }
+    }
+}
+
+fn kind_of_cpu(entry: CpuEntry) -> EntryKind
+    ensures { result ≡ kind_of_cpu entry }
+{
+    match entry {
+        CpuEntry::Take { .. } => EntryKind::Take,
+        CpuEntry::Begin { .. } => EntryKind::Begin,
+        CpuEntry::Return { served, .. } => EntryKind::Return { served },
+        CpuEntry::End { note, .. } => kind_of_end(note),
+    }
+}
+
+fn kind_of_thread(entry: ThreadEntry) -> EntryKind
+    ensures { result ≡ kind_of_thread entry }
+{
+    match entry {
+        ThreadEntry::Begin => EntryKind::ThreadBegin,
+        ThreadEntry::Return { served, .. } => EntryKind::ThreadReturn { served },
+        ThreadEntry::Finish { .. } | ThreadEntry::Done => EntryKind::Other,
+    }
+}
+
+fn kind_of_driver(entry: DriverEntry) -> EntryKind
+    ensures { result ≡ kind_of_driver entry }
+{
+    match entry {
+        DriverEntry::Ask { .. } => EntryKind::Ask,
+        DriverEntry::Request { .. } => EntryKind::Standing,
+        DriverEntry::Affinity { .. } | DriverEntry::Moment { .. } => EntryKind::Other,
+    }
+}
+
+fn kind_of_call(call: CallEntry) -> EntryKind
+    ensures { result ≡ kind_of_call call }
+{
+    match call {
+        CallEntry::Disable | CallEntry::Enable { .. } | CallEntry::Unlink { .. } => {
+            EntryKind::Standing
+        }
+        CallEntry::HardClear
+        | CallEntry::Synced
+        | CallEntry::Freed { .. }
+        | CallEntry::Wake { .. }
+        | CallEntry::Quiet { .. }
+        | CallEntry::Arm { .. }
+        | CallEntry::Serve { .. } => EntryKind::Other,
     }
 }
 

@@ -29,8 +29,8 @@ pub use chip::Chip;
 pub use devices::{Answer, DeviceDef, DeviceList, Kind, Part, Run};
 pub use domains::{ControllerKind, DomainDef, MapKind, Path};
 pub use entries::{
-    Actor, AffinityAnswer, EnableAnswer, Entry, Errno, LinkAnswer, Note, Opened, Resend,
-    TakeAnswer, UnlinkAnswer, Way,
+    Actor, AffinityAnswer, CallEntry, CpuEntry, DriverEntry, EnableAnswer, Entry, Errno,
+    LinkAnswer, Note, Opened, Resend, TakeAnswer, ThreadEntry, UnlinkAnswer, Way,
 };
 pub use histories::History;
 pub use kinds::EntryKind;

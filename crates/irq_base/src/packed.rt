@@ -4,19 +4,21 @@ ghost use Rattle.std.specs.Prelude.{[], get_or};
 ghost use Rattle.irq_base.specs.EntryKinds.{kind_of_entry};
 ghost use Rattle.irq_base.specs.Packed.{parts_of, is_wide, place_of, unpack, is_narrow, nothing};
 
-use crate::entries::Entry;
+use crate::entries::{Entry, ThreadEntry};
 use crate::kinds::{EntryKind, kind_of};
 use crate::numbers::DevNo;
-use crate::parts::Parts;
+use crate::parts::{Content, Parts};
 
-/// One entry in a word, or the place of a wide entry. From its low end the word has a tag of 5
-/// bits, a code of 8, a first number of 16 and a second of 32. If the tag is 31, all other bits are
-/// a place in the list of wide entries.
+/// One entry in a word, or the place of a wide entry. From its low end the word has two bits that
+/// say who made the entry, four of its kind, a code of 8, a first number of 16 and a second of 32.
+/// If the lowest two say 3, all other bits are a place in the list of wide entries.
 #[derive(Clone, Copy, PartialEq, Eq)]
 pub struct Packed(u64);
 
 // How many numbers each part has, from the low end.
-const TAGS: u64 = 32;
+const MAKERS: u64 = 4;
+
+const KINDS: u64 = 16;
 
 const CODES: u64 = 256;
 
@@ -24,44 +26,51 @@ const FIRSTS: u64 = 65_536;
 
 const SECONDS: u64 = 4_294_967_296;
 
-/// The tag of a word that holds the place of a wide entry.
-const WIDE: u64 = 31;
+/// What a word that holds the place of a wide entry has where others say who made them.
+const WIDE: u64 = 3;
 
 impl Packed {
     /// The word made of these parts.
     pub(crate) fn of_parts(parts: Parts) -> Packed
-        requires tag { parts.tag < 31 }
-        requires code { parts.code < 256 }
+        requires who { parts.who < 3 }
+        requires kind { parts.content.kind < 16 }
+        requires code { parts.content.code < 256 }
         requires first { parts.first < 65536 }
         ensures narrow { is_wide result ≡ false }
         ensures parts { parts_of result ≡ parts }
     {
-        let first = u64::from(parts.first) + FIRSTS * u64::from(parts.second);
-        let code = u64::from(parts.code) + CODES * first;
-        Packed(u64::from(parts.tag) + TAGS * code)
+        let first = u64::from(parts.first) + FIRSTS * u64::from(parts.content.second);
+        let code = u64::from(parts.content.code) + CODES * first;
+        let kind = u64::from(parts.content.kind) + KINDS * code;
+        Packed(u64::from(parts.who) + MAKERS * kind)
     }
 
     /// The word that holds a place in the list of wide entries.
     pub(crate) fn of_place(place: u64) -> Packed
-        requires { place < 2 ^ 59 }
+        requires { place < 2 ^ 62 }
         ensures wide { is_wide result ≡ true }
         ensures place { place_of result ≡ place }
     {
-        Packed(WIDE + TAGS * place)
+        Packed(WIDE + MAKERS * place)
     }
 
     /// The parts of the word.
     pub(crate) fn parts(self) -> Parts
         ensures { result ≡ parts_of self }
     {
-        let code = self.0 / TAGS;
+        let kind = self.0 / MAKERS;
+        let code = kind / KINDS;
         let first = code / CODES;
         let second = first / FIRSTS;
-        Parts {
-            tag: (self.0 % TAGS) as u32,
+        let content = Content {
+            kind: (kind % KINDS) as u32,
             code: (code % CODES) as u32,
-            first: (first % FIRSTS) as u32,
             second: (second % SECONDS) as u32,
+        };
+        Parts {
+            who: (self.0 % MAKERS) as u32,
+            first: (first % FIRSTS) as u32,
+            content,
         }
     }
 
@@ -88,7 +97,7 @@ impl Packed {
     pub(crate) fn narrow(self) -> Option<Packed>
         ensures { IfSome result (λ w. (wide : List Entry) → unpack wide self ≡ unpack [] w) }
     {
-        if self.0 % TAGS == WIDE {
+        if self.0 % MAKERS == WIDE {
             return None;
         }
         Some(self)
@@ -99,8 +108,8 @@ impl Packed {
     pub fn unpack(self, wide: &[Entry]) -> Entry
         ensures { result ≡ unpack wide.now self }
     {
-        if self.0 % TAGS == WIDE {
-            return entry_at(wide, self.0 / TAGS);
+        if self.0 % MAKERS == WIDE {
+            return entry_at(wide, self.0 / MAKERS);
         }
         self.parts().entry()
     }
@@ -110,8 +119,8 @@ impl Packed {
     pub fn kind(self, wide: &[Entry]) -> EntryKind
         ensures { result ≡ kind_of_entry (unpack wide.now self) }
     {
-        if self.0 % TAGS == WIDE {
-            return kind_of(entry_at(wide, self.0 / TAGS));
+        if self.0 % MAKERS == WIDE {
+            return kind_of(entry_at(wide, self.0 / MAKERS));
         }
         self.parts().kind()
     }
@@ -123,6 +132,6 @@ fn entry_at(wide: &[Entry], place: u64) -> Entry
 {
     match wide.get(place as usize) {
         Some(entry) => *entry,
-        None => Entry::Done { dev: DevNo(0) },
+        None => Entry::Thread(DevNo(0), ThreadEntry::Done),
     }
 }

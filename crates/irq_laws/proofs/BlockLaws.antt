@@ -1,7 +1,7 @@
 -- A driver with a due call may add its entry exactly if nothing that the call waits for stands in
 -- the way.
 use Rattle.std.proofs.Common.{◌≡◌, ℕ, zero, suc, ◌+◌, ◌≤◌, ◌==◌, Bool, true, false, not, ◌||◌, ◌&&◌, cond, Option, Some}
-use Rattle.std.proofs.Common.{None, is_some, List, [], ◌∷◌, refl, sym, ap, subst, ◌∙◌, arith, eqb-true}
+use Rattle.std.proofs.Common.{None, is_some, List, [], ◌∷◌, refl, sym, ap, subst, ◌∙◌, arith, eqb-true, option_map}
 use Rattle.std.specs.List.{list_any}
 use Rattle.std.proofs.lemmas.Bool.{false_from_ne_true, and_from, and_parts}
 use Rattle.irq_base.specs.declared.numbers.DevNo.{DevNo}
@@ -11,7 +11,9 @@ use Rattle.irq_base.specs.declared.calls.Call.TheVariants as calls
 use Rattle.irq_base.specs.declared.devices.DeviceDef.{DeviceDef}
 use Rattle.irq_base.specs.declared.lines.LineDef.{LineDef}
 use Rattle.irq_base.specs.declared.entries.Entry.{Entry}
-use Rattle.irq_base.specs.declared.entries.Entry.TheVariants as entries
+use Rattle.irq_base.specs.declared.entries.Entry.TheVariants as by
+use Rattle.irq_base.specs.declared.entries.CallEntry.{CallEntry}
+use Rattle.irq_base.specs.declared.entries.CallEntry.TheVariants as called
 use Rattle.irq_base.specs.declared.waiting.WaitFor.{WaitFor}
 use Rattle.irq_base.specs.declared.waiting.WaitFor.TheVariants as waits
 use Rattle.irq_model.specs.Legal.{IsLegalPast}
@@ -21,7 +23,8 @@ use Rattle.irq_model.specs.Reason.{is_being_freed}
 use Rattle.irq_model.specs.Rounds.{has_flow}
 use Rattle.irq_model.specs.Threads.{is_woken, is_running, active_count}
 use Rattle.irq_model.specs.Due.{due_call, holds_mutex}
-use Rattle.irq_model.specs.Next.{next_of_call, hard_clear_of, synced_of, freed_of, request_of, unlink_answer, next_past}
+use Rattle.irq_model.specs.Next.{next_of_free, next_of_disable, next_of_sync, next_of_call, hard_clear_of, synced_of}
+use Rattle.irq_model.specs.Next.{freed_of, request_of, unlink_answer, next_past}
 use Rattle.irq_model.specs.Valid.{IsValid}
 use Rattle.irq_base.specs.declared.entries.Actor.TheVariants as actors
 use Rattle.irq_steps.proofs.Same.{dev_from_same}
@@ -115,48 +118,61 @@ its_free def past valid legal r (calls.Moment at) n is = tt
 
 -- ---- the rows
 
-unless : (b : Bool) (e : Entry) → is_some (cond b None (Some e)) ≡ not b
+unless : {A : Type 0} (b : Bool) (e : A) → is_some (cond b None (Some e)) ≡ not b
 unless true e = refl
 unless false e = refl
 
-when : (b : Bool) (e : Entry) → is_some (cond b (Some e) None) ≡ b
+when : {A : Type 0} (b : Bool) (e : A) → is_some (cond b (Some e) None) ≡ b
 when true e = refl
 when false e = refl
 
-synced : (def : LineDef) (r : DriverNo) (past : List Entry) → is_some (synced_of def r past) ≡ not (stands_in_way def past waits.Threads)
-synced def r past =
-    when (active_count def past == 0) (entries.Synced r)
+synced : (def : LineDef) (past : List Entry) → is_some (synced_of def past) ≡ not (stands_in_way def past waits.Threads)
+synced def past =
+    when (active_count def past == 0) called.Synced
     ∙ none_counted (λ (x : DeviceDef). is_woken past x.dev) (λ (x : DeviceDef). is_running past x.dev) def.devices
 
-either : (def : LineDef) (past : List Entry) (b : Bool) (x y : Option Entry) (v w : WaitFor)
+either : (def : LineDef) (past : List Entry) (b : Bool) (x y : Option CallEntry) (v w : WaitFor)
     → is_some x ≡ not (stands_in_way def past v) → is_some y ≡ not (stands_in_way def past w)
     → is_some (cond b x y) ≡ not (stands_in_way def past (cond b v w))
 either def past true x y v w h i = h
 either def past false x y v w h i = i
 
+free_row : (def : LineDef) (past : List Entry) (d : DevNo) (n : ℕ) → IsFreed def past (calls.Free d) n
+    → is_some (next_of_free def d n past) ≡ not (stands_in_way def past (block_of (calls.Free d) n))
+free_row def past d zero freed = unless (holds_mutex past) (called.Unlink (unlink_answer d past) d)
+free_row def past d (suc n) freed =
+    either def past (suc n == 0) (cond (holds_mutex past) None (Some (called.Unlink (unlink_answer d past) d)))
+    (cond (suc n == 1) (hard_clear_of def past) (freed_of d past)) waits.Mutex
+    (cond (suc n == 1) waits.Flow waits.Freed)
+    (unless (holds_mutex past) (called.Unlink (unlink_answer d past) d))
+    (either def past (suc n == 1) (hard_clear_of def past) (freed_of d past) waits.Flow waits.Freed (unless (has_flow def past) called.HardClear)
+    (unless (is_woken past d || is_running past d) (called.Freed d) ∙ ap not freed))
+
+disable_row : (def : LineDef) (past : List Entry) (n : ℕ) → is_some (next_of_disable def n past) ≡ not (stands_in_way def past (block_of calls.Disable n))
+disable_row def past n =
+    either def past (n == 0) (Some called.Disable) (cond (n == 1) (hard_clear_of def past) (synced_of def past)) waits.Nothing
+    (cond (n == 1) waits.Flow waits.Threads) refl
+    (either def past (n == 1) (hard_clear_of def past) (synced_of def past) waits.Flow waits.Threads
+    (unless (has_flow def past) called.HardClear) (synced def past))
+
+sync_row : (def : LineDef) (past : List Entry) (n : ℕ) → is_some (next_of_sync def n past) ≡ not (stands_in_way def past (block_of calls.Sync n))
+sync_row def past n =
+    either def past (n == 0) (hard_clear_of def past) (synced_of def past) waits.Flow waits.Threads
+    (unless (has_flow def past) called.HardClear) (synced def past)
+
+made : (r : DriverNo) (o : Option CallEntry) → is_some (option_map (by.DriverCall r) o) ≡ is_some o
+made r None = refl
+made r (Some call) = refl
+
 row : (def : LineDef) (r : DriverNo) (past : List Entry) (c : Call) (n : ℕ) → IsFreed def past c n
     → is_some (next_of_call def r past (Some (c, n))) ≡ not (stands_in_way def past (block_of c n))
 row def r past (calls.Ask d) n freed = refl
 row def r past (calls.Request d flags) n freed = unless (holds_mutex past) (request_of def r d flags past)
-row def r past (calls.Free d) zero freed = unless (holds_mutex past) (entries.Unlink r d (unlink_answer d past))
-row def r past (calls.Free d) (suc n) freed =
-    either def past (suc n == 0) (cond (holds_mutex past) None (Some (entries.Unlink r d (unlink_answer d past))))
-    (cond (suc n == 1) (hard_clear_of def r past) (freed_of r d past)) waits.Mutex
-    (cond (suc n == 1) waits.Flow waits.Freed)
-    (unless (holds_mutex past) (entries.Unlink r d (unlink_answer d past)))
-    (either def past (suc n == 1) (hard_clear_of def r past) (freed_of r d past) waits.Flow waits.Freed (unless (has_flow def past) (entries.HardClear r))
-    (unless (is_woken past d || is_running past d) (entries.Freed r d) ∙ ap not freed))
-row def r past calls.Disable n freed =
-    either def past (n == 0) (Some (entries.Disable r))
-    (cond (n == 1) (hard_clear_of def r past) (synced_of def r past)) waits.Nothing
-    (cond (n == 1) waits.Flow waits.Threads) refl
-    (either def past (n == 1) (hard_clear_of def r past) (synced_of def r past) waits.Flow waits.Threads
-    (unless (has_flow def past) (entries.HardClear r)) (synced def r past))
+row def r past (calls.Free d) n freed = made r (next_of_free def d n past) ∙ free_row def past d n freed
+row def r past calls.Disable n freed = made r (next_of_disable def n past) ∙ disable_row def past n
 row def r past calls.DisableNosync n freed = refl
 row def r past calls.Enable n freed = refl
-row def r past calls.Sync n freed =
-    either def past (n == 0) (hard_clear_of def r past) (synced_of def r past) waits.Flow waits.Threads
-    (unless (has_flow def past) (entries.HardClear r)) (synced def r past)
+row def r past calls.Sync n freed = made r (next_of_sync def n past) ∙ sync_row def past n
 row def r past (calls.Affinity mask) n freed = refl
 row def r past (calls.Moment at) n freed = refl
 

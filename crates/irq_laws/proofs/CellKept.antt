@@ -1,6 +1,6 @@
 -- Each entry drives the cell to the marks that are read off the past.
 use Rattle.std.proofs.Common.{◌≡◌, ℕ, Bool, true, false, not, ◌||◌, ◌&&◌, cond, is_some, List, [], ◌∷◌, nat_lt, reverse, refl, sym, ap, ◌∙◌, arith}
-use Rattle.std.proofs.lemmas.Bool.{and_parts, or_parts, false_from_ne_true}
+use Rattle.std.proofs.lemmas.Bool.{and_parts, and_from, and_right, or_parts, false_from_ne_true}
 use Rattle.std.specs.List.{list_any}
 use Rattle.irq_base.specs.declared.numbers.CpuNo.{CpuNo}
 use Rattle.irq_base.specs.declared.devices.DeviceDef.{DeviceDef}
@@ -8,7 +8,11 @@ use Rattle.irq_base.specs.declared.lines.FlowKind.{FlowKind}
 use Rattle.irq_base.specs.declared.lines.FlowKind.TheVariants as flows
 use Rattle.irq_base.specs.declared.lines.LineDef.{LineDef}
 use Rattle.irq_base.specs.declared.entries.Entry.{Entry}
-use Rattle.irq_base.specs.declared.entries.Entry.TheVariants as entries
+use Rattle.irq_base.specs.declared.entries.Entry.TheVariants as by
+use Rattle.irq_base.specs.declared.entries.CpuEntry.TheVariants as cpus
+use Rattle.irq_base.specs.declared.entries.ThreadEntry.TheVariants as threads
+use Rattle.irq_base.specs.declared.entries.DriverEntry.TheVariants as drivers
+use Rattle.irq_base.specs.declared.entries.CallEntry.TheVariants as called
 use Rattle.irq_base.specs.declared.entries.Way.{Way}
 use Rattle.irq_base.specs.declared.entries.Way.TheVariants as ways
 use Rattle.irq_base.specs.declared.entries.TakeAnswer.{TakeAnswer}
@@ -18,7 +22,7 @@ use Rattle.irq_base.specs.declared.entries.Resend.TheVariants as resends
 use Rattle.irq_base.specs.declared.entries.Opened.{Opened}
 use Rattle.irq_base.specs.declared.entries.Opened.TheVariants as opens
 use Rattle.irq_base.specs.Cell.{Cell, after_edge, after_high, after_mask, after_unmask, after_ack, after_eoi, after_retrigger, signals as presents}
-use Rattle.irq_model.specs.Kinds.{is_any_ask, is_take, is_handle, is_again, is_leave, is_disable, is_kill}
+use Rattle.irq_model.specs.Kinds.{is_device_edge, is_take, is_handle, is_again, is_leave, is_disable, is_kill}
 use Rattle.irq_model.specs.Kinds.{is_last_unlink, is_start, is_reopening, is_chip_start, is_chip_opened, opened_of}
 use Rattle.irq_model.specs.Kinds.{is_started_opened}
 use Rattle.irq_model.specs.Lines.{is_edge_line, is_level_line, is_level_flow, is_eoi_flow, serves}
@@ -45,6 +49,7 @@ use Rattle.irq_laws.proofs.Starts.{chip_resend, soft_has_edges}
 use Rattle.irq_laws.proofs.LevelSteps.{moves_level, high_quiet, high_return, high_thread_return}
 use Rattle.irq_laws.proofs.CellSteps.{mask_is, accept_is, ack_is, eoi_is, same_rest, level_sent, marks, mask_to}
 use Rattle.irq_laws.proofs.CellSteps.{unmask_to, leaves, resend_to, again_to, edge_to, take_to}
+use Rattle.irq_laws.proofs.OwnLaws.{no_cpu_call, no_thread_call}
 
 -- ---- the level
 
@@ -82,24 +87,27 @@ opening def e past p still edgeless n =
 
 -- ---- a device asks, or a run of it returned
 
-asks : (def : LineDef) (e : Entry) (past : List Entry) → IsPlain e → is_any_ask e ≡ true
-    → is_masked def (e ∷ past) ≡ is_masked def past → asked def (e ∷ past) (cell_of def past) ≡ cell_of def (e ∷ past)
-asks def e past p ask same = by_line (is_edge_line def) refl
+asks : (def : LineDef) (e : Entry) (past : List Entry) (makes : Bool) → IsPlain e → is_edge def e ≡ (is_edge_line def && makes)
+    → is_masked def (e ∷ past) ≡ is_masked def past → asked def makes (e ∷ past) (cell_of def past) ≡ cell_of def (e ∷ past)
+asks def e past makes p comes same = by_line (is_edge_line def) makes refl refl
   where
-    is_one : (E a x : Bool) → E ≡ true → a ≡ true → (E && (a || x)) ≡ true
-    is_one E a x h g = grind arith
+    off : (E m : Bool) → E ≡ false → (E && m) ≡ false
+    off E m h = grind arith
 
-    is_none : (E x : Bool) → E ≡ false → (E && x) ≡ false
-    is_none E x h = grind arith
-
-    by_line : (b : Bool) → is_edge_line def ≡ b → cond b (after_edge (cell_of def past))
+    by_line : (b m : Bool) → is_edge_line def ≡ b → makes ≡ m → cond b (cond m (after_edge (cell_of def past)) (cell_of def past))
         (after_high (is_high def (e ∷ past)) (cell_of def past)) ≡ cell_of def (e ∷ past)
-    by_line true edge =
-        edge_to def e past (is_high def past) (serves def && has_flow def past) p.no_take (is_one (is_edge_line def) (is_any_ask e) _ edge ask) same
+    by_line true true edge is =
+        edge_to def e past (is_high def past) (serves def && has_flow def past) p.no_take (comes ∙ and_from _ _ edge is) same
         ∙ same_rest def _ _ _ _ _ _ _ (edge_high def past edge ∙ sym (edge_high def (e ∷ past) edge)) (in_service_same def e past p)
-    by_line false level =
-        leaves def e past (is_high def (e ∷ past)) (serves def && has_flow def past) p.no_take (is_none (is_edge_line def) _ level) same
+    by_line true false edge is =
+        leaves def e past (is_high def past) (serves def && has_flow def past) p.no_take (comes ∙ and_right (is_edge_line def) makes is) same
+        ∙ same_rest def _ _ _ _ _ _ _ (edge_high def past edge ∙ sym (edge_high def (e ∷ past) edge)) (in_service_same def e past p)
+    by_line false m level is =
+        leaves def e past (is_high def (e ∷ past)) (serves def && has_flow def past) p.no_take (comes ∙ off (is_edge_line def) makes level) same
         ∙ same_rest def _ _ _ _ _ _ _ refl (in_service_same def e past p)
+
+an_edge : (E m f : Bool) → (E && (m || (false || (f && false)))) ≡ (E && m)
+an_edge E m f = grind arith
 
 -- a run that served sets the level anew; one that served nothing leaves it
 returns : (def : LineDef) (e : Entry) (past : List Entry) (count : ℕ) → IsPlain e → is_edge def e ≡ false
@@ -145,7 +153,7 @@ masks_if def e past false p still edgeless n = quiet def e past p still edgeless
 -- ---- starts
 
 by_start : (def : LineDef) (e : Entry) (past : List Entry) (o : Opened) → IsDue def e past → opened_of e ≡ o → IsPlain e
-    → moves_level e ≡ false → is_any_ask e ≡ false → is_reopening e ≡ false → (is_disable e || is_kill e) ≡ false
+    → moves_level e ≡ false → is_device_edge e ≡ false → is_reopening e ≡ false → (is_disable e || is_kill e) ≡ false
     → is_last_unlink e ≡ false
     → retriggered_if (is_chip_opened o) (unmasked_if (is_started_opened o) (cell_of def past)) ≡ cell_of def (e ∷ past)
 by_start def e past o due is p still no_ask no_reopening no_deepening no_last = by_opened o is
@@ -166,7 +174,7 @@ by_start def e past o due is p still no_ask no_reopening no_deepening no_last = 
     an_edge_by E a c x y z = grind arith
 
     edgeless : is_chip_opened (opened_of e) ≡ false → is_edge def e ≡ false
-    edgeless c = no_edge_by (is_edge_line def) (is_any_ask e) (is_chip_start e) (is_eoi_flow def.flow) (is_again e) no_ask c p.no_again
+    edgeless c = no_edge_by (is_edge_line def) (is_device_edge e) (is_chip_start e) (is_eoi_flow def.flow) (is_again e) no_ask c p.no_again
 
     unstarted : is_started_opened (opened_of e) ≡ false → is_masked def (e ∷ past) ≡ is_masked def past
     unstarted s = masked_now ∙ shut (is_start e) (is_reopening e) (is_masked def past) s no_reopening
@@ -184,7 +192,7 @@ by_start def e past o due is p still no_ask no_reopening no_deepening no_last = 
     by_opened (opens.Started resends.Chip) is =
         let c = chip_resend def e past due is in
         resend_to def e past (is_high def past) (serves def && has_flow def past) c.0 c.1
-        (an_edge_by (is_edge_line def) (is_any_ask e) (is_chip_start e) _ c.0 (ap is_chip_opened is))
+        (an_edge_by (is_edge_line def) (is_device_edge e) (is_chip_start e) _ c.0 (ap is_chip_opened is))
         (opened (ap is_started_opened is))
         ∙ rest_same def e past p still
 
@@ -192,7 +200,7 @@ by_start def e past o due is p still no_ask no_reopening no_deepening no_last = 
 
 -- no interrupt is in service when one is taken
 none_in_service : (def : LineDef) (c : CpuNo) (way : Way) (answer : TakeAnswer) (past : List Entry)
-    → IsDue def (entries.Take c way answer) past → (is_soft past ≡ true → is_edge_line def ≡ true)
+    → IsDue def (by.Cpu c (cpus.Take way answer)) past → (is_soft past ≡ true → is_edge_line def ≡ true)
     → (serves def && has_flow def past) ≡ false
 none_in_service def c ways.Line answer past due soft =
     by_signal (is_edge_line def) (is_eoi_flow def.flow) (has_flow def past) (is_sent def past) (is_high def past)
@@ -212,7 +220,7 @@ edge_serves def edge = ap (λ (b : Bool). not b && is_eoi_flow def.flow) edge
 
 -- what is accepted is in service
 accepted_is : (def : LineDef) (c : CpuNo) (way : Way) (answer : TakeAnswer) (past : List Entry)
-    → IsDue def (entries.Take c way answer) past → (is_soft past ≡ true → is_edge_line def ≡ true)
+    → IsDue def (by.Cpu c (cpus.Take way answer)) past → (is_soft past ≡ true → is_edge_line def ≡ true)
     → accepted way (cell_of def past) ≡ marks def past (is_high def past) (serves def)
 accepted_is def c ways.Line answer past due soft =
     accept_is def (is_masked def past) (is_stored def past) (is_sent def past) (is_high def past) (serves def && has_flow def past)
@@ -228,14 +236,14 @@ accepted_is def c ways.Resend answer past due soft =
 -- a take leaves the cell with nothing sent, what it stored, masked if the flow says so, and in
 -- service or not
 after_take : (def : LineDef) (c : CpuNo) (way : Way) (answer : TakeAnswer) (past : List Entry) (n j : Bool)
-    → is_masked def (entries.Take c way answer ∷ past) ≡ n → (n ≡ false → is_masked def past ≡ false)
-    → j ≡ (serves def && has_flow def (entries.Take c way answer ∷ past))
+    → is_masked def (by.Cpu c (cpus.Take way answer) ∷ past) ≡ n → (n ≡ false → is_masked def past ≡ false)
+    → j ≡ (serves def && has_flow def (by.Cpu c (cpus.Take way answer) ∷ past))
     → cell_with def n (is_stored def past) false (is_high def past) j
-    ≡ cell_of def (entries.Take c way answer ∷ past)
+    ≡ cell_of def (by.Cpu c (cpus.Take way answer) ∷ past)
 after_take def c way answer past n j is opens flow =
-    take_to def (entries.Take c way answer) past (is_high def past) j n refl
+    take_to def (by.Cpu c (cpus.Take way answer)) past (is_high def past) j n refl
     (no_edge (is_edge_line def) (is_eoi_flow def.flow)) (λ off. opens (sym is ∙ off)) (sym is)
-    ∙ same_rest def _ _ _ _ _ _ _ (sym (high_quiet def (entries.Take c way answer) past refl)) flow
+    ∙ same_rest def _ _ _ _ _ _ _ (sym (high_quiet def (by.Cpu c (cpus.Take way answer)) past refl)) flow
 
 acked_sent : (E s : Bool) → (E ≡ false → s ≡ false) → cond E false s ≡ false
 acked_sent E s h = grind arith
@@ -285,7 +293,7 @@ no_service def f is other = by_flow (is_level_line def) (is_eoi_flow def.flow) (
     by_flow l o h = grind arith
 
 handled_serves : (def : LineDef) (c : CpuNo) (way : Way) (past : List Entry)
-    → serves def ≡ (serves def && has_flow def (entries.Take c way takes.Handle ∷ past))
+    → serves def ≡ (serves def && has_flow def (by.Cpu c (cpus.Take way takes.Handle) ∷ past))
 handled_serves def c way past = with_flow (serves def)
   where
     with_flow : (v : Bool) → v ≡ (v && true)
@@ -300,17 +308,17 @@ never_serves def x none = off (serves def) x none
 
 -- a take that isn't handled leaves the flow as it was, and nothing in service
 unhandled_serves : (def : LineDef) (c : CpuNo) (way : Way) (answer : TakeAnswer) (past : List Entry)
-    → is_handle (entries.Take c way answer) ≡ false → IsDue def (entries.Take c way answer) past
+    → is_handle (by.Cpu c (cpus.Take way answer)) ≡ false → IsDue def (by.Cpu c (cpus.Take way answer)) past
     → (is_soft past ≡ true → is_edge_line def ≡ true)
-    → false ≡ (serves def && has_flow def (entries.Take c way answer ∷ past))
+    → false ≡ (serves def && has_flow def (by.Cpu c (cpus.Take way answer) ∷ past))
 unhandled_serves def c way answer past unhandled due soft =
     sym (ap (λ (b : Bool). serves def && b) (ap is_some
-    (flow_quiet def (entries.Take c way answer) past unhandled refl refl))
+    (flow_quiet def (by.Cpu c (cpus.Take way answer)) past unhandled refl refl))
     ∙ none_in_service def c way answer past due soft)
 
 take_by : (def : LineDef) (f : FlowKind) (c : CpuNo) (way : Way) (answer : TakeAnswer) (past : List Entry) → IsValid def
-    → IsDue def (entries.Take c way answer) past → (is_soft past ≡ true → is_edge_line def ≡ true) → def.flow ≡ f
-    → taken def f (is_oneshot past) answer (marks def past (is_high def past) (serves def)) ≡ cell_of def (entries.Take c way answer ∷ past)
+    → IsDue def (by.Cpu c (cpus.Take way answer)) past → (is_soft past ≡ true → is_edge_line def ≡ true) → def.flow ≡ f
+    → taken def f (is_oneshot past) answer (marks def past (is_high def past) (serves def)) ≡ cell_of def (by.Cpu c (cpus.Take way answer) ∷ past)
 take_by def flows.Level c way answer past valid due soft is =
     let level = level_edge (is_edge_line def) (valid.level_flow (ap is_level_flow is)) in
     ap after_ack (level_masked def past (is_high def past) (serves def) level) ∙ ack_unsent def true (is_stored def past) (is_high def past) (serves def) level
@@ -337,7 +345,7 @@ take_by def flows.Eoi c way takes.Handle past valid due soft is = by_line (is_ed
   where
     by_oneshot : (b : Bool) → is_oneshot past ≡ b → is_edge_line def ≡ false
         → cond b (after_mask (marks def past (is_high def past) (serves def)))
-        (marks def past (is_high def past) (serves def)) ≡ cell_of def (entries.Take c way takes.Handle ∷ past)
+        (marks def past (is_high def past) (serves def)) ≡ cell_of def (by.Cpu c (cpus.Take way takes.Handle) ∷ past)
     by_oneshot true one level =
         level_masked def past (is_high def past) (serves def) level
         ∙ after_take def c way takes.Handle past true (serves def)
@@ -360,7 +368,7 @@ take_by def flows.Eoi c way takes.Handle past valid due soft is = by_line (is_ed
     by_line : (b : Bool) → is_edge_line def ≡ b → cond b
         (taken_on_eoi_edge takes.Handle (marks def past (is_high def past) (serves def)))
         (taken_on_eoi_level (is_oneshot past) takes.Handle (marks def past (is_high def past) (serves def)))
-        ≡ cell_of def (entries.Take c way takes.Handle ∷ past)
+        ≡ cell_of def (by.Cpu c (cpus.Take way takes.Handle) ∷ past)
     by_line true edge =
         acked def past (is_high def past) (serves def)
         ∙ after_take def c way takes.Handle past (is_masked def past) (serves def)
@@ -373,7 +381,7 @@ take_by def flows.Eoi c way takes.Handle past valid due soft is = by_line (is_ed
     by_line false level = by_oneshot (is_oneshot past) refl level
 take_by def flows.Eoi c way takes.Busy past valid due soft is = by_line (is_edge_line def) refl
   where
-    last : cell_with def (is_masked def past) (is_stored def past) false (is_high def past) false ≡ cell_of def (entries.Take c way takes.Busy ∷ past)
+    last : cell_with def (is_masked def past) (is_stored def past) false (is_high def past) false ≡ cell_of def (by.Cpu c (cpus.Take way takes.Busy) ∷ past)
     last = after_take def c way takes.Busy past (is_masked def past) false
         (take_masked def flows.Eoi c way takes.Busy past is) (λ n. n)
         (unhandled_serves def c way takes.Busy past refl due soft)
@@ -381,21 +389,21 @@ take_by def flows.Eoi c way takes.Busy past valid due soft is = by_line (is_edge
     by_line : (b : Bool) → is_edge_line def ≡ b → cond b
         (taken_on_eoi_edge takes.Busy (marks def past (is_high def past) (serves def)))
         (taken_on_eoi_level (is_oneshot past) takes.Busy (marks def past (is_high def past) (serves def)))
-        ≡ cell_of def (entries.Take c way takes.Busy ∷ past)
+        ≡ cell_of def (by.Cpu c (cpus.Take way takes.Busy) ∷ past)
     by_line true edge = ap after_eoi (acked def past (is_high def past) (serves def))
         ∙ eoi_served def (is_masked def past) (is_stored def past) false (is_high def past) ∙ last
     by_line false level = ap after_eoi (unsent def past (is_high def past) (serves def) level)
         ∙ eoi_served def (is_masked def past) (is_stored def past) false (is_high def past) ∙ last
 take_by def flows.Eoi c way takes.Off past valid due soft is = by_line (is_edge_line def) refl
   where
-    last : cell_with def true (is_stored def past) false (is_high def past) false ≡ cell_of def (entries.Take c way takes.Off ∷ past)
+    last : cell_with def true (is_stored def past) false (is_high def past) false ≡ cell_of def (by.Cpu c (cpus.Take way takes.Off) ∷ past)
     last = after_take def c way takes.Off past true false (take_masked def flows.Eoi c way takes.Off past is) (λ n. cc)
         (unhandled_serves def c way takes.Off past refl due soft)
 
     by_line : (b : Bool) → is_edge_line def ≡ b → cond b
         (taken_on_eoi_edge takes.Off (marks def past (is_high def past) (serves def)))
         (taken_on_eoi_level (is_oneshot past) takes.Off (marks def past (is_high def past) (serves def)))
-        ≡ cell_of def (entries.Take c way takes.Off ∷ past)
+        ≡ cell_of def (by.Cpu c (cpus.Take way takes.Off) ∷ past)
     by_line true edge = ap after_eoi (acked_masked def past (is_high def past) (serves def))
         ∙ eoi_served def true (is_stored def past) false (is_high def past) ∙ last
     by_line false level = ap after_eoi (level_masked def past (is_high def past) (serves def) level)
@@ -434,12 +442,12 @@ off_stops def flows.Eoi past note off = (
 
 -- an end that kills neither goes on nor opens
 kill_stops : (def : LineDef) (c : CpuNo) (again unmask : Bool) (note : Note) (past : List Entry)
-    → IsDue def (entries.End c again unmask note) past → is_kill (entries.End c again unmask note) ≡ true
+    → IsDue def (by.Cpu c (cpus.End again unmask note)) past → is_kill (by.Cpu c (cpus.End again unmask note)) ≡ true
     → (again ≡ false) × (unmask ≡ false)
 kill_stops def c again unmask note past due kill =
     let u = end_due def c again unmask note past due in
     let off : is_off_now past (note_of def past) ≡ true = ap (λ (x : Note). is_off_now past x) (sym u.note_is)
-    ∙ or_kill (is_disabled past) (is_kill (entries.End c again unmask note)) kill in
+    ∙ or_kill (is_disabled past) (is_kill (by.Cpu c (cpus.End again unmask note))) kill in
     let s = off_stops def def.flow past (note_of def past) off in
     (u.again_is ∙ s.0, u.unmask_is ∙ s.1)
   where
@@ -447,12 +455,13 @@ kill_stops def c again unmask note past due kill =
     or_kill d k h = grind arith
 
 end_masked : (def : LineDef) (c : CpuNo) (again unmask : Bool) (note : Note) (past : List Entry)
-    → is_masked def (entries.End c again unmask note ∷ past) ≡ ((def.unlazy && is_kill (entries.End c again unmask note)) || (not unmask && is_masked def past))
+    → is_masked def (by.Cpu c (cpus.End again unmask note) ∷ past)
+    ≡ ((def.unlazy && is_kill (by.Cpu c (cpus.End again unmask note))) || (not unmask && is_masked def past))
 end_masked def c again unmask note past =
-    masked_more def (entries.End c again unmask note) past
-    ∙ by_take (take_masks def def.flow (entries.End c again unmask note) past) def.unlazy
-    (is_kill (entries.End c again unmask note)) (not unmask && is_masked def past)
-    (no_take_masks def def.flow (entries.End c again unmask note) past refl)
+    masked_more def (by.Cpu c (cpus.End again unmask note)) past
+    ∙ by_take (take_masks def def.flow (by.Cpu c (cpus.End again unmask note)) past) def.unlazy
+    (is_kill (by.Cpu c (cpus.End again unmask note))) (not unmask && is_masked def past)
+    (no_take_masks def def.flow (by.Cpu c (cpus.End again unmask note)) past refl)
   where
     by_take : (t y k r : Bool) → t ≡ false → ((t || ((y && (false || k)) || false)) || r) ≡ ((y && k) || r)
     by_take t y k r h = grind arith
@@ -468,50 +477,51 @@ eoi_first def false m w s h i = eoi_is def m w s h i
 
 -- the mask after an end that the chip doesn't send again
 end_marks : (def : LineDef) (c : CpuNo) (again unmask : Bool) (note : Note) (past : List Entry) (h i : Bool)
-    → IsDue def (entries.End c again unmask note) past → is_edge def (entries.End c again unmask note) ≡ false
-    → unmasked_if unmask (masked_if (def.unlazy && is_kill (entries.End c again unmask note)) (marks def past h i))
-    ≡ marks def (entries.End c again unmask note ∷ past) h i
-end_marks def c again unmask note past h i due edgeless = by_tests (def.unlazy && is_kill (entries.End c again unmask note)) unmask refl refl
+    → IsDue def (by.Cpu c (cpus.End again unmask note)) past → is_edge def (by.Cpu c (cpus.End again unmask note)) ≡ false
+    → unmasked_if unmask (masked_if (def.unlazy && is_kill (by.Cpu c (cpus.End again unmask note))) (marks def past h i))
+    ≡ marks def (by.Cpu c (cpus.End again unmask note) ∷ past) h i
+end_marks def c again unmask note past h i due edgeless = by_tests (def.unlazy && is_kill (by.Cpu c (cpus.End again unmask note))) unmask refl refl
   where
-    by_tests : (k u : Bool) → (def.unlazy && is_kill (entries.End c again unmask note)) ≡ k → unmask ≡ u
-        → unmasked_if u (masked_if k (marks def past h i)) ≡ marks def (entries.End c again unmask note ∷ past) h i
+    by_tests : (k u : Bool) → (def.unlazy && is_kill (by.Cpu c (cpus.End again unmask note))) ≡ k → unmask ≡ u
+        → unmasked_if u (masked_if k (marks def past h i)) ≡ marks def (by.Cpu c (cpus.End again unmask note) ∷ past) h i
     by_tests true true k u = both_ways unmask u (kill_stops def c again unmask note past due
-        (and_parts def.unlazy (is_kill (entries.End c again unmask note)) k).1).1
+        (and_parts def.unlazy (is_kill (by.Cpu c (cpus.End again unmask note))) k).1).1
     by_tests true false k u =
-        mask_to def (entries.End c again unmask note) past h i refl edgeless
+        mask_to def (by.Cpu c (cpus.End again unmask note)) past h i refl edgeless
         (end_masked def c again unmask note past ∙ ap (λ (b : Bool). b || (not unmask && is_masked def past)) k)
     by_tests false true k u =
-        unmask_to def (entries.End c again unmask note) past h i refl edgeless
+        unmask_to def (by.Cpu c (cpus.End again unmask note)) past h i refl edgeless
         (end_masked def c again unmask note past ∙ opens _ unmask (is_masked def past) k u)
       where
         opens : (k u m : Bool) → k ≡ false → u ≡ true → (k || (not u && m)) ≡ false
         opens k u m a b = grind arith
     by_tests false false k u =
-        leaves def (entries.End c again unmask note) past h i refl edgeless (end_masked def c again unmask note past ∙ stays _ unmask (is_masked def past) k u)
+        leaves def (by.Cpu c (cpus.End again unmask note)) past h i refl edgeless
+        (end_masked def c again unmask note past ∙ stays _ unmask (is_masked def past) k u)
       where
         stays : (k u m : Bool) → k ≡ false → u ≡ false → (k || (not u && m)) ≡ m
         stays k u m a b = grind arith
 
 -- on the fast-EOI flow each end closes
 closed_by : (def : LineDef) (c : CpuNo) (again unmask : Bool) (note : Note) (past : List Entry)
-    → is_eoi_flow def.flow ≡ true → has_flow def (entries.End c again unmask note ∷ past) ≡ false
+    → is_eoi_flow def.flow ≡ true → has_flow def (by.Cpu c (cpus.End again unmask note) ∷ past) ≡ false
 closed_by def c false unmask note past eoi = refl
 closed_by def c true unmask note past eoi = rw eoi refl
 
 -- an end that the chip sends again leaves the line as open as it was
 again_open : (def : LineDef) (c : CpuNo) (again unmask : Bool) (note : Note) (past : List Entry)
-    → IsDue def (entries.End c again unmask note) past → KeepsEdges def past → is_edge_line def ≡ true
+    → IsDue def (by.Cpu c (cpus.End again unmask note)) past → KeepsEdges def past → is_edge_line def ≡ true
     → is_eoi_flow def.flow ≡ true → again ≡ true
-    → (is_masked def past ≡ false) × ((def.unlazy && is_kill (entries.End c again unmask note)) ≡ false) × (unmask ≡ false)
+    → (is_masked def past ≡ false) × ((def.unlazy && is_kill (by.Cpu c (cpus.End again unmask note))) ≡ false) × (unmask ≡ false)
 again_open def c again unmask note past due k edge eoi on =
     let u = end_due def c again unmask note past due in
     let on_now : is_off_now past (note_of def past) ≡ false
     = false_from_ne_true (is_off_now past (note_of def past))
     (λ off. both_ways again on (u.again_is ∙ (off_stops def def.flow past (note_of def past) off).0)) in
     let on_note : is_off_now past note ≡ false = ap (λ (x : Note). is_off_now past x) u.note_is ∙ on_now in
-    let parts = or_parts (is_disabled past) (is_kill (entries.End c again unmask note)) on_note in (
+    let parts = or_parts (is_disabled past) (is_kill (by.Cpu c (cpus.End again unmask note))) on_note in (
       k.eoi_edge edge eoi (zero_depth past parts.0),
-      unkilled def.unlazy (is_kill (entries.End c again unmask note))
+      unkilled def.unlazy (is_kill (by.Cpu c (cpus.End again unmask note)))
           parts.1,
       u.unmask_is ∙ never_opens def.flow eoi,
     )
@@ -528,37 +538,37 @@ again_open def c again unmask note past due k edge eoi on =
     never_opens flows.Level h = cc
 
 end_by : (def : LineDef) (f : FlowKind) (c : CpuNo) (again unmask : Bool) (note : Note) (past : List Entry)
-    → IsValid def → IsDue def (entries.End c again unmask note) past → KeepsEdges def past → def.flow ≡ f
-    → ended def f again unmask (masked_if (def.unlazy && is_kill (entries.End c again unmask note)) (cell_of def past))
-    ≡ cell_of def (entries.End c again unmask note ∷ past)
+    → IsValid def → IsDue def (by.Cpu c (cpus.End again unmask note)) past → KeepsEdges def past → def.flow ≡ f
+    → ended def f again unmask (masked_if (def.unlazy && is_kill (by.Cpu c (cpus.End again unmask note))) (cell_of def past))
+    ≡ cell_of def (by.Cpu c (cpus.End again unmask note) ∷ past)
 end_by def flows.Eoi c again unmask note past valid due k is = by_again (is_edge_line def && again) refl
   where
     eoi : is_eoi_flow def.flow ≡ true
     eoi = ap is_eoi_flow is
 
-    first : after_eoi (masked_if (def.unlazy && is_kill (entries.End c again unmask note)) (cell_of def past))
-        ≡ masked_if (def.unlazy && is_kill (entries.End c again unmask note))
+    first : after_eoi (masked_if (def.unlazy && is_kill (by.Cpu c (cpus.End again unmask note))) (cell_of def past))
+        ≡ masked_if (def.unlazy && is_kill (by.Cpu c (cpus.End again unmask note)))
         (marks def past (is_high def past) (cond (is_edge_line def) (serves def && has_flow def past) false))
-    first = eoi_first def (def.unlazy && is_kill (entries.End c again unmask note)) (is_masked def past)
+    first = eoi_first def (def.unlazy && is_kill (by.Cpu c (cpus.End again unmask note))) (is_masked def past)
         (is_stored def past) (is_sent def past) (is_high def past) (serves def && has_flow def past)
 
     nothing : (E o f g : Bool) → g ≡ false → cond E ((not E && o) && f) false ≡ ((not E && o) && g)
     nothing E o f g h = grind arith
 
-    last : marks def (entries.End c again unmask note ∷ past) (is_high def past)
+    last : marks def (by.Cpu c (cpus.End again unmask note) ∷ past) (is_high def past)
         (cond (is_edge_line def) (serves def && has_flow def past) false)
-        ≡ cell_of def (entries.End c again unmask note ∷ past)
-    last = same_rest def _ _ _ _ _ _ _ (sym (high_quiet def (entries.End c again unmask note) past refl))
+        ≡ cell_of def (by.Cpu c (cpus.End again unmask note) ∷ past)
+    last = same_rest def _ _ _ _ _ _ _ (sym (high_quiet def (by.Cpu c (cpus.End again unmask note)) past refl))
         (nothing (is_edge_line def) (is_eoi_flow def.flow) (has_flow def past)
-        (has_flow def (entries.End c again unmask note ∷ past)) (closed_by def c again unmask note past eoi))
+        (has_flow def (by.Cpu c (cpus.End again unmask note) ∷ past)) (closed_by def c again unmask note past eoi))
 
     edge_when : (E o a b : Bool) → o ≡ true → (E && a) ≡ b → (E && (false || (false || (o && a)))) ≡ b
     edge_when E o a b x y = grind arith
 
     by_again : (b : Bool) → (is_edge_line def && again) ≡ b
         → retriggered_if b (unmasked_if unmask (after_eoi
-        (masked_if (def.unlazy && is_kill (entries.End c again unmask note)) (cell_of def past))))
-        ≡ cell_of def (entries.End c again unmask note ∷ past)
+        (masked_if (def.unlazy && is_kill (by.Cpu c (cpus.End again unmask note))) (cell_of def past))))
+        ≡ cell_of def (by.Cpu c (cpus.End again unmask note) ∷ past)
     by_again false no_more =
         ap (λ (x : Cell). unmasked_if unmask x) first
         ∙ end_marks def c again unmask note past (is_high def past) _ due (edge_when (is_edge_line def) (is_eoi_flow def.flow) again false eoi no_more)
@@ -572,7 +582,7 @@ end_by def flows.Eoi c again unmask note past valid due k is = by_again (is_edge
         (cond (is_edge_line def) (serves def && has_flow def past) false))))) o.1
         ∙ ap (λ (b : Bool). after_retrigger (unmasked_if b
         (marks def past (is_high def past) (cond (is_edge_line def) (serves def && has_flow def past) false)))) o.2
-        ∙ again_to def (entries.End c again unmask note) past (is_high def past) _ p.0 (valid.eoi_retriggers p.0 eoi)
+        ∙ again_to def (by.Cpu c (cpus.End again unmask note)) past (is_high def past) _ p.0 (valid.eoi_retriggers p.0 eoi)
         (edge_when (is_edge_line def) (is_eoi_flow def.flow) again true eoi more)
         (end_masked def c again unmask note past ∙ still _ unmask (is_masked def past) o.1 o.2) o.0
         ∙ last
@@ -581,7 +591,7 @@ end_by def flows.Eoi c again unmask note past valid due k is = by_again (is_edge
         still k u m a b = grind arith
 end_by def f c again unmask note past valid due k is =
     end_marks def c again unmask note past (is_high def past) _ due (no_edge_off (is_edge_line def) (is_eoi_flow def.flow) again (ap is_eoi_flow is))
-    ∙ same_rest def _ _ _ _ _ _ _ (sym (high_quiet def (entries.End c again unmask note) past refl)) (nobody (serves def) _ _ (no_service def f is refl))
+    ∙ same_rest def _ _ _ _ _ _ _ (sym (high_quiet def (by.Cpu c (cpus.End again unmask note)) past refl)) (nobody (serves def) _ _ (no_service def f is refl))
   where
     no_edge_off : (E o a : Bool) → o ≡ false → (E && (false || (false || (o && a)))) ≡ false
     no_edge_off E o a h = grind arith
@@ -599,45 +609,49 @@ asks_nothing def e past p still edgeless no_deepening no_last no_open =
 
 pub cell_more : (def : LineDef) (e : Entry) (past : List Entry) → IsValid def → IsDue def e past → Kept def past
     → (is_soft past ≡ true → is_edge_line def ≡ true) → driven def e past (cell_of def past) ≡ cell_of def (e ∷ past)
-cell_more def (entries.Ask r d) past valid due k soft = asks def (entries.Ask r d) past (plain _ refl refl refl refl)
-    refl (masked_by_opening def (entries.Ask r d) past refl refl refl)
-cell_more def (entries.Return c d answer count) past valid due k soft =
-    returns def (entries.Return c d answer count) past count (plain _ refl refl refl refl)
+cell_more def (by.Driver r (drivers.Ask makes d)) past valid due k soft =
+    asks def (by.Driver r (drivers.Ask makes d)) past makes (plain _ refl refl refl refl) (an_edge (is_edge_line def) makes (is_eoi_flow def.flow))
+    (masked_by_opening def (by.Driver r (drivers.Ask makes d)) past refl refl refl)
+cell_more def (by.Cpu c (cpus.Return answer d count)) past valid due k soft =
+    returns def (by.Cpu c (cpus.Return answer d count)) past count (plain _ refl refl refl refl)
     (no_edge (is_edge_line def) (is_eoi_flow def.flow))
-    (masked_by_opening def (entries.Return c d answer count) past refl refl refl)
+    (masked_by_opening def (by.Cpu c (cpus.Return answer d count)) past refl refl refl)
     (high_return def c d answer count past due k.runs)
-cell_more def (entries.ThreadReturn d count) past valid due k soft =
-    returns def (entries.ThreadReturn d count) past count (plain _ refl refl refl refl)
+cell_more def (by.Thread d (threads.Return handled count)) past valid due k soft =
+    returns def (by.Thread d (threads.Return handled count)) past count (plain _ refl refl refl refl)
     (no_edge (is_edge_line def) (is_eoi_flow def.flow))
-    (masked_by_opening def (entries.ThreadReturn d count) past refl refl refl)
-    (high_thread_return def d count past due)
-cell_more def (entries.Take c way answer) past valid due k soft =
+    (masked_by_opening def (by.Thread d (threads.Return handled count)) past refl refl refl)
+    (high_thread_return _ def d count past due)
+cell_more def (by.Cpu c (cpus.Take way answer)) past valid due k soft =
     ap (λ (x : Cell). taken def def.flow (is_oneshot past) answer x) (accepted_is def c way answer past due soft)
     ∙ take_by def def.flow c way answer past valid due soft refl
-cell_more def (entries.End c again unmask note) past valid due k soft = end_by def def.flow c again unmask note past valid due k.edges refl
-cell_more def (entries.Finish d kept true) past valid due k soft =
-    opening def (entries.Finish d kept true) past (plain _ refl refl refl refl) refl
+cell_more def (by.Cpu c (cpus.End again unmask note)) past valid due k soft = end_by def def.flow c again unmask note past valid due k.edges refl
+cell_more def (by.Thread d (threads.Finish kept true)) past valid due k soft =
+    opening def (by.Thread d (threads.Finish kept true)) past (plain _ refl refl refl refl) refl
     (no_edge (is_edge_line def) (is_eoi_flow def.flow))
-    (masked_by_opening def (entries.Finish d kept true) past refl refl refl)
-cell_more def (entries.Finish d kept false) past valid due k soft =
-    quiet def (entries.Finish d kept false) past (plain _ refl refl refl refl) refl
+    (masked_by_opening def (by.Thread d (threads.Finish kept true)) past refl refl refl)
+cell_more def (by.Thread d (threads.Finish kept false)) past valid due k soft =
+    quiet def (by.Thread d (threads.Finish kept false)) past (plain _ refl refl refl refl) refl
     (no_edge (is_edge_line def) (is_eoi_flow def.flow))
-    (masked_by_opening def (entries.Finish d kept false) past refl refl refl)
-cell_more def (entries.Disable r) past valid due k soft =
-    masks_if def (entries.Disable r) past def.unlazy (plain _ refl refl refl refl) refl (no_edge (is_edge_line def) (is_eoi_flow def.flow))
-    (masked_more def (entries.Disable r) past ∙ disable_masks (take_masks def def.flow (entries.Disable r) past)
-    def.unlazy (is_masked def past) (no_take_masks def def.flow (entries.Disable r) past refl))
-cell_more def (entries.Unlink r d answer) past valid due k soft =
-    masks_if def (entries.Unlink r d answer) past (is_last_unlink (entries.Unlink r d answer))
+    (masked_by_opening def (by.Thread d (threads.Finish kept false)) past refl refl refl)
+cell_more def (by.DriverCall r called.Disable) past valid due k soft =
+    masks_if def (by.DriverCall r called.Disable) past def.unlazy (plain _ refl refl refl refl) refl (no_edge (is_edge_line def) (is_eoi_flow def.flow))
+    (masked_more def (by.DriverCall r called.Disable) past ∙ disable_masks (take_masks def def.flow (by.DriverCall r called.Disable) past)
+    def.unlazy (is_masked def past) (no_take_masks def def.flow (by.DriverCall r called.Disable) past refl))
+cell_more def (by.DriverCall r (called.Unlink answer d)) past valid due k soft =
+    masks_if def (by.DriverCall r (called.Unlink answer d)) past (is_last_unlink (by.DriverCall r (called.Unlink answer d)))
     (plain _ refl refl refl refl) refl (no_edge (is_edge_line def) (is_eoi_flow def.flow))
-    (masked_more def (entries.Unlink r d answer) past
-    ∙ unlink_masks (take_masks def def.flow (entries.Unlink r d answer) past) def.unlazy
-    (is_last_unlink (entries.Unlink r d answer)) (is_masked def past)
-    (no_take_masks def def.flow (entries.Unlink r d answer) past refl))
-cell_more def (entries.Request r d flags answer opened) past valid due k soft =
-    by_start def (entries.Request r d flags answer opened) past opened due refl (plain _ refl refl refl refl) refl refl refl refl refl
-cell_more def (entries.Enable r answer) past valid due k soft =
-    by_start def (entries.Enable r answer) past (opened_of (entries.Enable r answer)) due refl (plain _ refl refl refl refl) refl refl refl refl refl
+    (masked_more def (by.DriverCall r (called.Unlink answer d)) past
+    ∙ unlink_masks (take_masks def def.flow (by.DriverCall r (called.Unlink answer d)) past) def.unlazy
+    (is_last_unlink (by.DriverCall r (called.Unlink answer d))) (is_masked def past)
+    (no_take_masks def def.flow (by.DriverCall r (called.Unlink answer d)) past refl))
+cell_more def (by.Driver r (drivers.Request flags answer opened d)) past valid due k soft =
+    by_start def (by.Driver r (drivers.Request flags answer opened d)) past opened due refl (plain _ refl refl refl refl) refl refl refl refl refl
+cell_more def (by.DriverCall r (called.Enable answer)) past valid due k soft =
+    by_start def (by.DriverCall r (called.Enable answer)) past (opened_of (by.DriverCall r (called.Enable answer))) due
+    refl (plain _ refl refl refl refl) refl refl refl refl refl
+cell_more def (by.CpuCall c call) past valid due k soft = no_cpu_call def c call past due
+cell_more def (by.ThreadCall x call) past valid due k soft = no_thread_call def x call past due
 cell_more def e past valid due k soft =
     asks_nothing def e past (plain _ refl refl refl refl) refl (no_edge (is_edge_line def) (is_eoi_flow def.flow)) refl refl refl
 

@@ -9,7 +9,10 @@ use Rattle.irq_base.specs.declared.numbers.DevNo.{DevNo}
 use Rattle.irq_base.specs.declared.numbers.DriverNo.{DriverNo}
 use Rattle.irq_base.specs.declared.lines.LineDef.{LineDef}
 use Rattle.irq_base.specs.declared.entries.Entry.{Entry}
-use Rattle.irq_base.specs.declared.entries.Entry.TheVariants as entries
+use Rattle.irq_base.specs.declared.entries.Entry.TheVariants as by
+use Rattle.irq_base.specs.declared.entries.CpuEntry.TheVariants as cpus
+use Rattle.irq_base.specs.declared.entries.DriverEntry.TheVariants as drivers
+use Rattle.irq_base.specs.declared.entries.CallEntry.TheVariants as called
 use Rattle.irq_base.specs.declared.entries.Note.{Note}
 use Rattle.irq_base.specs.declared.entries.Resend.{Resend}
 use Rattle.irq_base.specs.declared.entries.Resend.TheVariants as resends
@@ -21,7 +24,7 @@ use Rattle.irq_base.specs.declared.entries.LinkAnswer.{LinkAnswer}
 use Rattle.irq_base.specs.declared.entries.LinkAnswer.TheVariants as links
 use Rattle.irq_base.specs.declared.entries.TakeAnswer.TheVariants as takes
 use Rattle.irq_model.specs.Places.{some_place, since, last_of}
-use Rattle.irq_model.specs.Kinds.{opened_by_enable, is_any_ask, is_begin, unlinks_dev, links_dev, is_take, is_again}
+use Rattle.irq_model.specs.Kinds.{opened_by_enable, is_device_edge, is_begin, unlinks_dev, links_dev, is_take, is_again}
 use Rattle.irq_model.specs.Kinds.{is_handle, is_start, is_soft_start, is_chip_start, is_resend_take, is_chip_opened}
 use Rattle.irq_model.specs.Kinds.{is_soft_opened, is_started_opened, opened_of}
 use Rattle.irq_model.specs.Lines.{is_edge_line, is_eoi_flow}
@@ -45,6 +48,7 @@ use Rattle.irq_laws.proofs.Masking.{start_opens, IsPlain, flow_same}
 use Rattle.irq_laws.proofs.KeptAlways.{kept}
 use Rattle.irq_laws.proofs.ImpliesFlow.{end_due, has_a_flow}
 use Rattle.irq_laws.proofs.ImpliesDriver.{enable_due, request_due, opened_with}
+use Rattle.irq_laws.proofs.OwnLaws.{no_cpu_call, no_thread_call}
 
 -- where an owed edge may be
 abbrev pub is_covered : LineDef → List Entry → DevNo → Bool
@@ -140,17 +144,19 @@ request_by def past false f true h = enable_resends def past h
 request_by def past false f false h = cc
 
 start_resends : (def : LineDef) (e : Entry) (past : List Entry) → IsDue def e past → is_start e ≡ true → opened_of e ≡ opens.Started (resend_of def past)
-start_resends def (entries.Enable s answer) past due h =
+start_resends def (by.DriverCall s (called.Enable answer)) past due h =
     let is = (enable_due def s answer past due).answer_is in
     ap opened_by_enable is ∙ enable_resends def past (subst (λ (a : EnableAnswer). is_started_opened (opened_by_enable a) ≡ true) is h)
-start_resends def (entries.Request s x flags links.Linked opened) past due h =
+start_resends def (by.Driver s (drivers.Request flags links.Linked opened x)) past due h =
     let u = request_due def s x flags links.Linked opened past due in
     let is : opened ≡ opened_by_request def flags past = u.opened_is ∙ ap (λ (a : LinkAnswer). opened_with def flags past a) (sym u.answer_is) in
     is ∙ request_by def past (is_none_linked past) flags.noauto (has_spurious_mark past) (subst (λ (o : Opened). is_started_opened o ≡ true) is h)
-start_resends def (entries.Request s x flags (links.Refused error) opened) past due h =
+start_resends def (by.Driver s (drivers.Request flags (links.Refused error) opened x)) past due h =
     let u = request_due def s x flags (links.Refused error) opened past due in
     let is : opened ≡ opens.No = u.opened_is ∙ ap (λ (a : LinkAnswer). opened_with def flags past a) (sym u.answer_is) in
     both_ways (is_started_opened opened) h (ap is_started_opened is)
+start_resends def (by.CpuCall c call) past due h = no_cpu_call def c call past due
+start_resends def (by.ThreadCall x call) past due h = no_thread_call def x call past due
 start_resends def e past due h = cc
 
 -- what is pending when a start comes is sent by the chip, or kept for the software
@@ -174,7 +180,7 @@ start_covers def e past d due no_take edge starts p = by_case (resend_cases (is_
     by_case (inl chip) =
         let c : is_chip_start e ≡ true = ap is_chip_opened (start_resends def e past due starts) ∙ chip in
         by_mark def (e ∷ past) d (new_mark def e past no_take
-        (edges_by (is_edge_line def) (is_any_ask e) (is_chip_start e) (is_eoi_flow def.flow && is_again e) edge c)
+        (edges_by (is_edge_line def) (is_device_edge e) (is_chip_start e) (is_eoi_flow def.flow && is_again e) edge c)
         (or_left _ _ (ap not (start_opens def e past starts))))
     by_case (inr soft) =
         let c : is_soft_start e ≡ true = ap is_soft_opened (start_resends def e past due starts) ∙ soft in
@@ -238,7 +244,7 @@ soft_stays : (k r s : Bool) → r ≡ false → s ≡ true → (k || (not r && s
 soft_stays k r s a b = grind arith
 
 resend_not : (e : Entry) → is_take e ≡ false → is_resend_take e ≡ false
-resend_not (entries.Take c way answer) h = cc
+resend_not (by.Cpu c (cpus.Take way answer)) h = cc
 resend_not e h = refl
 
 covered_plain : (def : LineDef) (e : Entry) (past : List Entry) (d : DevNo) → IsDue def e past → IsPlain e
@@ -259,70 +265,74 @@ covered_plain def e past d due plain edge linked no_unlink no_begin h =
 
 -- an end that goes on: on the fast-EOI flow it is an edge, on the others it begins a round
 covered_again : (def : LineDef) (c : CpuNo) (unmask : Bool) (note : Note) (past : List Entry) (d : DevNo) → IsValid def
-    → IsDue def (entries.End c true unmask note) past → is_edge_line def ≡ true → is_linked past d ≡ true
-    → is_covered def (entries.End c true unmask note ∷ past) d ≡ true
+    → IsDue def (by.Cpu c (cpus.End true unmask note)) past → is_edge_line def ≡ true → is_linked past d ≡ true
+    → is_covered def (by.Cpu c (cpus.End true unmask note) ∷ past) d ≡ true
 covered_again def c unmask note past d valid due edge linked = by_flow (is_eoi_flow def.flow) refl
   where
-    by_flow : (b : Bool) → is_eoi_flow def.flow ≡ b → is_covered def (entries.End c true unmask note ∷ past) d ≡ true
+    by_flow : (b : Bool) → is_eoi_flow def.flow ≡ b → is_covered def (by.Cpu c (cpus.End true unmask note) ∷ past) d ≡ true
     by_flow true eoi =
-        by_mark def (entries.End c true unmask note ∷ past) d
-        (new_mark def (entries.End c true unmask note) past refl (and_from _ _ edge (and_from _ _ eoi refl))
-        (or_right (not (is_masked def (entries.End c true unmask note ∷ past))) def.keeps
+        by_mark def (by.Cpu c (cpus.End true unmask note) ∷ past) d
+        (new_mark def (by.Cpu c (cpus.End true unmask note)) past refl (and_from _ _ edge (and_from _ _ eoi refl))
+        (or_right (not (is_masked def (by.Cpu c (cpus.End true unmask note) ∷ past))) def.keeps
         (valid.eoi_keeps edge eoi)))
     by_flow false other =
-        by_ahead def (entries.End c true unmask note ∷ past) d
-        (ahead_from (has_flow def (entries.End c true unmask note ∷ past)) (is_linked past d) (has_begun def (entries.End c true unmask note ∷ past) d)
-        (ap (λ (b : Bool). is_some (cpu_of_handle (cond (b && true) (Some (entries.End c true unmask note))
+        by_ahead def (by.Cpu c (cpus.End true unmask note) ∷ past) d
+        (ahead_from (has_flow def (by.Cpu c (cpus.End true unmask note) ∷ past)) (is_linked past d)
+        (has_begun def (by.Cpu c (cpus.End true unmask note) ∷ past) d)
+        (ap (λ (b : Bool). is_some (cpu_of_handle (cond (b && true) (Some (by.Cpu c (cpus.End true unmask note)))
         (last_of (λ e. is_handle e || closes def e) past)))) other
         ∙ has_a_flow c (flow def past) (end_due def c true unmask note past due).of_flow)
         linked
-        (ap (λ (b : Bool). list_any (is_begin d) (cond (not b) [] (entries.End c true unmask note ∷ since (begins_round def) past))) other))
+        (ap (λ (b : Bool). list_any (is_begin d) (cond (not b) [] (by.Cpu c (cpus.End true unmask note) ∷ since (begins_round def) past))) other))
 
 covered_leave : (def : LineDef) (c : CpuNo) (unmask : Bool) (note : Note) (past : List Entry) (d : DevNo)
-    → IsDue def (entries.End c false unmask note) past → is_linked past d ≡ true → is_covered def past d ≡ true
-    → is_covered def (entries.End c false unmask note ∷ past) d ≡ true
+    → IsDue def (by.Cpu c (cpus.End false unmask note)) past → is_linked past d ≡ true → is_covered def past d ≡ true
+    → is_covered def (by.Cpu c (cpus.End false unmask note) ∷ past) d ≡ true
 covered_leave def c unmask note past d due linked h =
     by_place def past d h
-    (λ m. by_mark def (entries.End c false unmask note ∷ past) d (keeps_marks def (entries.End c false unmask note) past refl m))
-    (λ p. by_pending def (entries.End c false unmask note ∷ past) d (pending_by_clearing def (entries.End c false unmask note) past refl ∙ p))
-    (λ s. by_soft def (entries.End c false unmask note ∷ past) d s)
+    (λ m. by_mark def (by.Cpu c (cpus.End false unmask note) ∷ past) d (keeps_marks def (by.Cpu c (cpus.End false unmask note)) past refl m))
+    (λ p. by_pending def (by.Cpu c (cpus.End false unmask note) ∷ past) d (pending_by_clearing def (by.Cpu c (cpus.End false unmask note)) past refl ∙ p))
+    (λ s. by_soft def (by.Cpu c (cpus.End false unmask note) ∷ past) d s)
     (λ a. none_ahead def past d (end_due def c false unmask note past due).none_left linked a)
 
 -- an edge that was owed before
 covered_old : (def : LineDef) (e : Entry) (past : List Entry) (d : DevNo) → IsValid def → IsDue def e past
     → is_edge_line def ≡ true → is_linked past d ≡ true → unlinks_dev d e ≡ false → is_begin d e ≡ false
     → is_covered def past d ≡ true → is_covered def (e ∷ past) d ≡ true
-covered_old def (entries.Take c way takes.Handle) past d valid due edge linked no_unlink no_begin h =
-    by_ahead def (entries.Take c way takes.Handle ∷ past) d (ahead_from true (is_linked past d) false refl linked refl)
-covered_old def (entries.Take c way takes.Busy) past d valid due edge linked no_unlink no_begin h =
-    by_pending def (entries.Take c way takes.Busy ∷ past) d (ap (λ (b : Bool). (b && true) || is_pending def past) edge)
-covered_old def (entries.Take c way takes.Off) past d valid due edge linked no_unlink no_begin h = by_pending def (entries.Take c way takes.Off ∷ past) d refl
-covered_old def (entries.End c true unmask note) past d valid due edge linked no_unlink no_begin h
+covered_old def (by.Cpu c (cpus.Take way takes.Handle)) past d valid due edge linked no_unlink no_begin h =
+    by_ahead def (by.Cpu c (cpus.Take way takes.Handle) ∷ past) d (ahead_from true (is_linked past d) false refl linked refl)
+covered_old def (by.Cpu c (cpus.Take way takes.Busy)) past d valid due edge linked no_unlink no_begin h =
+    by_pending def (by.Cpu c (cpus.Take way takes.Busy) ∷ past) d (ap (λ (b : Bool). (b && true) || is_pending def past) edge)
+covered_old def (by.Cpu c (cpus.Take way takes.Off)) past d valid due edge linked no_unlink no_begin h
+    = by_pending def (by.Cpu c (cpus.Take way takes.Off) ∷ past) d refl
+covered_old def (by.Cpu c (cpus.End true unmask note)) past d valid due edge linked no_unlink no_begin h
     = covered_again def c unmask note past d valid due edge linked
-covered_old def (entries.End c false unmask note) past d valid due edge linked no_unlink no_begin h = covered_leave def c unmask note past d due linked h
+covered_old def (by.Cpu c (cpus.End false unmask note)) past d valid due edge linked no_unlink no_begin h = covered_leave def c unmask note past d due linked h
 covered_old def e past d valid due edge linked no_unlink no_begin h =
     covered_plain def e past d due (record { no_take = refl; no_handle = refl; no_leave = refl; no_again = refl }) edge linked no_unlink no_begin h
 
 -- an edge that comes now
-covered_ask : (def : LineDef) (r : DriverNo) (x : DevNo) (past : List Entry) (d : DevNo) → Kept def past
-    → is_edge_line def ≡ true → is_started past ≡ true → is_covered def (entries.Ask r x ∷ past) d ≡ true
-covered_ask def r x past d k edge started = by_test (is_masked def past) def.keeps refl refl
+covered_ask : (makes : Bool) (def : LineDef) (r : DriverNo) (x : DevNo) (past : List Entry) (d : DevNo) → Kept def past
+    → makes ≡ true → is_edge_line def ≡ true → is_started past ≡ true → is_covered def (by.Driver r (drivers.Ask makes x) ∷ past) d ≡ true
+covered_ask makes def r x past d k edges edge started = by_test (is_masked def past) def.keeps refl refl
   where
-    same : is_masked def (entries.Ask r x ∷ past) ≡ is_masked def past
-    same = masked_by_opening def (entries.Ask r x) past refl refl refl
+    same : is_masked def (by.Driver r (drivers.Ask makes x) ∷ past) ≡ is_masked def past
+    same = masked_by_opening def (by.Driver r (drivers.Ask makes x)) past refl refl refl
 
-    shown : (not (is_masked def (entries.Ask r x ∷ past)) || def.keeps) ≡ true → is_covered def (entries.Ask r x ∷ past) d ≡ true
-    shown h = by_mark def (entries.Ask r x ∷ past) d (new_mark def (entries.Ask r x) past refl (and_from _ _ edge refl) h)
+    shown : (not (is_masked def (by.Driver r (drivers.Ask makes x) ∷ past)) || def.keeps) ≡ true
+        → is_covered def (by.Driver r (drivers.Ask makes x) ∷ past) d ≡ true
+    shown h = by_mark def (by.Driver r (drivers.Ask makes x) ∷ past) d
+        (new_mark def (by.Driver r (drivers.Ask makes x)) past refl (and_from _ _ edge (or_left makes _ edges)) h)
 
-    by_test : (m k : Bool) → is_masked def past ≡ m → def.keeps ≡ k → is_covered def (entries.Ask r x ∷ past) d ≡ true
+    by_test : (m k : Bool) → is_masked def past ≡ m → def.keeps ≡ k → is_covered def (by.Driver r (drivers.Ask makes x) ∷ past) d ≡ true
     by_test false b is it = shown (or_left _ _ (ap not (same ∙ is)))
-    by_test true true is it = shown (or_right (not (is_masked def (entries.Ask r x ∷ past))) def.keeps it)
-    by_test true false is it = by_pending def (entries.Ask r x ∷ past) d
-        (pending_by_clearing def (entries.Ask r x) past refl ∙ k.edges.dropped edge it is started)
+    by_test true true is it = shown (or_right (not (is_masked def (by.Driver r (drivers.Ask makes x) ∷ past))) def.keeps it)
+    by_test true false is it = by_pending def (by.Driver r (drivers.Ask makes x) ∷ past) d
+        (pending_by_clearing def (by.Driver r (drivers.Ask makes x)) past refl ∙ k.edges.dropped edge it is started)
 
 covered_now : (def : LineDef) (e : Entry) (past : List Entry) (d : DevNo) → Kept def past → is_edge_line def ≡ true
-    → is_any_ask e ≡ true → is_started past ≡ true → is_covered def (e ∷ past) d ≡ true
-covered_now def (entries.Ask r x) past d k edge asks started = covered_ask def r x past d k edge started
+    → is_device_edge e ≡ true → is_started past ≡ true → is_covered def (e ∷ past) d ≡ true
+covered_now def (by.Driver r (drivers.Ask makes x)) past d k edge asks started = covered_ask makes def r x past d k asks edge started
 covered_now def e past d k edge asks started = cc
 
 covered_at : (def : LineDef) → IsValid def → (past : List Entry) → IsLegalPast def past → is_edge_line def ≡ true
@@ -334,7 +344,7 @@ covered_at def valid (e ∷ past) legal edge d h = by_case (owed_cases d e past 
         × (is_begin d e ≡ false)) → (some_place (owes d) past ≡ true → is_covered def past d ≡ true)
         → is_covered def (e ∷ past) d ≡ true
     by_case (inl now) deeper =
-        let p = and_parts (is_any_ask e) (is_started past && is_linked past d) now in
+        let p = and_parts (is_device_edge e) (is_started past && is_linked past d) now in
         covered_now def e past d (kept def past valid legal.1) edge p.0 (and_parts (is_started past) (is_linked past d) p.1).0
     by_case (inr was) deeper = covered_old def e past d valid legal.0 edge (owed_linked d past was.0) was.1 was.2 (deeper was.0)
 

@@ -6,7 +6,10 @@ use Rattle.irq_base.specs.declared.numbers.DevNo.{DevNo}
 use Rattle.irq_base.specs.declared.calls.Flags.{Flags}
 use Rattle.irq_base.specs.declared.lines.LineDef.{LineDef}
 use Rattle.irq_base.specs.declared.entries.Entry.{Entry}
-use Rattle.irq_base.specs.declared.entries.Entry.TheVariants as entries
+use Rattle.irq_base.specs.declared.entries.Entry.TheVariants as by
+use Rattle.irq_base.specs.declared.entries.DriverEntry.TheVariants as drivers
+use Rattle.irq_base.specs.declared.entries.CallEntry.{CallEntry}
+use Rattle.irq_base.specs.declared.entries.CallEntry.TheVariants as called
 use Rattle.irq_base.specs.declared.entries.Resend.{Resend}
 use Rattle.irq_base.specs.declared.entries.EnableAnswer.{EnableAnswer}
 use Rattle.irq_base.specs.declared.entries.EnableAnswer.TheVariants as enables
@@ -17,6 +20,7 @@ use Rattle.irq_base.specs.declared.entries.LinkAnswer.TheVariants as links
 use Rattle.irq_base.specs.declared.entries.UnlinkAnswer.TheVariants as unlinks
 use Rattle.irq_model.specs.Places.{count_of}
 use Rattle.irq_model.specs.Kinds.{same_dev, opened_of, opened_by_enable, is_start, is_started_opened, is_lowering_opened, is_last_unlink, is_disable, is_kill}
+use Rattle.irq_model.specs.Kinds.{opened_by_call, disables}
 use Rattle.irq_model.specs.Links.{linked, requested, is_linked, is_none_linked, is_empty, is_first_request, is_reset}
 use Rattle.irq_model.specs.Links.{is_deepening, is_lowering, depth, is_started, has_spurious_mark}
 use Rattle.irq_model.specs.Next.{enable_answer, opened_by_request, resend_of, is_only}
@@ -28,6 +32,7 @@ use Rattle.irq_steps.proofs.Same.{same_both}
 use Rattle.irq_laws.specs.Kept.{KeepsDepth}
 use Rattle.irq_laws.proofs.Lists.{both_ways}
 use Rattle.irq_laws.proofs.ImpliesDriver.{enable_due, request_due, unlink_due, opened_with}
+use Rattle.irq_laws.proofs.OwnLaws.{no_cpu_call, no_thread_call}
 
 -- ---- what an enable, or the enable within a request, tells of the depth
 
@@ -74,16 +79,18 @@ first_opens def flags past none is = by_flag (is_none_linked past) flags.noauto 
 
 -- the same of any due entry that isn't a first request
 pub opens_at : (def : LineDef) (e : Entry) (past : List Entry) → IsDue def e past → is_first_request (e ∷ past) ≡ false → Opens past (opened_of e)
-opens_at def (entries.Enable s answer) past due later = subst (λ (a : EnableAnswer). Opens past (opened_by_enable a))
+opens_at def (by.DriverCall s (called.Enable answer)) past due later = subst (λ (a : EnableAnswer). Opens past (opened_by_enable a))
     (sym (enable_due def s answer past due).answer_is) (enable_opens def past)
-opens_at def (entries.Request s x flags links.Linked opened) past due later =
+opens_at def (by.Driver s (drivers.Request flags links.Linked opened x)) past due later =
     let u = request_due def s x flags links.Linked opened past due in
     let is : opened ≡ opened_by_request def flags past = u.opened_is ∙ ap (λ (a : LinkAnswer). opened_with def flags past a) (sym u.answer_is) in
     subst (λ (o : Opened). Opens past o) (sym is) (request_opens def flags past later)
-opens_at def (entries.Request s x flags (links.Refused error) opened) past due later =
+opens_at def (by.Driver s (drivers.Request flags (links.Refused error) opened x)) past due later =
     let u = request_due def s x flags (links.Refused error) opened past due in
     let is : opened ≡ opens.No = u.opened_is ∙ ap (λ (a : LinkAnswer). opened_with def flags past a) (sym u.answer_is) in
     subst (λ (o : Opened). Opens past o) (sym is) (no_opens past)
+opens_at def (by.CpuCall c call) past due later = no_cpu_call def c call past due
+opens_at def (by.ThreadCall x call) past due later = no_thread_call def x call past due
 opens_at def e past due later = no_opens past
 
 -- ---- the depth is exact
@@ -143,9 +150,15 @@ pub record StaysEnabled (e : Entry) (past : List Entry) : Type 0 where
   pub no_last : is_last_unlink e ≡ false
   pub not_first : is_first_request (e ∷ past) ≡ false
 
+disables_alone : (call : CallEntry) → (disables call || false) ≡ true → is_lowering_opened (opened_by_call call) ≡ false
+disables_alone (called.Enable answer) h = cc
+disables_alone call h = refl
+
 deep_alone : (e : Entry) → is_deepening e ≡ true → is_lowering e ≡ false
-deep_alone (entries.Enable s answer) h = cc
-deep_alone (entries.Request s x flags answer opened) h = cc
+deep_alone (by.CpuCall c call) h = disables_alone call h
+deep_alone (by.ThreadCall x call) h = disables_alone call h
+deep_alone (by.DriverCall s call) h = disables_alone call h
+deep_alone (by.Driver s (drivers.Request flags answer opened x)) h = cc
 deep_alone e h = refl
 
 zero_by : (def : LineDef) (e : Entry) (past : List Entry) → IsDue def e past → lowered past ≤ raised past
@@ -234,35 +247,40 @@ last_when false last v h = cc
 
 still_some : (def : LineDef) (e : Entry) (past : List Entry) → IsDue def e past → is_last_unlink e ≡ false
     → is_none_linked past ≡ false → is_none_linked (e ∷ past) ≡ false
-still_some def (entries.Request s x flags links.Linked opened) past due no_last some
+still_some def (by.Driver s (drivers.Request flags links.Linked opened x)) past due no_last some
     = ap is_empty (linked_request s x flags opened past) ∙ some_last (filter (λ y. not (same_dev y x)) (linked past)) x
-still_some def (entries.Request s x flags (links.Refused error) opened) past due no_last some = ap is_empty (linked_refused s x flags error opened past) ∙ some
-still_some def (entries.Unlink s x (unlinks.Unlinked last)) past due no_last some =
+still_some def (by.Driver s (drivers.Request flags (links.Refused error) opened x)) past due no_last some
+    = ap is_empty (linked_refused s x flags error opened past) ∙ some
+still_some def (by.DriverCall s (called.Unlink (unlinks.Unlinked last) x)) past due no_last some =
     let is = last_when (is_linked past x) last (is_only x (linked past)) (unlink_due def s x (unlinks.Unlinked last) past due).answer_is in
     let once : count_of (same_dev x) (linked past) ≤ 1
     = (let n = count_filter (same_dev x) (is_linked past) (requested past) in let m = requested_once x past in
     omega (arith, n, m)) in
     ap is_empty (linked_unlink s x last past) ∙ some_left x (linked past) (sym is ∙ no_last) some once
-still_some def (entries.Unlink s x unlinks.NotThere) past due no_last some = ap is_empty (linked_not_there s x past) ∙ some
+still_some def (by.DriverCall s (called.Unlink unlinks.NotThere x)) past due no_last some = ap is_empty (linked_not_there s x past) ∙ some
+still_some def (by.CpuCall c call) past due no_last some = no_cpu_call def c call past due
+still_some def (by.ThreadCall x call) past due no_last some = no_thread_call def x call past due
 still_some def e past due no_last some = some
 
 -- a line that is started has something linked
 started_some : (def : LineDef) (e : Entry) (past : List Entry) → IsDue def e past → is_start e ≡ true → is_none_linked (e ∷ past) ≡ false
-started_some def (entries.Enable s answer) past due starts
-    = (opens_at def (entries.Enable s answer) past due refl).some_linked (lowers_by (opened_by_enable answer) starts)
+started_some def (by.DriverCall s (called.Enable answer)) past due starts
+    = (opens_at def (by.DriverCall s (called.Enable answer)) past due refl).some_linked (lowers_by (opened_by_enable answer) starts)
   where
     lowers_by : (o : Opened) → is_started_opened o ≡ true → is_lowering_opened o ≡ true
     lowers_by (opens.Started resend) h = refl
     lowers_by opens.No h = cc
     lowers_by opens.Unbalanced h = cc
     lowers_by opens.Lowered h = cc
-started_some def (entries.Request s x flags links.Linked opened) past due starts
+started_some def (by.Driver s (drivers.Request flags links.Linked opened x)) past due starts
     = ap is_empty (linked_request s x flags opened past) ∙ some_last (filter (λ y. not (same_dev y x)) (linked past)) x
-started_some def (entries.Request s x flags (links.Refused error) opened) past due starts =
+started_some def (by.Driver s (drivers.Request flags (links.Refused error) opened x)) past due starts =
     let u = request_due def s x flags (links.Refused error) opened past due in
     let is : opened ≡ opens.No = u.opened_is ∙ ap (λ (a : LinkAnswer). opened_with def flags past a) (sym u.answer_is) in
     let n : is_started_opened opened ≡ false = ap is_started_opened is in
     both_ways (is_started_opened opened) starts n
+started_some def (by.CpuCall c call) past due starts = no_cpu_call def c call past due
+started_some def (by.ThreadCall x call) past due starts = no_thread_call def x call past due
 started_some def e past due starts = cc
 
 -- ---- an enabled line is started

@@ -6,7 +6,6 @@ use Rattle.std.proofs.lemmas.Bool.{or_from, false_from_ne_true}
 use Rattle.irq_base.specs.declared.numbers.CpuNo.{CpuNo}
 use Rattle.irq_base.specs.declared.numbers.DevNo.{DevNo}
 use Rattle.irq_base.specs.declared.numbers.DriverNo.{DriverNo}
-use Rattle.irq_base.specs.declared.numbers.LineNo.{LineNo}
 use Rattle.irq_base.specs.declared.calls.Call.{Call}
 use Rattle.irq_base.specs.declared.calls.Call.TheVariants as calls
 use Rattle.irq_base.specs.declared.devices.DeviceDef.{DeviceDef}
@@ -83,15 +82,15 @@ within def past i d n = by_tests (suc n == 0) (suc n == 1) (not_zero n)
 free_moves : (def : LineDef) (h : List Entry) → IsLegal def h → Kept def (reverse h) → IsIdle def (reverse h) → holds_mutex (reverse h) ≡ true → FreeMoves def h
 free_moves def h legal k i held =
     let o = holder (reverse h) held in
-    let under = k.frees.one_driver o.driver o.dev o.stands_there in
-    let w = within_free def (reverse h) legal o.driver o.dev under in
+    let under = k.frees.one_driver o.maker o.dev o.stands_there in
+    let w = within_free def (reverse h) legal under.0 o.dev under.2 in
     record {
-      driver = o.driver;
+      driver = under.0;
       dev = o.dev;
-      under_way = under;
+      under_way = under.2;
       after_unlink = w.0;
       call = w.1;
-      moves = call_waits def (reverse h) i o.driver (calls.Free o.dev) (suc w.0) w.1 ∙ ap not (within def (reverse h) i o.dev w.0);
+      moves = call_waits def (reverse h) i under.0 (calls.Free o.dev) (suc w.0) w.1 ∙ ap not (within def (reverse h) i o.dev w.0);
     }
 
 pub idle_drivers_move : (def : LineDef) (h : List Entry) → IsLegal def h → Kept def (reverse h) → IsIdle def (reverse h)
@@ -109,8 +108,9 @@ idle_drivers_move def h legal k i r (Some (c, n)) is some = by_block (only_mutex
     by_block (inr waits) = by_mutex (holds_mutex (reverse h)) refl waits
 
 pub drivers_move : (def : LineDef) (h : List Entry) → IsValid def → IsLegal def h
-    → ((line : LineNo) (d : DevNo) → next def h (actors.Thread line d) ≡ None)
+    → ((d : DevNo) → next def h (actors.Thread d) ≡ None)
     → ((c : CpuNo) → next def h (actors.Cpu c) ≡ None)
     → (r : DriverNo) → IsSome (due_call def r (reverse h)) → IsSome (next def h (actors.Driver r)) ⊎ FreeMoves def h
 drivers_move def h valid legal threads cpus r some =
-    idle_drivers_move def h legal (kept def (reverse h) valid legal) (idle def (reverse h) threads cpus) r (due_call def r (reverse h)) refl some
+    let k = kept def (reverse h) valid legal in
+    idle_drivers_move def h legal k (idle def (reverse h) k threads cpus) r (due_call def r (reverse h)) refl some

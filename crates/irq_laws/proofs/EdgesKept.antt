@@ -6,7 +6,8 @@ use Rattle.irq_base.specs.declared.lines.FlowKind.{FlowKind}
 use Rattle.irq_base.specs.declared.lines.FlowKind.TheVariants as flows
 use Rattle.irq_base.specs.declared.lines.LineDef.{LineDef}
 use Rattle.irq_base.specs.declared.entries.Entry.{Entry}
-use Rattle.irq_base.specs.declared.entries.Entry.TheVariants as entries
+use Rattle.irq_base.specs.declared.entries.Entry.TheVariants as by
+use Rattle.irq_base.specs.declared.entries.CpuEntry.TheVariants as cpus
 use Rattle.irq_base.specs.declared.entries.TakeAnswer.TheVariants as takes
 use Rattle.irq_base.specs.declared.entries.Note.{Note}
 use Rattle.irq_model.specs.Kinds.{is_take, is_start, is_again, is_handle, is_disable, is_kill, is_last_unlink, is_reopening}
@@ -41,8 +42,8 @@ end_goes_on def flows.Level past note valid edge is on p = level_is_not (is_edge
 end_goes_on def flows.Eoi past note valid edge is on p = and_from _ _ edge (and_from _ _ p (ap not on))
 
 pub end_again : (def : LineDef) (c : CpuNo) (again unmask : Bool) (note : Note) (past : List Entry) → IsValid def
-    → IsDue def (entries.End c again unmask note) past → is_edge_line def ≡ true
-    → StaysEnabled (entries.End c again unmask note) past
+    → IsDue def (by.Cpu c (cpus.End again unmask note)) past → is_edge_line def ≡ true
+    → StaysEnabled (by.Cpu c (cpus.End again unmask note)) past
     → is_pending def past ≡ true → again ≡ true
 end_again def c again unmask note past valid due edge q p =
     let u = end_due def c again unmask note past due in
@@ -78,18 +79,18 @@ pending_plain def e past due kd k plain edge p zero = by_case (enabled_before de
 pending_more : (def : LineDef) (e : Entry) (past : List Entry) → IsValid def → IsDue def e past → KeepsDepth def past
     → EdgePendingHasFlow def past → is_edge_line def ≡ true → is_pending def (e ∷ past) ≡ true → depth (e ∷ past) ≡ 0
     → has_flow def (e ∷ past) ≡ true
-pending_more def (entries.Take c way takes.Handle) past valid due kd k edge p zero = refl
-pending_more def (entries.Take c way takes.Busy) past valid due kd k edge p zero =
-    ap is_some (flow_quiet def (entries.Take c way takes.Busy) past refl refl refl) ∙ busy_has_flow def c way past due
-pending_more def (entries.Take c way takes.Off) past valid due kd k edge p zero = never_off def c way past due kd zero
-pending_more def (entries.End c again unmask note) past valid due kd k edge p zero
-    = by_case (enabled_before def (entries.End c again unmask note) past due kd zero)
+pending_more def (by.Cpu c (cpus.Take way takes.Handle)) past valid due kd k edge p zero = refl
+pending_more def (by.Cpu c (cpus.Take way takes.Busy)) past valid due kd k edge p zero =
+    ap is_some (flow_quiet def (by.Cpu c (cpus.Take way takes.Busy)) past refl refl refl) ∙ busy_has_flow def c way past due
+pending_more def (by.Cpu c (cpus.Take way takes.Off)) past valid due kd k edge p zero = never_off def c way past due kd zero
+pending_more def (by.Cpu c (cpus.End again unmask note)) past valid due kd k edge p zero
+    = by_case (enabled_before def (by.Cpu c (cpus.End again unmask note)) past due kd zero)
   where
-    by_case : (is_start (entries.End c again unmask note) ≡ true) ⊎ StaysEnabled (entries.End c again unmask note) past
-        → has_flow def (entries.End c again unmask note ∷ past) ≡ true
+    by_case : (is_start (by.Cpu c (cpus.End again unmask note)) ≡ true) ⊎ StaysEnabled (by.Cpu c (cpus.End again unmask note)) past
+        → has_flow def (by.Cpu c (cpus.End again unmask note) ∷ past) ≡ true
     by_case (inl starts) = cc
     by_case (inr q) =
-        let b = pending_before def (entries.End c again unmask note) past refl p in
+        let b = pending_before def (by.Cpu c (cpus.End again unmask note)) past refl p in
         both_ways again (end_again def c again unmask note past valid due edge q b.2) b.0
 pending_more def e past valid due kd k edge p zero = pending_plain def e past due kd k
     (record { no_take = refl; no_handle = refl; no_leave = refl; no_again = refl }) edge p zero
@@ -119,22 +120,22 @@ edge_more : (def : LineDef) (e : Entry) (past : List Entry) → IsValid def → 
     → EdgeFlowMaskIsPending def past → is_edge_flow def.flow ≡ true → is_masked def (e ∷ past) ≡ true
     → depth (e ∷ past) ≡ 0
     → (has_flow def (e ∷ past) ≡ true) × (is_pending def (e ∷ past) ≡ true)
-edge_more def (entries.Take c way takes.Handle) past valid due kd k edge m zero =
+edge_more def (by.Cpu c (cpus.Take way takes.Handle)) past valid due kd k edge m zero =
     let was : is_masked def past ≡ true = sym (take_masked def flows.Edge c way takes.Handle past (edge_is def.flow edge)) ∙ m in
     both_ways (has_flow def past) (k edge was zero).0 (handle_idle def past (take_due def c way takes.Handle past due).answer_is).0
-edge_more def (entries.Take c way takes.Busy) past valid due kd k edge m zero = (
-  ap is_some (flow_quiet def (entries.Take c way takes.Busy) past refl refl refl) ∙ busy_has_flow def c way past due,
+edge_more def (by.Cpu c (cpus.Take way takes.Busy)) past valid due kd k edge m zero = (
+  ap is_some (flow_quiet def (by.Cpu c (cpus.Take way takes.Busy)) past refl refl refl) ∙ busy_has_flow def c way past due,
   ap (λ (b : Bool). (b && true) || is_pending def past) (valid.edge_flow edge),
 )
-edge_more def (entries.Take c way takes.Off) past valid due kd k edge m zero = never_off def c way past due kd zero
-edge_more def (entries.End c again unmask note) past valid due kd k edge m zero
-    = by_case (enabled_before def (entries.End c again unmask note) past due kd zero)
+edge_more def (by.Cpu c (cpus.Take way takes.Off)) past valid due kd k edge m zero = never_off def c way past due kd zero
+edge_more def (by.Cpu c (cpus.End again unmask note)) past valid due kd k edge m zero
+    = by_case (enabled_before def (by.Cpu c (cpus.End again unmask note)) past due kd zero)
   where
-    by_case : (is_start (entries.End c again unmask note) ≡ true) ⊎ StaysEnabled (entries.End c again unmask note) past
-        → (has_flow def (entries.End c again unmask note ∷ past) ≡ true) × (is_pending def (entries.End c again unmask note ∷ past) ≡ true)
+    by_case : (is_start (by.Cpu c (cpus.End again unmask note)) ≡ true) ⊎ StaysEnabled (by.Cpu c (cpus.End again unmask note)) past
+        → (has_flow def (by.Cpu c (cpus.End again unmask note) ∷ past) ≡ true) × (is_pending def (by.Cpu c (cpus.End again unmask note) ∷ past) ≡ true)
     by_case (inl starts) = cc
     by_case (inr q) =
-        let b = masked_before def (entries.End c again unmask note) past refl q m in
+        let b = masked_before def (by.Cpu c (cpus.End again unmask note)) past refl q m in
         let n = k edge b.0 q.was in
         let u = end_due def c again unmask note past due in
         let on = ap (λ (x : Note). is_off_now past x) (sym u.note_is) ∙ off_now past c again unmask note q in
@@ -157,15 +158,15 @@ eoi_plain def e past due kd k no_take edge eoi zero = by_case (enabled_before de
 eoi_more : (def : LineDef) (e : Entry) (past : List Entry) → IsDue def e past → KeepsDepth def past
     → EoiEdgeIsOpen def past → is_edge_line def ≡ true → is_eoi_flow def.flow ≡ true → depth (e ∷ past) ≡ 0
     → is_masked def (e ∷ past) ≡ false
-eoi_more def (entries.Take c way takes.Handle) past due kd k edge eoi zero =
+eoi_more def (by.Cpu c (cpus.Take way takes.Handle)) past due kd k edge eoi zero =
     take_masked def flows.Eoi c way takes.Handle past (eoi_is def.flow eoi)
     ∙ eoi_open (is_edge_line def) (is_oneshot past) (is_masked def past) edge (k edge eoi zero)
   where
     eoi_open : (g o m : Bool) → g ≡ true → m ≡ false → ((false || (true && (not g && o))) || m) ≡ false
     eoi_open g o m a b = grind arith
-eoi_more def (entries.Take c way takes.Busy) past due kd k edge eoi zero
+eoi_more def (by.Cpu c (cpus.Take way takes.Busy)) past due kd k edge eoi zero
     = take_masked def flows.Eoi c way takes.Busy past (eoi_is def.flow eoi) ∙ k edge eoi zero
-eoi_more def (entries.Take c way takes.Off) past due kd k edge eoi zero = never_off def c way past due kd zero
+eoi_more def (by.Cpu c (cpus.Take way takes.Off)) past due kd k edge eoi zero = never_off def c way past due kd zero
 eoi_more def e past due kd k edge eoi zero = eoi_plain def e past due kd k refl edge eoi zero
 
 -- ---- when a masked chip drops edges
@@ -211,20 +212,20 @@ dropped_more : (def : LineDef) (e : Entry) (past : List Entry) → IsValid def �
     → EdgePendingHasFlow def past → DroppedIsPending def past → is_edge_line def ≡ true → def.keeps ≡ false
     → is_masked def (e ∷ past) ≡ true
     → is_started (e ∷ past) ≡ true → is_pending def (e ∷ past) ≡ true
-dropped_more def (entries.Take c way takes.Handle) past valid due kd kp k edge drops m s =
+dropped_more def (by.Cpu c (cpus.Take way takes.Handle)) past valid due kd kp k edge drops m s =
     let was : is_masked def past ≡ true = sym (take_masked def flows.Edge c way takes.Handle past (dropping_flow def def.flow valid edge drops refl)) ∙ m in
     let idle = handle_idle def past (take_due def c way takes.Handle past due).answer_is in
     let zero = zero_depth past (or_parts (is_disabled past) (is_none_linked past) idle.1).0 in
     both_ways (has_flow def past) (kp edge (k edge drops was s) zero) idle.0
-dropped_more def (entries.Take c way takes.Busy) past valid due kd kp k edge drops m s = ap (λ (b : Bool). (b && true) || is_pending def past) edge
-dropped_more def (entries.Take c way takes.Off) past valid due kd kp k edge drops m s = refl
-dropped_more def (entries.End c again unmask note) past valid due kd kp k edge drops m s =
-    let b = dropping_before def (entries.End c again unmask note) past valid refl edge drops m s in
+dropped_more def (by.Cpu c (cpus.Take way takes.Busy)) past valid due kd kp k edge drops m s = ap (λ (b : Bool). (b && true) || is_pending def past) edge
+dropped_more def (by.Cpu c (cpus.Take way takes.Off)) past valid due kd kp k edge drops m s = refl
+dropped_more def (by.Cpu c (cpus.End again unmask note)) past valid due kd kp k edge drops m s =
+    let b = dropping_before def (by.Cpu c (cpus.End again unmask note)) past valid refl edge drops m s in
     let u = end_due def c again unmask note past due in
     let flow = dropping_flow def def.flow valid edge drops refl in
     let a : again ≡ again_by def flows.Edge past (note_of def past) = u.again_is ∙ ap (λ (f : FlowKind). again_by def f past (note_of def past)) flow in
     let o : unmask ≡ unmask_by def flows.Edge past (note_of def past) = u.unmask_is ∙ ap (λ (f : FlowKind). unmask_by def f past (note_of def past)) flow in
-    pending_stays def (entries.End c again unmask note) past refl refl
+    pending_stays def (by.Cpu c (cpus.End again unmask note)) past refl refl
     (not_again again unmask (is_masked def past) b.0 b.2 (o ∙ ap (λ (x : Bool). x && is_masked def past) (sym a)))
     refl (k edge drops b.0 b.1)
   where

@@ -1,6 +1,7 @@
 -- What a driver's entry implies when it is due: the call that it belongs to, and the conditions of
 -- its row.
-use Rattle.std.proofs.Common.{◌≡◌, ℕ, ◌⊎◌, inl, inr, true, false, ◌||◌, ◌==◌, cond, Option, Some, None, List, refl, sym, ap, ap₂, ◌∙◌, eqb-true}
+use Rattle.std.proofs.Common.{◌≡◌, ℕ, ◌⊎◌, inl, inr, Bool, true, false, ◌||◌, ◌==◌, cond, Option, Some, None, List}
+use Rattle.std.proofs.Common.{refl, sym, ap, ap₂, ◌∙◌, eqb-true, option_map}
 use Rattle.std.proofs.lemmas.Bool.{or_parts}
 use Rattle.irq_base.specs.declared.numbers.DevNo.{DevNo}
 use Rattle.irq_base.specs.declared.numbers.DriverNo.{DriverNo}
@@ -9,7 +10,10 @@ use Rattle.irq_base.specs.declared.calls.Call.{Call}
 use Rattle.irq_base.specs.declared.calls.Call.TheVariants as calls
 use Rattle.irq_base.specs.declared.lines.LineDef.{LineDef}
 use Rattle.irq_base.specs.declared.entries.Entry.{Entry}
-use Rattle.irq_base.specs.declared.entries.Entry.TheVariants as entries
+use Rattle.irq_base.specs.declared.entries.Entry.TheVariants as by
+use Rattle.irq_base.specs.declared.entries.DriverEntry.TheVariants as drivers
+use Rattle.irq_base.specs.declared.entries.CallEntry.{CallEntry}
+use Rattle.irq_base.specs.declared.entries.CallEntry.TheVariants as called
 use Rattle.irq_base.specs.declared.entries.EnableAnswer.{EnableAnswer}
 use Rattle.irq_base.specs.declared.entries.Opened.{Opened}
 use Rattle.irq_base.specs.declared.entries.Opened.TheVariants as opens
@@ -32,29 +36,31 @@ opened_with def flags past links.Linked = opened_by_request def flags past
 opened_with def flags past (links.Refused error) = opens.No
 
 request_shape : (def : LineDef) (r : DriverNo) (d : DevNo) (flags : Flags) (past : List Entry) (a : LinkAnswer)
-    → request_with def r d flags past a ≡ entries.Request r d flags a (opened_with def flags past a)
+    → request_with def r d flags past a ≡ by.Driver r (drivers.Request flags a (opened_with def flags past a) d)
 request_shape def r d flags past links.Linked = refl
 request_shape def r d flags past (links.Refused error) = refl
 
 -- the rows of a driver; `due` is its due call
 pub data Row (def : LineDef) (r : DriverNo) (due : Option (Call × ℕ)) (past : List Entry) (e : Entry) : Type 0 where
-  ask : (d : DevNo) (n : ℕ) → due ≡ Some (calls.Ask d, n) → entries.Ask r d ≡ e → Row def r due past e
+  ask : (d : DevNo) (n : ℕ) → due ≡ Some (calls.Ask d, n) → by.Driver r (drivers.Ask true d) ≡ e → Row def r due past e
   request : (d : DevNo) (flags : Flags) (n : ℕ) → due ≡ Some (calls.Request d flags, n) → holds_mutex past ≡ false
-      → entries.Request r d flags (link_answer def d flags past) (opened_with def flags past (link_answer def d flags past)) ≡ e → Row def r due past e
-  unlink : (d : DevNo) → due ≡ Some (calls.Free d, 0) → holds_mutex past ≡ false → entries.Unlink r d (unlink_answer d past) ≡ e → Row def r due past e
-  free_clear : (d : DevNo) → due ≡ Some (calls.Free d, 1) → has_flow def past ≡ false → entries.HardClear r ≡ e → Row def r due past e
+      → by.Driver r (drivers.Request flags (link_answer def d flags past)
+      (opened_with def flags past (link_answer def d flags past)) d) ≡ e → Row def r due past e
+  unlink : (d : DevNo) → due ≡ Some (calls.Free d, 0) → holds_mutex past ≡ false
+      → by.DriverCall r (called.Unlink (unlink_answer d past) d) ≡ e → Row def r due past e
+  free_clear : (d : DevNo) → due ≡ Some (calls.Free d, 1) → has_flow def past ≡ false → by.DriverCall r called.HardClear ≡ e → Row def r due past e
   freed : (d : DevNo) (n : ℕ) → due ≡ Some (calls.Free d, n) → (n == 0) ≡ false → (n == 1) ≡ false
-      → (is_woken past d || is_running past d) ≡ false → entries.Freed r d ≡ e → Row def r due past e
-  disable : due ≡ Some (calls.Disable, 0) → entries.Disable r ≡ e → Row def r due past e
-  disable_clear : due ≡ Some (calls.Disable, 1) → has_flow def past ≡ false → entries.HardClear r ≡ e → Row def r due past e
+      → (is_woken past d || is_running past d) ≡ false → by.DriverCall r (called.Freed d) ≡ e → Row def r due past e
+  disable : due ≡ Some (calls.Disable, 0) → by.DriverCall r called.Disable ≡ e → Row def r due past e
+  disable_clear : due ≡ Some (calls.Disable, 1) → has_flow def past ≡ false → by.DriverCall r called.HardClear ≡ e → Row def r due past e
   disable_synced : (n : ℕ) → due ≡ Some (calls.Disable, n) → (n == 0) ≡ false → (n == 1) ≡ false
-      → active_count def past ≡ 0 → entries.Synced r ≡ e → Row def r due past e
-  nosync : (n : ℕ) → due ≡ Some (calls.DisableNosync, n) → entries.Disable r ≡ e → Row def r due past e
-  enable : (n : ℕ) → due ≡ Some (calls.Enable, n) → entries.Enable r (enable_answer def past) ≡ e → Row def r due past e
-  sync_clear : due ≡ Some (calls.Sync, 0) → has_flow def past ≡ false → entries.HardClear r ≡ e → Row def r due past e
-  synced : (n : ℕ) → due ≡ Some (calls.Sync, n) → (n == 0) ≡ false → active_count def past ≡ 0 → entries.Synced r ≡ e → Row def r due past e
-  affinity : (mask n : ℕ) → due ≡ Some (calls.Affinity mask, n) → entries.Affinity r mask (affinity_answer def mask) ≡ e → Row def r due past e
-  moment : (at n : ℕ) → due ≡ Some (calls.Moment at, n) → entries.Moment r at ≡ e → Row def r due past e
+      → active_count def past ≡ 0 → by.DriverCall r called.Synced ≡ e → Row def r due past e
+  nosync : (n : ℕ) → due ≡ Some (calls.DisableNosync, n) → by.DriverCall r called.Disable ≡ e → Row def r due past e
+  enable : (n : ℕ) → due ≡ Some (calls.Enable, n) → by.DriverCall r (called.Enable (enable_answer def past)) ≡ e → Row def r due past e
+  sync_clear : due ≡ Some (calls.Sync, 0) → has_flow def past ≡ false → by.DriverCall r called.HardClear ≡ e → Row def r due past e
+  synced : (n : ℕ) → due ≡ Some (calls.Sync, n) → (n == 0) ≡ false → active_count def past ≡ 0 → by.DriverCall r called.Synced ≡ e → Row def r due past e
+  affinity : (mask n : ℕ) → due ≡ Some (calls.Affinity mask, n) → by.Driver r (drivers.Affinity (affinity_answer def mask) mask) ≡ e → Row def r due past e
+  moment : (at n : ℕ) → due ≡ Some (calls.Moment at, n) → by.Driver r (drivers.Moment at) ≡ e → Row def r due past e
 
 at_zero : (c : Call) (n : ℕ) (due : Option (Call × ℕ)) → due ≡ Some (c, n) → (n == 0) ≡ true → due ≡ Some (c, 0)
 at_zero c n due is zero = is ∙ ap (λ (m : ℕ). Some (c, m)) (eqb-true n 0 zero)
@@ -62,47 +68,66 @@ at_zero c n due is zero = is ∙ ap (λ (m : ℕ). Some (c, m)) (eqb-true n 0 ze
 at_one : (c : Call) (n : ℕ) (due : Option (Call × ℕ)) → due ≡ Some (c, n) → (n == 1) ≡ true → due ≡ Some (c, 1)
 at_one c n due is one = is ∙ ap (λ (m : ℕ). Some (c, m)) (eqb-true n 1 one)
 
-clears : (def : LineDef) (r : DriverNo) (past : List Entry) (e : Entry) → hard_clear_of def r past ≡ Some e
-    → (has_flow def past ≡ false) × (entries.HardClear r ≡ e)
-clears def r past e h = from_else (has_flow def past) (entries.HardClear r) e h
+clears : (def : LineDef) (past : List Entry) (call : CallEntry) → hard_clear_of def past ≡ Some call
+    → (has_flow def past ≡ false) × (called.HardClear ≡ call)
+clears def past call h = from_else (has_flow def past) called.HardClear call h
 
-syncs : (def : LineDef) (r : DriverNo) (past : List Entry) (e : Entry) → synced_of def r past ≡ Some e → (active_count def past ≡ 0) × (entries.Synced r ≡ e)
-syncs def r past e h = let n = from_then (active_count def past == 0) (entries.Synced r) e h in (eqb-true (active_count def past) 0 n.0, n.1)
+syncs : (def : LineDef) (past : List Entry) (call : CallEntry) → synced_of def past ≡ Some call → (active_count def past ≡ 0) × (called.Synced ≡ call)
+syncs def past call h = let n = from_then (active_count def past == 0) called.Synced call h in (eqb-true (active_count def past) 0 n.0, n.1)
+
+-- a driver's entry is its call's step
+abbrev Step : DriverNo → Option CallEntry → Entry → Type 0
+Step r o e = (call : CallEntry) × (o ≡ Some call) × (by.DriverCall r call ≡ e)
+
+step_of : (r : DriverNo) (o : Option CallEntry) (e : Entry) → option_map (by.DriverCall r) o ≡ Some e → Step r o e
+step_of r None e h = cc
+step_of r (Some call) e h = (call, refl, the_same _ _ h)
 
 row_of_free : (def : LineDef) (r : DriverNo) (d : DevNo) (n : ℕ) (due : Option (Call × ℕ)) (past : List Entry)
-    (e : Entry) → due ≡ Some (calls.Free d, n) → next_of_free def r d n past ≡ Some e → Row def r due past e
-row_of_free def r d n due past e is h = first (chosen (n == 0) _ _ e h)
+    (e : Entry) → due ≡ Some (calls.Free d, n) → Step r (next_of_free def d n past) e → Row def r due past e
+row_of_free def r d n due past e is (call, h, same) = first (chosen (n == 0) _ _ call h)
   where
-    rest : (n == 0) ≡ false → ((n == 1) ≡ true) × (hard_clear_of def r past ≡ Some e) ⊎ ((n == 1) ≡ false) × (freed_of r d past ≡ Some e) → Row def r due past e
-    rest some (inl h) = let c = clears def r past e h.1 in free_clear d (at_one (calls.Free d) n due is h.0) c.0 c.1
-    rest some (inr h) = let f = from_else (is_woken past d || is_running past d) (entries.Freed r d) e h.1 in freed d n is some h.0 f.0 f.1
+    step : (c : CallEntry) → c ≡ call → by.DriverCall r c ≡ e
+    step c i = ap (by.DriverCall r) i ∙ same
 
-    first : ((n == 0) ≡ true) × (cond (holds_mutex past) None (Some (entries.Unlink r d (unlink_answer d past))) ≡ Some e)
-        ⊎ ((n == 0) ≡ false) × (cond (n == 1) (hard_clear_of def r past) (freed_of r d past) ≡ Some e) → Row def r due past e
-    first (inl h) = let u = from_else (holds_mutex past) _ e h.1 in unlink d (at_zero (calls.Free d) n due is h.0) u.0 u.1
-    first (inr h) = rest h.0 (chosen (n == 1) _ _ e h.1)
+    rest : (n == 0) ≡ false → ((n == 1) ≡ true) × (hard_clear_of def past ≡ Some call) ⊎ ((n == 1) ≡ false)
+        × (freed_of d past ≡ Some call) → Row def r due past e
+    rest some (inl h) = let c = clears def past call h.1 in free_clear d (at_one (calls.Free d) n due is h.0) c.0 (step called.HardClear c.1)
+    rest some (inr h) = let f = from_else (is_woken past d || is_running past d) (called.Freed d) call h.1 in
+        freed d n is some h.0 f.0 (step (called.Freed d) f.1)
+
+    first : ((n == 0) ≡ true) × (cond (holds_mutex past) None (Some (called.Unlink (unlink_answer d past) d)) ≡ Some call)
+        ⊎ ((n == 0) ≡ false) × (cond (n == 1) (hard_clear_of def past) (freed_of d past) ≡ Some call) → Row def r due past e
+    first (inl h) = let u = from_else (holds_mutex past) _ call h.1 in unlink d (at_zero (calls.Free d) n due is h.0) u.0 (step _ u.1)
+    first (inr h) = rest h.0 (chosen (n == 1) _ _ call h.1)
 
 row_of_disable : (def : LineDef) (r : DriverNo) (n : ℕ) (due : Option (Call × ℕ)) (past : List Entry) (e : Entry)
-    → due ≡ Some (calls.Disable, n) → next_of_disable def r n past ≡ Some e → Row def r due past e
-row_of_disable def r n due past e is h = first (chosen (n == 0) _ _ e h)
+    → due ≡ Some (calls.Disable, n) → Step r (next_of_disable def n past) e → Row def r due past e
+row_of_disable def r n due past e is (call, h, same) = first (chosen (n == 0) _ _ call h)
   where
-    rest : (n == 0) ≡ false → ((n == 1) ≡ true) × (hard_clear_of def r past ≡ Some e) ⊎ ((n == 1) ≡ false)
-        × (synced_of def r past ≡ Some e) → Row def r due past e
-    rest some (inl h) = let c = clears def r past e h.1 in disable_clear (at_one calls.Disable n due is h.0) c.0 c.1
-    rest some (inr h) = let s = syncs def r past e h.1 in disable_synced n is some h.0 s.0 s.1
+    step : (c : CallEntry) → c ≡ call → by.DriverCall r c ≡ e
+    step c i = ap (by.DriverCall r) i ∙ same
 
-    first : ((n == 0) ≡ true) × (Some (entries.Disable r) ≡ Some e)
-        ⊎ ((n == 0) ≡ false) × (cond (n == 1) (hard_clear_of def r past) (synced_of def r past) ≡ Some e) → Row def r due past e
-    first (inl h) = disable (at_zero calls.Disable n due is h.0) (the_same _ _ h.1)
-    first (inr h) = rest h.0 (chosen (n == 1) _ _ e h.1)
+    rest : (n == 0) ≡ false → ((n == 1) ≡ true) × (hard_clear_of def past ≡ Some call) ⊎ ((n == 1) ≡ false)
+        × (synced_of def past ≡ Some call) → Row def r due past e
+    rest some (inl h) = let c = clears def past call h.1 in disable_clear (at_one calls.Disable n due is h.0) c.0 (step called.HardClear c.1)
+    rest some (inr h) = let s = syncs def past call h.1 in disable_synced n is some h.0 s.0 (step called.Synced s.1)
+
+    first : ((n == 0) ≡ true) × (Some called.Disable ≡ Some call)
+        ⊎ ((n == 0) ≡ false) × (cond (n == 1) (hard_clear_of def past) (synced_of def past) ≡ Some call) → Row def r due past e
+    first (inl h) = disable (at_zero calls.Disable n due is h.0) (step called.Disable (the_same _ _ h.1))
+    first (inr h) = rest h.0 (chosen (n == 1) _ _ call h.1)
 
 row_of_sync : (def : LineDef) (r : DriverNo) (n : ℕ) (due : Option (Call × ℕ)) (past : List Entry) (e : Entry)
-    → due ≡ Some (calls.Sync, n) → next_of_sync def r n past ≡ Some e → Row def r due past e
-row_of_sync def r n due past e is h = first (chosen (n == 0) _ _ e h)
+    → due ≡ Some (calls.Sync, n) → Step r (next_of_sync def n past) e → Row def r due past e
+row_of_sync def r n due past e is (call, h, same) = first (chosen (n == 0) _ _ call h)
   where
-    first : ((n == 0) ≡ true) × (hard_clear_of def r past ≡ Some e) ⊎ ((n == 0) ≡ false) × (synced_of def r past ≡ Some e) → Row def r due past e
-    first (inl h) = let c = clears def r past e h.1 in sync_clear (at_zero calls.Sync n due is h.0) c.0 c.1
-    first (inr h) = let s = syncs def r past e h.1 in synced n is h.0 s.0 s.1
+    step : (c : CallEntry) → c ≡ call → by.DriverCall r c ≡ e
+    step c i = ap (by.DriverCall r) i ∙ same
+
+    first : ((n == 0) ≡ true) × (hard_clear_of def past ≡ Some call) ⊎ ((n == 0) ≡ false) × (synced_of def past ≡ Some call) → Row def r due past e
+    first (inl h) = let c = clears def past call h.1 in sync_clear (at_zero calls.Sync n due is h.0) c.0 (step called.HardClear c.1)
+    first (inr h) = let s = syncs def past call h.1 in synced n is h.0 s.0 (step called.Synced s.1)
 
 row_of_request : (def : LineDef) (r : DriverNo) (d : DevNo) (flags : Flags) (n : ℕ) (due : Option (Call × ℕ))
     (past : List Entry) (e : Entry) → due ≡ Some (calls.Request d flags, n)
@@ -116,11 +141,11 @@ row_of : (def : LineDef) (r : DriverNo) (due o : Option (Call × ℕ)) (past : L
 row_of def r due None past e is h = cc
 row_of def r due (Some (calls.Ask d, n)) past e is h = ask d n is (the_same _ _ h)
 row_of def r due (Some (calls.Request d flags, n)) past e is h = row_of_request def r d flags n due past e is h
-row_of def r due (Some (calls.Free d, n)) past e is h = row_of_free def r d n due past e is h
-row_of def r due (Some (calls.Disable, n)) past e is h = row_of_disable def r n due past e is h
+row_of def r due (Some (calls.Free d, n)) past e is h = row_of_free def r d n due past e is (step_of r (next_of_free def d n past) e h)
+row_of def r due (Some (calls.Disable, n)) past e is h = row_of_disable def r n due past e is (step_of r (next_of_disable def n past) e h)
 row_of def r due (Some (calls.DisableNosync, n)) past e is h = nosync n is (the_same _ _ h)
 row_of def r due (Some (calls.Enable, n)) past e is h = enable n is (the_same _ _ h)
-row_of def r due (Some (calls.Sync, n)) past e is h = row_of_sync def r n due past e is h
+row_of def r due (Some (calls.Sync, n)) past e is h = row_of_sync def r n due past e is (step_of r (next_of_sync def n past) e h)
 row_of def r due (Some (calls.Affinity mask, n)) past e is h = affinity mask n is (the_same _ _ h)
 row_of def r due (Some (calls.Moment at, n)) past e is h = moment at n is (the_same _ _ h)
 
@@ -132,16 +157,16 @@ driver_row def r past e h = row_of def r (due_call def r past) (due_call def r p
 -- ---- the kinds of entries and rows, as numbers
 
 abbrev kind : Entry → ℕ
-kind (entries.Ask driver dev) = 0
-kind (entries.Disable driver) = 1
-kind (entries.HardClear driver) = 2
-kind (entries.Synced driver) = 3
-kind (entries.Enable driver answer) = 4
-kind (entries.Request driver dev flags answer opened) = 5
-kind (entries.Unlink driver dev answer) = 6
-kind (entries.Freed driver dev) = 7
-kind (entries.Affinity driver mask answer) = 8
-kind (entries.Moment driver at) = 9
+kind (by.Driver driver (drivers.Ask makes dev)) = 0
+kind (by.DriverCall driver called.Disable) = 1
+kind (by.DriverCall driver called.HardClear) = 2
+kind (by.DriverCall driver called.Synced) = 3
+kind (by.DriverCall driver (called.Enable answer)) = 4
+kind (by.Driver driver (drivers.Request flags answer opened dev)) = 5
+kind (by.DriverCall driver (called.Unlink answer dev)) = 6
+kind (by.DriverCall driver (called.Freed dev)) = 7
+kind (by.Driver driver (drivers.Affinity answer mask)) = 8
+kind (by.Driver driver (drivers.Moment at)) = 9
 kind _ = 10
 
 abbrev row_kind : {def : LineDef} {r : DriverNo} {due : Option (Call × ℕ)} {past : List Entry} {e : Entry} → Row def r due past e → ℕ
@@ -234,15 +259,17 @@ pub record IsMomentDue (def : LineDef) (r : DriverNo) (at : ℕ) (past : List En
 
 -- ---- the inversions
 
-ask_row : (def : LineDef) (r : DriverNo) (d : DevNo) (past : List Entry) → Row def r (due_call def r past) past (entries.Ask r d) → IsAskDue def r d past
-ask_row def r d past (ask x n is same) = let s : x ≡ d = cc in record { count = n; call = is ∙ ap (λ (y : DevNo). Some (calls.Ask y, n)) s }
-ask_row def r d past x = let n = kinds_agree x in cc
+ask_row : (makes : Bool) (def : LineDef) (r : DriverNo) (d : DevNo) (past : List Entry)
+    → Row def r (due_call def r past) past (by.Driver r (drivers.Ask makes d)) → IsAskDue def r d past
+ask_row makes def r d past (ask x n is same) = let s : x ≡ d = cc in record { count = n; call = is ∙ ap (λ (y : DevNo). Some (calls.Ask y, n)) s }
+ask_row makes def r d past x = let n = kinds_agree x in cc
 
-pub ask_due : (def : LineDef) (r : DriverNo) (d : DevNo) (past : List Entry) → IsDue def (entries.Ask r d) past → IsAskDue def r d past
-ask_due def r d past due = ask_row def r d past (driver_row def r past (entries.Ask r d) due)
+pub ask_due : (makes : Bool) (def : LineDef) (r : DriverNo) (d : DevNo) (past : List Entry)
+    → IsDue def (by.Driver r (drivers.Ask makes d)) past → IsAskDue def r d past
+ask_due makes def r d past due = ask_row makes def r d past (driver_row def r past (by.Driver r (drivers.Ask makes d)) due)
 
 request_row : (def : LineDef) (r : DriverNo) (d : DevNo) (flags : Flags) (answer : LinkAnswer) (opened : Opened) (past : List Entry)
-    → Row def r (due_call def r past) past (entries.Request r d flags answer opened) → IsRequestDue def r d flags answer opened past
+    → Row def r (due_call def r past) past (by.Driver r (drivers.Request flags answer opened d)) → IsRequestDue def r d flags answer opened past
 request_row def r d flags answer opened past (request x fs n is free same) =
     let s : x ≡ d = cc in
     let t : fs ≡ flags = cc in
@@ -258,12 +285,12 @@ request_row def r d flags answer opened past (request x fs n is free same) =
 request_row def r d flags answer opened past x = let n = kinds_agree x in cc
 
 pub request_due : (def : LineDef) (r : DriverNo) (d : DevNo) (flags : Flags) (answer : LinkAnswer) (opened : Opened) (past : List Entry)
-    → IsDue def (entries.Request r d flags answer opened) past → IsRequestDue def r d flags answer opened past
+    → IsDue def (by.Driver r (drivers.Request flags answer opened d)) past → IsRequestDue def r d flags answer opened past
 request_due def r d flags answer opened past due = request_row def r d flags answer opened past
-    (driver_row def r past (entries.Request r d flags answer opened) due)
+    (driver_row def r past (by.Driver r (drivers.Request flags answer opened d)) due)
 
 unlink_row : (def : LineDef) (r : DriverNo) (d : DevNo) (answer : UnlinkAnswer) (past : List Entry)
-    → Row def r (due_call def r past) past (entries.Unlink r d answer) → IsUnlinkDue def r d answer past
+    → Row def r (due_call def r past) past (by.DriverCall r (called.Unlink answer d)) → IsUnlinkDue def r d answer past
 unlink_row def r d answer past (unlink x is free same) =
     let s : x ≡ d = cc in
     let a : unlink_answer x past ≡ answer = cc in
@@ -271,10 +298,11 @@ unlink_row def r d answer past (unlink x is free same) =
 unlink_row def r d answer past x = let n = kinds_agree x in cc
 
 pub unlink_due : (def : LineDef) (r : DriverNo) (d : DevNo) (answer : UnlinkAnswer) (past : List Entry)
-    → IsDue def (entries.Unlink r d answer) past → IsUnlinkDue def r d answer past
-unlink_due def r d answer past due = unlink_row def r d answer past (driver_row def r past (entries.Unlink r d answer) due)
+    → IsDue def (by.DriverCall r (called.Unlink answer d)) past → IsUnlinkDue def r d answer past
+unlink_due def r d answer past due = unlink_row def r d answer past (driver_row def r past (by.DriverCall r (called.Unlink answer d)) due)
 
-freed_row : (def : LineDef) (r : DriverNo) (d : DevNo) (past : List Entry) → Row def r (due_call def r past) past (entries.Freed r d) → IsFreedDue def r d past
+freed_row : (def : LineDef) (r : DriverNo) (d : DevNo) (past : List Entry)
+    → Row def r (due_call def r past) past (by.DriverCall r (called.Freed d)) → IsFreedDue def r d past
 freed_row def r d past (freed x n is some more rest same) =
     let s : x ≡ d = cc in
     let at_rest : (is_woken past d || is_running past d) ≡ false = sym (ap (λ (y : DevNo). is_woken past y || is_running past y) s) ∙ rest in
@@ -290,45 +318,47 @@ freed_row def r d past (freed x n is some more rest same) =
     }
 freed_row def r d past x = let n = kinds_agree x in cc
 
-pub freed_due : (def : LineDef) (r : DriverNo) (d : DevNo) (past : List Entry) → IsDue def (entries.Freed r d) past → IsFreedDue def r d past
-freed_due def r d past due = freed_row def r d past (driver_row def r past (entries.Freed r d) due)
+pub freed_due : (def : LineDef) (r : DriverNo) (d : DevNo) (past : List Entry) → IsDue def (by.DriverCall r (called.Freed d)) past → IsFreedDue def r d past
+freed_due def r d past due = freed_row def r d past (driver_row def r past (by.DriverCall r (called.Freed d)) due)
 
-disable_row : (def : LineDef) (r : DriverNo) (past : List Entry) → Row def r (due_call def r past) past (entries.Disable r) → IsDisableDue def r past
+disable_row : (def : LineDef) (r : DriverNo) (past : List Entry)
+    → Row def r (due_call def r past) past (by.DriverCall r called.Disable) → IsDisableDue def r past
 disable_row def r past (disable is same) = record { call = inl is }
 disable_row def r past (nosync n is same) = record { call = inr (n, is) }
 disable_row def r past x = let n = kinds_agree x in cc
 
-pub disable_due : (def : LineDef) (r : DriverNo) (past : List Entry) → IsDue def (entries.Disable r) past → IsDisableDue def r past
-disable_due def r past due = disable_row def r past (driver_row def r past (entries.Disable r) due)
+pub disable_due : (def : LineDef) (r : DriverNo) (past : List Entry) → IsDue def (by.DriverCall r called.Disable) past → IsDisableDue def r past
+disable_due def r past due = disable_row def r past (driver_row def r past (by.DriverCall r called.Disable) due)
 
-hard_clear_row : (def : LineDef) (r : DriverNo) (past : List Entry) → Row def r (due_call def r past) past (entries.HardClear r) → IsHardClearDue def r past
+hard_clear_row : (def : LineDef) (r : DriverNo) (past : List Entry)
+    → Row def r (due_call def r past) past (by.DriverCall r called.HardClear) → IsHardClearDue def r past
 hard_clear_row def r past (free_clear d is no_flow same) = record { call = inl (d, is); no_flow = no_flow }
 hard_clear_row def r past (disable_clear is no_flow same) = record { call = inr (inl is); no_flow = no_flow }
 hard_clear_row def r past (sync_clear is no_flow same) = record { call = inr (inr is); no_flow = no_flow }
 hard_clear_row def r past x = let n = kinds_agree x in cc
 
-pub hard_clear_due : (def : LineDef) (r : DriverNo) (past : List Entry) → IsDue def (entries.HardClear r) past → IsHardClearDue def r past
-hard_clear_due def r past due = hard_clear_row def r past (driver_row def r past (entries.HardClear r) due)
+pub hard_clear_due : (def : LineDef) (r : DriverNo) (past : List Entry) → IsDue def (by.DriverCall r called.HardClear) past → IsHardClearDue def r past
+hard_clear_due def r past due = hard_clear_row def r past (driver_row def r past (by.DriverCall r called.HardClear) due)
 
-synced_row : (def : LineDef) (r : DriverNo) (past : List Entry) → Row def r (due_call def r past) past (entries.Synced r) → IsSyncedDue def r past
+synced_row : (def : LineDef) (r : DriverNo) (past : List Entry) → Row def r (due_call def r past) past (by.DriverCall r called.Synced) → IsSyncedDue def r past
 synced_row def r past (disable_synced n is some more rest same) = record { count = n; call = inl (is, some, more); none_active = rest }
 synced_row def r past (synced n is some rest same) = record { count = n; call = inr (is, some); none_active = rest }
 synced_row def r past x = let n = kinds_agree x in cc
 
-pub synced_due : (def : LineDef) (r : DriverNo) (past : List Entry) → IsDue def (entries.Synced r) past → IsSyncedDue def r past
-synced_due def r past due = synced_row def r past (driver_row def r past (entries.Synced r) due)
+pub synced_due : (def : LineDef) (r : DriverNo) (past : List Entry) → IsDue def (by.DriverCall r called.Synced) past → IsSyncedDue def r past
+synced_due def r past due = synced_row def r past (driver_row def r past (by.DriverCall r called.Synced) due)
 
 enable_row : (def : LineDef) (r : DriverNo) (answer : EnableAnswer) (past : List Entry)
-    → Row def r (due_call def r past) past (entries.Enable r answer) → IsEnableDue def r answer past
+    → Row def r (due_call def r past) past (by.DriverCall r (called.Enable answer)) → IsEnableDue def r answer past
 enable_row def r answer past (enable n is same) = record { count = n; call = is; answer_is = (let a : answer ≡ enable_answer def past = cc in a) }
 enable_row def r answer past x = let n = kinds_agree x in cc
 
 pub enable_due : (def : LineDef) (r : DriverNo) (answer : EnableAnswer) (past : List Entry)
-    → IsDue def (entries.Enable r answer) past → IsEnableDue def r answer past
-enable_due def r answer past due = enable_row def r answer past (driver_row def r past (entries.Enable r answer) due)
+    → IsDue def (by.DriverCall r (called.Enable answer)) past → IsEnableDue def r answer past
+enable_due def r answer past due = enable_row def r answer past (driver_row def r past (by.DriverCall r (called.Enable answer)) due)
 
 affinity_row : (def : LineDef) (r : DriverNo) (mask : ℕ) (answer : AffinityAnswer) (past : List Entry)
-    → Row def r (due_call def r past) past (entries.Affinity r mask answer) → IsAffinityDue def r mask answer past
+    → Row def r (due_call def r past) past (by.Driver r (drivers.Affinity answer mask)) → IsAffinityDue def r mask answer past
 affinity_row def r mask answer past (affinity m n is same) =
     let s : m ≡ mask = cc in
     let a : affinity_answer def m ≡ answer = cc in
@@ -336,13 +366,13 @@ affinity_row def r mask answer past (affinity m n is same) =
 affinity_row def r mask answer past x = let n = kinds_agree x in cc
 
 pub affinity_due : (def : LineDef) (r : DriverNo) (mask : ℕ) (answer : AffinityAnswer) (past : List Entry)
-    → IsDue def (entries.Affinity r mask answer) past → IsAffinityDue def r mask answer past
-affinity_due def r mask answer past due = affinity_row def r mask answer past (driver_row def r past (entries.Affinity r mask answer) due)
+    → IsDue def (by.Driver r (drivers.Affinity answer mask)) past → IsAffinityDue def r mask answer past
+affinity_due def r mask answer past due = affinity_row def r mask answer past (driver_row def r past (by.Driver r (drivers.Affinity answer mask)) due)
 
 moment_row : (def : LineDef) (r : DriverNo) (at : ℕ) (past : List Entry)
-    → Row def r (due_call def r past) past (entries.Moment r at) → IsMomentDue def r at past
+    → Row def r (due_call def r past) past (by.Driver r (drivers.Moment at)) → IsMomentDue def r at past
 moment_row def r at past (moment t n is same) = let s : t ≡ at = cc in record { count = n; call = is ∙ ap (λ (k : ℕ). Some (calls.Moment k, n)) s }
 moment_row def r at past x = let n = kinds_agree x in cc
 
-pub moment_due : (def : LineDef) (r : DriverNo) (at : ℕ) (past : List Entry) → IsDue def (entries.Moment r at) past → IsMomentDue def r at past
-moment_due def r at past due = moment_row def r at past (driver_row def r past (entries.Moment r at) due)
+pub moment_due : (def : LineDef) (r : DriverNo) (at : ℕ) (past : List Entry) → IsDue def (by.Driver r (drivers.Moment at)) past → IsMomentDue def r at past
+moment_due def r at past due = moment_row def r at past (driver_row def r past (by.Driver r (drivers.Moment at)) due)

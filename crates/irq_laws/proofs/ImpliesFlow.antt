@@ -8,7 +8,8 @@ use Rattle.irq_base.specs.declared.lines.FlowKind.{FlowKind}
 use Rattle.irq_base.specs.declared.lines.FlowKind.TheVariants as flows
 use Rattle.irq_base.specs.declared.lines.LineDef.{LineDef}
 use Rattle.irq_base.specs.declared.entries.Entry.{Entry}
-use Rattle.irq_base.specs.declared.entries.Entry.TheVariants as entries
+use Rattle.irq_base.specs.declared.entries.Entry.TheVariants as by
+use Rattle.irq_base.specs.declared.entries.CpuEntry.TheVariants as cpus
 use Rattle.irq_base.specs.declared.entries.Way.{Way}
 use Rattle.irq_base.specs.declared.entries.Way.TheVariants as ways
 use Rattle.irq_base.specs.declared.entries.TakeAnswer.{TakeAnswer}
@@ -42,13 +43,13 @@ unmask_by def flows.Edge past note = (is_pending def past && not (is_off_now pas
 unmask_by def flows.Level past note = opens_level def past (not (is_off_now past note))
 unmask_by def flows.Eoi past note = not (is_edge_line def) && opens_level def past (not (is_off_now past note) && is_oneshot past)
 
-eoi_shape : (c : CpuNo) (b x y : Bool) (note : Note) → cond b (entries.End c x false note) (entries.End c false y note)
-    ≡ entries.End c (b && x) (not b && y) note
+eoi_shape : (c : CpuNo) (b x y : Bool) (note : Note) → cond b (by.Cpu c (cpus.End x false note)) (by.Cpu c (cpus.End false y note))
+    ≡ by.Cpu c (cpus.End (b && x) (not b && y) note)
 eoi_shape c true x y note = refl
 eoi_shape c false x y note = refl
 
 shape_by : (def : LineDef) (f : FlowKind) (c : CpuNo) (past : List Entry) (note : Note)
-    → end_by_flow def f c past note ≡ entries.End c (again_by def f past note) (unmask_by def f past note) note
+    → end_by_flow def f c past note ≡ by.Cpu c (cpus.End (again_by def f past note) (unmask_by def f past note) note)
 shape_by def flows.Edge c past note = refl
 shape_by def flows.Level c past note = refl
 shape_by def flows.Eoi c past note =
@@ -56,7 +57,8 @@ shape_by def flows.Eoi c past note =
     (opens_level def past (not (is_off_now past note) && is_oneshot past)) note
 
 pub end_shape : (def : LineDef) (c : CpuNo) (past : List Entry)
-    → end_of def c past ≡ entries.End c (again_by def def.flow past (note_of def past)) (unmask_by def def.flow past (note_of def past)) (note_of def past)
+    → end_of def c past ≡ by.Cpu c (cpus.End (again_by def def.flow past (note_of def past))
+    (unmask_by def def.flow past (note_of def past)) (note_of def past))
 end_shape def c past = shape_by def def.flow c past (note_of def past)
 
 -- ---- the records
@@ -115,40 +117,40 @@ take_cases false s o l r e h = cc
 
 take_of : (def : LineDef) (c : CpuNo) (past : List Entry) (e : Entry) → next_take def c past ≡ Some e
     → (is_cpu c (target def past) ≡ true) × (((signals def past ≡ true)
-    × (entries.Take c ways.Line (take_answer def past) ≡ e))
+    × (by.Cpu c (cpus.Take ways.Line (take_answer def past)) ≡ e))
     ⊎ ((signals def past ≡ false) × (is_soft past ≡ true)
-    × (entries.Take c ways.Resend (take_answer def past) ≡ e)))
+    × (by.Cpu c (cpus.Take ways.Resend (take_answer def past)) ≡ e)))
 take_of def c past e h = take_cases (is_cpu c (target def past)) (signals def past) (is_soft past) _ _ e h
 
 -- ---- in the flow
 
 -- no entry of a processor in the flow is a take
 not_take_left : (def : LineDef) (c : CpuNo) (past : List Entry) (l : Option DevNo) (way : Way) (answer : TakeAnswer)
-    → begin_or_end def c past l ≡ entries.Take c way answer → ⊥
+    → begin_or_end def c past l ≡ by.Cpu c (cpus.Take way answer) → ⊥
 not_take_left def c past None way answer h = let n = sym (end_shape def c past) ∙ h in cc
 not_take_left def c past (Some d) way answer h = cc
 
 not_take : (def : LineDef) (c : CpuNo) (past : List Entry) (w : Option DevNo) (way : Way) (answer : TakeAnswer)
-    → next_in_flow def c past w ≡ entries.Take c way answer → ⊥
+    → next_in_flow def c past w ≡ by.Cpu c (cpus.Take way answer) → ⊥
 not_take def c past None way answer h = not_take_left def c past (first_left def past (linked past)) way answer h
 not_take def c past (Some d) way answer h = cc
 
-begin_left : (def : LineDef) (c : CpuNo) (past : List Entry) (l : Option DevNo) (d : DevNo) → begin_or_end def c past l ≡ entries.Begin c d → l ≡ Some d
+begin_left : (def : LineDef) (c : CpuNo) (past : List Entry) (l : Option DevNo) (d : DevNo) → begin_or_end def c past l ≡ by.Cpu c (cpus.Begin d) → l ≡ Some d
 begin_left def c past None d h = let n = sym (end_shape def c past) ∙ h in cc
 begin_left def c past (Some x) d h = cc
 
 begin_work : (def : LineDef) (c : CpuNo) (past : List Entry) (w : Option DevNo) (d : DevNo)
-    → next_in_flow def c past w ≡ entries.Begin c d → (w ≡ None) × (first_left def past (linked past) ≡ Some d)
+    → next_in_flow def c past w ≡ by.Cpu c (cpus.Begin d) → (w ≡ None) × (first_left def past (linked past) ≡ Some d)
 begin_work def c past None d h = (refl, begin_left def c past (first_left def past (linked past)) d h)
 begin_work def c past (Some x) d h = cc
 
 return_left : (def : LineDef) (c : CpuNo) (past : List Entry) (l : Option DevNo) (d : DevNo) (answer : Answer)
-    (served : ℕ) → begin_or_end def c past l ≡ entries.Return c d answer served → ⊥
+    (served : ℕ) → begin_or_end def c past l ≡ by.Cpu c (cpus.Return answer d served) → ⊥
 return_left def c past None d answer served h = let n = sym (end_shape def c past) ∙ h in cc
 return_left def c past (Some x) d answer served h = cc
 
 same_return : (def : LineDef) (c : CpuNo) (past : List Entry) (x d : DevNo) (answer : Answer) (served : ℕ)
-    → next_in_flow def c past (Some x) ≡ entries.Return c d answer served
+    → next_in_flow def c past (Some x) ≡ by.Cpu c (cpus.Return answer d served)
     → (x ≡ d) × (answer_of (kind_of def x) parts.Primary (asks_of_handler def x past) ≡ answer)
 same_return def c past x d answer served h = (
   let a : x ≡ d = cc in
@@ -157,7 +159,7 @@ same_return def c past x d answer served h = (
 )
 
 return_work : (def : LineDef) (c : CpuNo) (past : List Entry) (w : Option DevNo) (d : DevNo) (answer : Answer)
-    (served : ℕ) → next_in_flow def c past w ≡ entries.Return c d answer served
+    (served : ℕ) → next_in_flow def c past w ≡ by.Cpu c (cpus.Return answer d served)
     → (w ≡ Some d) × (answer ≡ answer_of (kind_of def d) parts.Primary (asks_of_handler def d past))
 return_work def c past None d answer served h = absurd (return_left def c past (first_left def past (linked past)) d answer served h)
 return_work def c past (Some x) d answer served h =
@@ -165,31 +167,31 @@ return_work def c past (Some x) d answer served h =
     (ap Some s.0, sym (ap (λ (y : DevNo). answer_of (kind_of def y) parts.Primary (asks_of_handler def y past)) (sym s.0) ∙ s.1))
 
 end_left : (def : LineDef) (c : CpuNo) (past : List Entry) (l : Option DevNo) (again unmask : Bool) (note : Note)
-    → begin_or_end def c past l ≡ entries.End c again unmask note
-    → (l ≡ None) × (end_of def c past ≡ entries.End c again unmask note)
+    → begin_or_end def c past l ≡ by.Cpu c (cpus.End again unmask note)
+    → (l ≡ None) × (end_of def c past ≡ by.Cpu c (cpus.End again unmask note))
 end_left def c past None again unmask note h = (refl, h)
 end_left def c past (Some x) again unmask note h = cc
 
 end_work : (def : LineDef) (c : CpuNo) (past : List Entry) (w : Option DevNo) (again unmask : Bool) (note : Note)
-    → next_in_flow def c past w ≡ entries.End c again unmask note
-    → (w ≡ None) × (first_left def past (linked past) ≡ None) × (end_of def c past ≡ entries.End c again unmask note)
+    → next_in_flow def c past w ≡ by.Cpu c (cpus.End again unmask note)
+    → (w ≡ None) × (first_left def past (linked past) ≡ None) × (end_of def c past ≡ by.Cpu c (cpus.End again unmask note))
 end_work def c past None again unmask note h = let n = end_left def c past (first_left def past (linked past)) again unmask note h in (refl, n.0, n.1)
 end_work def c past (Some x) again unmask note h = cc
 
 same_end : (c : CpuNo) (a u : Bool) (n : Note) (again unmask : Bool) (note : Note)
-    → entries.End c a u n ≡ entries.End c again unmask note → (again ≡ a) × (unmask ≡ u) × (note ≡ n)
+    → by.Cpu c (cpus.End a u n) ≡ by.Cpu c (cpus.End again unmask note) → (again ≡ a) × (unmask ≡ u) × (note ≡ n)
 same_end c a u n again unmask note h = (let x : again ≡ a = cc in x, let x : unmask ≡ u = cc in x, let x : note ≡ n = cc in x)
 
 -- ---- the inversions
 
 pub take_due : (def : LineDef) (c : CpuNo) (way : Way) (answer : TakeAnswer) (past : List Entry)
-    → IsDue def (entries.Take c way answer) past → IsTakeDue def c way answer past
-take_due def c way answer past due = by_case (cpu_cases def c past (entries.Take c way answer) due)
+    → IsDue def (by.Cpu c (cpus.Take way answer)) past → IsTakeDue def c way answer past
+take_due def c way answer past due = by_case (cpu_cases def c past (by.Cpu c (cpus.Take way answer)) due)
   where
     by_way : is_cpu c (flow def past) ≡ false → is_cpu c (target def past) ≡ true
-        → ((signals def past ≡ true) × (entries.Take c ways.Line (take_answer def past) ≡ entries.Take c way answer))
+        → ((signals def past ≡ true) × (by.Cpu c (cpus.Take ways.Line (take_answer def past)) ≡ by.Cpu c (cpus.Take way answer)))
         ⊎ ((signals def past ≡ false) × (is_soft past ≡ true)
-        × (entries.Take c ways.Resend (take_answer def past) ≡ entries.Take c way answer))
+        × (by.Cpu c (cpus.Take ways.Resend (take_answer def past)) ≡ by.Cpu c (cpus.Take way answer)))
         → IsTakeDue def c way answer past
     by_way no_flow of_target (inl h) =
         let a : answer ≡ take_answer def past = cc (h.1) in
@@ -207,20 +209,20 @@ take_due def c way answer past due = by_case (cpu_cases def c past (entries.Take
           by_resend = λ is. (h.0, h.1);
         }
 
-    by_case : ((is_cpu c (flow def past) ≡ true) × (next_in_flow def c past (at_work past) ≡ entries.Take c way answer))
-        ⊎ ((is_cpu c (flow def past) ≡ false) × (next_take def c past ≡ Some (entries.Take c way answer)))
+    by_case : ((is_cpu c (flow def past) ≡ true) × (next_in_flow def c past (at_work past) ≡ by.Cpu c (cpus.Take way answer)))
+        ⊎ ((is_cpu c (flow def past) ≡ false) × (next_take def c past ≡ Some (by.Cpu c (cpus.Take way answer))))
         → IsTakeDue def c way answer past
     by_case (inl h) = absurd (not_take def c past (at_work past) way answer h.1)
-    by_case (inr h) = let t = take_of def c past (entries.Take c way answer) h.1 in by_way h.0 t.0 t.1
+    by_case (inr h) = let t = take_of def c past (by.Cpu c (cpus.Take way answer)) h.1 in by_way h.0 t.0 t.1
 
 -- an entry that is no take is the next in the flow
 pub in_flow : (def : LineDef) (c : CpuNo) (past : List Entry) (e : Entry)
-    → ((way : Way) (answer : TakeAnswer) → entries.Take c way answer ≡ e → ⊥) → next_of_cpu def c past ≡ Some e
+    → ((way : Way) (answer : TakeAnswer) → by.Cpu c (cpus.Take way answer) ≡ e → ⊥) → next_of_cpu def c past ≡ Some e
     → (is_cpu c (flow def past) ≡ true) × (next_in_flow def c past (at_work past) ≡ e)
 in_flow def c past e differs due = by_case (cpu_cases def c past e due)
   where
-    by_way : ((signals def past ≡ true) × (entries.Take c ways.Line (take_answer def past) ≡ e))
-        ⊎ ((signals def past ≡ false) × (is_soft past ≡ true) × (entries.Take c ways.Resend (take_answer def past) ≡ e))
+    by_way : ((signals def past ≡ true) × (by.Cpu c (cpus.Take ways.Line (take_answer def past)) ≡ e))
+        ⊎ ((signals def past ≡ false) × (is_soft past ≡ true) × (by.Cpu c (cpus.Take ways.Resend (take_answer def past)) ≡ e))
         → ⊥
     by_way (inl h) = differs ways.Line (take_answer def past) h.1
     by_way (inr h) = differs ways.Resend (take_answer def past) h.2
@@ -231,23 +233,23 @@ in_flow def c past e differs due = by_case (cpu_cases def c past e due)
     by_case (inl h) = h
     by_case (inr h) = absurd (by_way (take_of def c past e h.1).1)
 
-pub begin_due : (def : LineDef) (c : CpuNo) (d : DevNo) (past : List Entry) → IsDue def (entries.Begin c d) past → IsBeginDue def c d past
+pub begin_due : (def : LineDef) (c : CpuNo) (d : DevNo) (past : List Entry) → IsDue def (by.Cpu c (cpus.Begin d)) past → IsBeginDue def c d past
 begin_due def c d past due =
-    let f = in_flow def c past (entries.Begin c d) (λ way answer is. cc) due in
+    let f = in_flow def c past (by.Cpu c (cpus.Begin d)) (λ way answer is. cc) due in
     let w = begin_work def c past (at_work past) d f.1 in
     record { of_flow = f.0; none_at_work = w.0; first = w.1 }
 
 pub return_due : (def : LineDef) (c : CpuNo) (d : DevNo) (answer : Answer) (served : ℕ) (past : List Entry)
-    → IsDue def (entries.Return c d answer served) past → IsReturnDue def c d answer past
+    → IsDue def (by.Cpu c (cpus.Return answer d served)) past → IsReturnDue def c d answer past
 return_due def c d answer served past due =
-    let f = in_flow def c past (entries.Return c d answer served) (λ way answer is. cc) due in
+    let f = in_flow def c past (by.Cpu c (cpus.Return answer d served)) (λ way answer is. cc) due in
     let w = return_work def c past (at_work past) d answer served f.1 in
     record { of_flow = f.0; is_at_work = w.0; answer_is = w.1 }
 
 pub end_due : (def : LineDef) (c : CpuNo) (again unmask : Bool) (note : Note) (past : List Entry)
-    → IsDue def (entries.End c again unmask note) past → IsEndDue def c again unmask note past
+    → IsDue def (by.Cpu c (cpus.End again unmask note)) past → IsEndDue def c again unmask note past
 end_due def c again unmask note past due =
-    let f = in_flow def c past (entries.End c again unmask note) (λ way answer is. cc) due in
+    let f = in_flow def c past (by.Cpu c (cpus.End again unmask note)) (λ way answer is. cc) due in
     let w = end_work def c past (at_work past) again unmask note f.1 in
     let s = same_end c _ _ _ again unmask note (sym (end_shape def c past) ∙ w.2) in
     record { of_flow = f.0; none_at_work = w.0; none_left = w.1; note_is = s.2; again_is = s.0; unmask_is = s.1 }

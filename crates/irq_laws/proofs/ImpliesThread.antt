@@ -1,18 +1,20 @@
 -- What a thread's entry implies when it is due: the conditions of its row.
-use Rattle.std.proofs.Common.{◌≡◌, ℕ, ◌⊎◌, inl, inr, Bool, true, false, not, ◌&&◌, cond, Option, Some, None, List, refl}
+use Rattle.std.proofs.Common.{◌≡◌, ℕ, ◌⊎◌, inl, inr, Bool, true, false, not, ◌&&◌, cond, Option, Some, None, List, nat_lt, refl, sym, ap, ◌∙◌}
 use Rattle.std.specs.List.{list_any}
 use Rattle.irq_base.specs.declared.numbers.DevNo.{DevNo}
 use Rattle.irq_base.specs.declared.lines.LineDef.{LineDef}
 use Rattle.irq_base.specs.declared.entries.Entry.{Entry}
-use Rattle.irq_base.specs.declared.entries.Entry.TheVariants as entries
+use Rattle.irq_base.specs.declared.entries.Entry.TheVariants as by
+use Rattle.irq_base.specs.declared.entries.ThreadEntry.{ThreadEntry}
+use Rattle.irq_base.specs.declared.entries.ThreadEntry.TheVariants as threads
 use Rattle.irq_model.specs.Places.{since}
-use Rattle.irq_model.specs.Kinds.{same_line, is_thread_begin, is_thread_return, is_finish}
+use Rattle.irq_model.specs.Kinds.{is_thread_begin, is_thread_return, is_finish}
+use Rattle.irq_model.specs.Lines.{has_device}
 use Rattle.irq_model.specs.Links.{is_oneshot}
 use Rattle.irq_model.specs.Rounds.{has_flow}
 use Rattle.irq_model.specs.Threads.{is_woken, is_running}
-use Rattle.irq_model.specs.Next.{asks_of_thread, finish_unmasks, next_of_thread}
+use Rattle.irq_model.specs.Next.{asks_of_thread, thread_return, finish_unmasks, next_of_thread}
 use Rattle.irq_model.specs.Legal.{IsDue}
-use Rattle.irq_steps.proofs.Same.{same_self_line}
 use Rattle.irq_laws.proofs.Chosen.{the_same}
 
 -- d's thread's handler returned in this run
@@ -72,43 +74,66 @@ row_cases true w true false f h a b c d e is = inr (inr (inr (refl, refl, refl, 
 -- the four entries of d's thread
 abbrev pub ThreadCases : LineDef → DevNo → List Entry → Entry → Type 0
 ThreadCases def d past e =
-    ((is_running past d ≡ false) × (is_woken past d ≡ true) × (entries.ThreadBegin d ≡ e))
-    ⊎ (((is_running past d ≡ true) × (has_returned past d ≡ false) × (entries.ThreadReturn d (asks_of_thread def d past) ≡ e))
+    ((is_running past d ≡ false) × (is_woken past d ≡ true) × (by.Thread d threads.Begin ≡ e))
+    ⊎ (((is_running past d ≡ true) × (has_returned past d ≡ false) × (thread_return d (asks_of_thread def d past) ≡ e))
     ⊎ (((is_running past d ≡ true) × (has_returned past d ≡ true) × (is_oneshot past ≡ true)
     × (has_finished past d ≡ false) × (has_flow def past ≡ false)
-    × (entries.Finish d (is_woken past d) (finish_unmasks def d past) ≡ e))
-    ⊎ ((is_running past d ≡ true) × (has_returned past d ≡ true) × ((is_oneshot past && not (has_finished past d)) ≡ false) × (entries.Done d ≡ e))))
+    × (by.Thread d (threads.Finish (is_woken past d) (finish_unmasks def d past)) ≡ e))
+    ⊎ ((is_running past d ≡ true) × (has_returned past d ≡ true) × ((is_oneshot past && not (has_finished past d)) ≡ false) × (by.Thread d threads.Done ≡ e))))
+
+if_there : {A : Type 0} (b : Bool) (o : Option A) (e : A) → cond b o None ≡ Some e → (b ≡ true) × (o ≡ Some e)
+if_there true o e h = (refl, h)
+if_there false o e h = cc
+
+-- an entry is due only of the thread of a device that the line has
+pub thread_there : (def : LineDef) (d : DevNo) (x : ThreadEntry) (past : List Entry) → IsDue def (by.Thread d x) past → has_device def d ≡ true
+thread_there def d x past due = (if_there (has_device def d) (next_of_thread def d past) (by.Thread d x) due).0
 
 thread_cases : (def : LineDef) (d : DevNo) (past : List Entry) (e : Entry)
-    → cond (same_line def.line def.line) (next_of_thread def d past) None ≡ Some e → ThreadCases def d past e
+    → cond (has_device def d) (next_of_thread def d past) None ≡ Some e → ThreadCases def d past e
 thread_cases def d past e due =
-    let n : next_of_thread def d past ≡ Some e = rw (same_self_line def.line) at due in
-    row_cases (is_running past d) (is_woken past d) (has_returned past d) (is_oneshot past) (has_finished past d) (has_flow def past) _ _ _ _ e n
+    row_cases (is_running past d) (is_woken past d) (has_returned past d) (is_oneshot past) (has_finished past d)
+    (has_flow def past) _ _ _ _ e (if_there (has_device def d) (next_of_thread def d past) e due).1
 
-pub thread_begin_due : (def : LineDef) (d : DevNo) (past : List Entry) → IsDue def (entries.ThreadBegin d) past → IsThreadBeginDue d past
-thread_begin_due def d past due = by_case (thread_cases def d past (entries.ThreadBegin d) due)
+pub thread_begin_due : (def : LineDef) (d : DevNo) (past : List Entry) → IsDue def (by.Thread d threads.Begin) past → IsThreadBeginDue d past
+thread_begin_due def d past due = by_case (thread_cases def d past (by.Thread d threads.Begin) due)
   where
-    by_case : ThreadCases def d past (entries.ThreadBegin d) → IsThreadBeginDue d past
+    by_case : ThreadCases def d past (by.Thread d threads.Begin) → IsThreadBeginDue d past
     by_case (inl h) = record { not_running = h.0; woken = h.1 }
     by_case (inr (inl h)) = let n = h.2 in cc
     by_case (inr (inr (inl h))) = let n = h.5 in cc
     by_case (inr (inr (inr h))) = let n = h.3 in cc
 
-pub thread_return_due : (def : LineDef) (d : DevNo) (served : ℕ) (past : List Entry)
-    → IsDue def (entries.ThreadReturn d served) past → IsThreadReturnDue def d served past
-thread_return_due def d served past due = by_case (thread_cases def d past (entries.ThreadReturn d served) due)
+pub thread_return_due : (handled : Bool) (def : LineDef) (d : DevNo) (served : ℕ) (past : List Entry)
+    → IsDue def (by.Thread d (threads.Return handled served)) past → IsThreadReturnDue def d served past
+thread_return_due handled def d served past due = by_case (thread_cases def d past (by.Thread d (threads.Return handled served)) due)
   where
-    by_case : ThreadCases def d past (entries.ThreadReturn d served) → IsThreadReturnDue def d served past
+    by_case : ThreadCases def d past (by.Thread d (threads.Return handled served)) → IsThreadReturnDue def d served past
     by_case (inl h) = let n = h.2 in cc
     by_case (inr (inl h)) = let n = h.2 in record { running = h.0; not_returned = h.1; served_is = (let s : served ≡ asks_of_thread def d past = cc in s) }
     by_case (inr (inr (inl h))) = let n = h.5 in cc
     by_case (inr (inr (inr h))) = let n = h.3 in cc
 
-pub finish_due : (def : LineDef) (d : DevNo) (kept unmask : Bool) (past : List Entry)
-    → IsDue def (entries.Finish d kept unmask) past → IsFinishDue def d kept unmask past
-finish_due def d kept unmask past due = by_case (thread_cases def d past (entries.Finish d kept unmask) due)
+-- its answer is IRQ_HANDLED if it served
+pub thread_return_answer : (def : LineDef) (d : DevNo) (handled : Bool) (served : ℕ) (past : List Entry)
+    → IsDue def (by.Thread d (threads.Return handled served)) past → handled ≡ nat_lt 0 served
+thread_return_answer def d handled served past due = by_case (thread_cases def d past (by.Thread d (threads.Return handled served)) due)
   where
-    by_case : ThreadCases def d past (entries.Finish d kept unmask) → IsFinishDue def d kept unmask past
+    by_case : ThreadCases def d past (by.Thread d (threads.Return handled served)) → handled ≡ nat_lt 0 served
+    by_case (inl h) = let n = h.2 in cc
+    by_case (inr (inl h)) =
+        let n = h.2 in
+        let s : asks_of_thread def d past ≡ served = cc in
+        let a : nat_lt 0 (asks_of_thread def d past) ≡ handled = cc in
+        sym a ∙ ap (λ (k : ℕ). nat_lt 0 k) s
+    by_case (inr (inr (inl h))) = let n = h.5 in cc
+    by_case (inr (inr (inr h))) = let n = h.3 in cc
+
+pub finish_due : (def : LineDef) (d : DevNo) (kept unmask : Bool) (past : List Entry)
+    → IsDue def (by.Thread d (threads.Finish kept unmask)) past → IsFinishDue def d kept unmask past
+finish_due def d kept unmask past due = by_case (thread_cases def d past (by.Thread d (threads.Finish kept unmask)) due)
+  where
+    by_case : ThreadCases def d past (by.Thread d (threads.Finish kept unmask)) → IsFinishDue def d kept unmask past
     by_case (inl h) = let n = h.2 in cc
     by_case (inr (inl h)) = let n = h.2 in cc
     by_case (inr (inr (inl h))) =
@@ -118,10 +143,10 @@ finish_due def d kept unmask past due = by_case (thread_cases def d past (entrie
         record { running = h.0; returned = h.1; oneshot = h.2; not_finished = h.3; no_flow = h.4; kept_is = k; unmask_is = u }
     by_case (inr (inr (inr h))) = let n = h.3 in cc
 
-pub done_due : (def : LineDef) (d : DevNo) (past : List Entry) → IsDue def (entries.Done d) past → IsDoneDue d past
-done_due def d past due = by_case (thread_cases def d past (entries.Done d) due)
+pub done_due : (def : LineDef) (d : DevNo) (past : List Entry) → IsDue def (by.Thread d threads.Done) past → IsDoneDue d past
+done_due def d past due = by_case (thread_cases def d past (by.Thread d threads.Done) due)
   where
-    by_case : ThreadCases def d past (entries.Done d) → IsDoneDue d past
+    by_case : ThreadCases def d past (by.Thread d threads.Done) → IsDoneDue d past
     by_case (inl h) = let n = h.2 in cc
     by_case (inr (inl h)) = let n = h.2 in cc
     by_case (inr (inr (inl h))) = let n = h.5 in cc

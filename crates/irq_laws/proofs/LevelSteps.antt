@@ -10,7 +10,10 @@ use Rattle.irq_base.specs.declared.devices.Kind.{Kind}
 use Rattle.irq_base.specs.declared.devices.Kind.TheVariants as kinds
 use Rattle.irq_base.specs.declared.lines.LineDef.{LineDef}
 use Rattle.irq_base.specs.declared.entries.Entry.{Entry}
-use Rattle.irq_base.specs.declared.entries.Entry.TheVariants as entries
+use Rattle.irq_base.specs.declared.entries.Entry.TheVariants as by
+use Rattle.irq_base.specs.declared.entries.CpuEntry.TheVariants as cpus
+use Rattle.irq_base.specs.declared.entries.ThreadEntry.TheVariants as threads
+use Rattle.irq_base.specs.declared.entries.DriverEntry.TheVariants as drivers
 use Rattle.irq_model.specs.Places.{stands, since, before, count_of}
 use Rattle.irq_model.specs.Kinds.{same_dev, is_ask, is_begin, is_return, is_thread_begin, is_thread_return}
 use Rattle.irq_model.specs.Lines.{is_level_line, kind_of}
@@ -26,15 +29,15 @@ use Rattle.irq_laws.proofs.ImpliesThread.{thread_return_due}
 
 -- the entries at which the level can change
 abbrev pub moves_level : Entry → Bool
-moves_level (entries.Ask driver dev) = true
-moves_level (entries.Return cpu dev answer served) = true
-moves_level (entries.ThreadReturn dev served) = true
+moves_level (by.Driver driver (drivers.Ask makes dev)) = true
+moves_level (by.Cpu cpu (cpus.Return answer dev served)) = true
+moves_level (by.Thread dev (threads.Return handled served)) = true
 moves_level _ = false
 
 unserved_quiet : (kind : Kind) (d : DevNo) (e : Entry) (past : List Entry) → moves_level e ≡ false → unserved_by kind d (e ∷ past) ≡ unserved_by kind d past
-unserved_quiet kind d (entries.Ask driver dev) past h = cc
-unserved_quiet kind d (entries.Return cpu dev answer served) past h = cc
-unserved_quiet kind d (entries.ThreadReturn dev served) past h = cc
+unserved_quiet kind d (by.Driver driver (drivers.Ask makes dev)) past h = cc
+unserved_quiet kind d (by.Cpu cpu (cpus.Return answer dev served)) past h = cc
+unserved_quiet kind d (by.Thread dev (threads.Return handled served)) past h = cc
 unserved_quiet kinds.Direct d e past h = refl
 unserved_quiet kinds.Check d e past h = refl
 unserved_quiet kinds.Null d e past h = refl
@@ -100,11 +103,11 @@ module _ (a p q : Entry → Bool) where
 -- ---- the two kinds of runs
 
 begin_alone : (d : DevNo) (e : Entry) → is_begin d e ≡ true → (is_ask d e ≡ false) × (is_return d e ≡ false)
-begin_alone d (entries.Begin c x) h = (refl, refl)
+begin_alone d (by.Cpu c (cpus.Begin x)) h = (refl, refl)
 begin_alone d e h = cc
 
 thread_begin_alone : (d : DevNo) (e : Entry) → is_thread_begin d e ≡ true → (is_ask d e ≡ false) × (is_thread_return d e ≡ false)
-thread_begin_alone d (entries.ThreadBegin x) h = (refl, refl)
+thread_begin_alone d (by.Thread x threads.Begin) h = (refl, refl)
 thread_begin_alone d e h = cc
 
 -- a run of one kind that has no return of another after its beginning
@@ -127,82 +130,85 @@ zero_by n h = let k = ltb-false 0 n h in omega (arith, k)
 
 -- what a return says that it served
 return_count : (def : LineDef) (c : CpuNo) (d : DevNo) (answer : Answer) (count : ℕ) (past : List Entry)
-    → IsDue def (entries.Return c d answer count) past
+    → IsDue def (by.Cpu c (cpus.Return answer d count)) past
     → count ≡ served_by_handler (kind_of def d) (asks_of_handler def d past)
 return_count def c d answer count past due =
-    let f = in_flow def c past (entries.Return c d answer count) (λ way answer is. cc) due in
+    let f = in_flow def c past (by.Cpu c (cpus.Return answer d count)) (λ way answer is. cc) due in
     let w = (return_due def c d answer count past due).is_at_work in
     same_count _ _ (sym (ap (λ o. next_in_flow def c past o) w) ∙ f.1)
   where
-    same_count : (x : Answer) (n : ℕ) → entries.Return c d x n ≡ entries.Return c d answer count → count ≡ n
+    same_count : (x : Answer) (n : ℕ) → by.Cpu c (cpus.Return x d n) ≡ by.Cpu c (cpus.Return answer d count) → count ≡ n
     same_count x n h = let s : count ≡ n = cc in s
 
 idle_return : (def : LineDef) (c : CpuNo) (d : DevNo) (answer : Answer) (count : ℕ) (past : List Entry) (x : DevNo)
     (kind : Kind) → kind_of def x ≡ kind → is_called past d ≡ true
     → count ≡ served_by_handler (kind_of def d) (asks_of_handler def d past) → count ≡ 0
-    → unserved_by kind x (entries.Return c d answer count ∷ past) ≡ unserved_by kind x past
+    → unserved_by kind x (by.Cpu c (cpus.Return answer d count) ∷ past) ≡ unserved_by kind x past
 idle_return def c d answer count past x kinds.Check is run met none = refl
 idle_return def c d answer count past x kinds.Null is run met none = refl
 idle_return def c d answer count past x kinds.Stuck is run met none = refl
 idle_return def c d answer count past x kinds.Direct is run met none = by_test (same_dev x d) refl
   where
-    by_test : (b : Bool) → same_dev x d ≡ b → unserved_by kinds.Direct x (entries.Return c d answer count ∷ past) ≡ unserved_by kinds.Direct x past
+    by_test : (b : Bool) → same_dev x d ≡ b → unserved_by kinds.Direct x (by.Cpu c (cpus.Return answer d count) ∷ past) ≡ unserved_by kinds.Direct x past
     by_test false other = rw other refl
     by_test true same =
         let equal = dev_from_same x d same in
         let direct : kind_of def d ≡ kinds.Direct = subst (λ (y : DevNo). kind_of def y ≡ kinds.Direct) equal is in
         let zero : unserved_by kinds.Direct d (before (is_begin d) past) ≡ 0 =
         ap (λ (k : Kind). served_by_handler k (unserved_by k d (before (is_begin d) past))) (sym direct) ∙ (sym met ∙ none) in
-        subst (λ (y : DevNo). same_dev y d ≡ true → unserved_by kinds.Direct y (entries.Return c d answer count ∷ past)
+        subst (λ (y : DevNo). same_dev y d ≡ true → unserved_by kinds.Direct y (by.Cpu c (cpus.Return answer d count) ∷ past)
         ≡ unserved_by kinds.Direct y past) (sym equal)
-        (λ self. returns_none (is_ask d) (is_begin d) (is_return d) (begin_alone d) (entries.Return c d answer count) past run self zero) same
+        (λ self. returns_none (is_ask d) (is_begin d) (is_return d) (begin_alone d) (by.Cpu c (cpus.Return answer d count)) past run self zero) same
 
 pub high_return : (def : LineDef) (c : CpuNo) (d : DevNo) (answer : Answer) (count : ℕ) (past : List Entry)
-    → IsDue def (entries.Return c d answer count) past → KeepsRuns def past → nat_lt 0 count ≡ false
-    → is_high def (entries.Return c d answer count ∷ past) ≡ is_high def past
+    → IsDue def (by.Cpu c (cpus.Return answer d count)) past → KeepsRuns def past → nat_lt 0 count ≡ false
+    → is_high def (by.Cpu c (cpus.Return answer d count) ∷ past) ≡ is_high def past
 high_return def c d answer count past due k none =
     let run = (k.working d (return_due def c d answer count past due).is_at_work).0 in
-    high_by def (entries.Return c d answer count) past
+    high_by def (by.Cpu c (cpus.Return answer d count)) past
     (λ x. idle_return def c d answer count past x (kind_of def x) refl run
     (return_count def c d answer count past due) (zero_by count none))
 
 -- the run of the thread, whose beginning is the last serving one
-idle_thread : (def : LineDef) (d : DevNo) (count : ℕ) (past : List Entry) (x : DevNo) (kind : Kind)
+idle_thread : (handled : Bool) (def : LineDef) (d : DevNo) (count : ℕ) (past : List Entry) (x : DevNo) (kind : Kind)
     → kind_of def x ≡ kind → stands (is_thread_begin d) (is_thread_return d) past ≡ true
     → count ≡ asks_of_thread def d past → count ≡ 0
-    → unserved_by kind x (entries.ThreadReturn d count ∷ past) ≡ unserved_by kind x past
-idle_thread def d count past x kinds.Direct is run met none = refl
-idle_thread def d count past x kinds.Stuck is run met none = refl
-idle_thread def d count past x kinds.Check is run met none = by_test (same_dev x d) refl
+    → unserved_by kind x (by.Thread d (threads.Return handled count) ∷ past) ≡ unserved_by kind x past
+idle_thread handled def d count past x kinds.Direct is run met none = refl
+idle_thread handled def d count past x kinds.Stuck is run met none = refl
+idle_thread handled def d count past x kinds.Check is run met none = by_test (same_dev x d) refl
   where
-    by_test : (b : Bool) → same_dev x d ≡ b → unserved_by kinds.Check x (entries.ThreadReturn d count ∷ past) ≡ unserved_by kinds.Check x past
+    by_test : (b : Bool) → same_dev x d ≡ b → unserved_by kinds.Check x (by.Thread d (threads.Return handled count) ∷ past) ≡ unserved_by kinds.Check x past
     by_test false other = rw other refl
     by_test true same =
         let equal = dev_from_same x d same in
         let kind : kind_of def d ≡ kinds.Check = subst (λ (y : DevNo). kind_of def y ≡ kinds.Check) equal is in
         let zero : unserved_by kinds.Check d (before (is_thread_begin d) past)
         ≡ 0 = ap (λ (k : Kind). unserved_by k d (before (is_thread_begin d) past)) (sym kind) ∙ (sym met ∙ none) in
-        subst (λ (y : DevNo). same_dev y d ≡ true → unserved_by kinds.Check y (entries.ThreadReturn d count ∷ past)
+        subst (λ (y : DevNo). same_dev y d ≡ true → unserved_by kinds.Check y (by.Thread d (threads.Return handled count) ∷ past)
         ≡ unserved_by kinds.Check y past) (sym equal)
-        (λ self. returns_none (is_ask d) (is_thread_begin d) (is_thread_return d) (thread_begin_alone d) (entries.ThreadReturn d count) past run self zero) same
-idle_thread def d count past x kinds.Null is run met none = by_test (same_dev x d) refl
+        (λ self. returns_none (is_ask d) (is_thread_begin d) (is_thread_return d) (thread_begin_alone d)
+        (by.Thread d (threads.Return handled count)) past run self zero) same
+idle_thread handled def d count past x kinds.Null is run met none = by_test (same_dev x d) refl
   where
-    by_test : (b : Bool) → same_dev x d ≡ b → unserved_by kinds.Null x (entries.ThreadReturn d count ∷ past) ≡ unserved_by kinds.Null x past
+    by_test : (b : Bool) → same_dev x d ≡ b → unserved_by kinds.Null x (by.Thread d (threads.Return handled count) ∷ past) ≡ unserved_by kinds.Null x past
     by_test false other = rw other refl
     by_test true same =
         let equal = dev_from_same x d same in
         let kind : kind_of def d ≡ kinds.Null = subst (λ (y : DevNo). kind_of def y ≡ kinds.Null) equal is in
         let zero : unserved_by kinds.Null d (before (is_thread_begin d) past)
         ≡ 0 = ap (λ (k : Kind). unserved_by k d (before (is_thread_begin d) past)) (sym kind) ∙ (sym met ∙ none) in
-        subst (λ (y : DevNo). same_dev y d ≡ true → unserved_by kinds.Null y (entries.ThreadReturn d count ∷ past) ≡ unserved_by kinds.Null y past) (sym equal)
-        (λ self. returns_none (is_ask d) (is_thread_begin d) (is_thread_return d) (thread_begin_alone d) (entries.ThreadReturn d count) past run self zero) same
+        subst (λ (y : DevNo). same_dev y d ≡ true → unserved_by kinds.Null y
+        (by.Thread d (threads.Return handled count) ∷ past) ≡ unserved_by kinds.Null y past) (sym equal)
+        (λ self. returns_none (is_ask d) (is_thread_begin d) (is_thread_return d) (thread_begin_alone d)
+        (by.Thread d (threads.Return handled count)) past run self zero) same
 
-pub high_thread_return : (def : LineDef) (d : DevNo) (count : ℕ) (past : List Entry)
-    → IsDue def (entries.ThreadReturn d count) past → nat_lt 0 count ≡ false
-    → is_high def (entries.ThreadReturn d count ∷ past) ≡ is_high def past
-high_thread_return def d count past due none =
-    let u = thread_return_due def d count past due in
-    high_by def (entries.ThreadReturn d count) past
-    (λ x. idle_thread def d count past x (kind_of def x) refl
+pub high_thread_return : (handled : Bool) (def : LineDef) (d : DevNo) (count : ℕ) (past : List Entry)
+    → IsDue def (by.Thread d (threads.Return handled count)) past → nat_lt 0 count ≡ false
+    → is_high def (by.Thread d (threads.Return handled count) ∷ past) ≡ is_high def past
+high_thread_return handled def d count past due none =
+    let u = thread_return_due _ def d count past due in
+    high_by def (by.Thread d (threads.Return handled count)) past
+    (λ x. idle_thread _ def d count past x (kind_of def x) refl
     (unreturned (is_thread_begin d) _ (is_thread_return d) past u.running u.not_returned) u.served_is
     (zero_by count none))

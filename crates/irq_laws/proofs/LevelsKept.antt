@@ -9,7 +9,10 @@ use Rattle.irq_base.specs.declared.lines.FlowKind.{FlowKind}
 use Rattle.irq_base.specs.declared.lines.FlowKind.TheVariants as flows
 use Rattle.irq_base.specs.declared.lines.LineDef.{LineDef}
 use Rattle.irq_base.specs.declared.entries.Entry.{Entry}
-use Rattle.irq_base.specs.declared.entries.Entry.TheVariants as entries
+use Rattle.irq_base.specs.declared.entries.Entry.TheVariants as by
+use Rattle.irq_base.specs.declared.entries.CpuEntry.TheVariants as cpus
+use Rattle.irq_base.specs.declared.entries.ThreadEntry.TheVariants as threads
+use Rattle.irq_base.specs.declared.entries.DriverEntry.TheVariants as drivers
 use Rattle.irq_base.specs.declared.entries.TakeAnswer.TheVariants as takes
 use Rattle.irq_base.specs.declared.entries.LinkAnswer.TheVariants as links
 use Rattle.irq_base.specs.declared.entries.Errno.{Errno}
@@ -76,12 +79,12 @@ level_plain def e past due kd k plain stays level m zero = by_case (enabled_befo
 
 -- a request resets no bit that stands
 request_stays : (def : LineDef) (s : DriverNo) (x : DevNo) (flags : Flags) (opened : Opened) (past : List Entry)
-    → IsValid def → IsDue def (entries.Request s x flags links.Linked opened) past → Kept def past
+    → IsValid def → IsDue def (by.Driver s (drivers.Request flags links.Linked opened x)) past → Kept def past
     → LinkedIsWanted def past
-    → is_some_unfinished def past ≡ true → is_some_unfinished def (entries.Request s x flags links.Linked opened ∷ past) ≡ true
+    → is_some_unfinished def past ≡ true → is_some_unfinished def (by.Driver s (drivers.Request flags links.Linked opened x) ∷ past) ≡ true
 request_stays def s x flags opened past valid due k w h =
     any_imply (λ (y : DeviceDef). is_unfinished past y.dev)
-    (λ y. is_unfinished (entries.Request s x flags links.Linked opened ∷ past) y.dev) def.devices
+    (λ y. is_unfinished (by.Driver s (drivers.Request flags links.Linked opened x) ∷ past) y.dev) def.devices
     (λ y is. at_dev y.dev is) h
   where
     idle : is_unfinished past x ≡ false
@@ -90,21 +93,21 @@ request_stays def s x flags opened past valid due k w h =
         (parts_of past x (k.rest.at_rest x (requested_unlinked def s x flags u.count past valid w u.call) (none_freed def past k u.no_mutex x))).2
 
     by_test : (d : DevNo) → is_unfinished past d ≡ true → (b : Bool) → same_dev d x ≡ b
-        → is_unfinished (entries.Request s x flags links.Linked opened ∷ past) d ≡ true
+        → is_unfinished (by.Driver s (drivers.Request flags links.Linked opened x) ∷ past) d ≡ true
     by_test d is true same = both_ways (is_unfinished past d) is (subst (λ (y : DevNo). is_unfinished past y ≡ false) (sym (dev_from_same d x same)) idle)
     by_test d is false other = rw other is
 
-    at_dev : (d : DevNo) → is_unfinished past d ≡ true → is_unfinished (entries.Request s x flags links.Linked opened ∷ past) d ≡ true
+    at_dev : (d : DevNo) → is_unfinished past d ≡ true → is_unfinished (by.Driver s (drivers.Request flags links.Linked opened x) ∷ past) d ≡ true
     at_dev d is = by_test d is (same_dev d x) refl
 
 refused_stays : (def : LineDef) (s : DriverNo) (x : DevNo) (flags : Flags) (error : Errno) (opened : Opened) (past : List Entry)
-    → is_some_unfinished def past ≡ true → is_some_unfinished def (entries.Request s x flags (links.Refused error) opened ∷ past) ≡ true
+    → is_some_unfinished def past ≡ true → is_some_unfinished def (by.Driver s (drivers.Request flags (links.Refused error) opened x) ∷ past) ≡ true
 refused_stays def s x flags error opened past h =
     any_imply (λ (y : DeviceDef). is_unfinished past y.dev)
-    (λ y. is_unfinished (entries.Request s x flags (links.Refused error) opened ∷ past) y.dev) def.devices
+    (λ y. is_unfinished (by.Driver s (drivers.Request flags (links.Refused error) opened x) ∷ past) y.dev) def.devices
     (λ y is. at_dev y.dev is) h
   where
-    at_dev : (d : DevNo) → is_unfinished past d ≡ true → is_unfinished (entries.Request s x flags (links.Refused error) opened ∷ past) d ≡ true
+    at_dev : (d : DevNo) → is_unfinished past d ≡ true → is_unfinished (by.Driver s (drivers.Request flags (links.Refused error) opened x) ∷ past) d ≡ true
     at_dev d is = rw (no_part (same_dev d x)) is
 
 other_held : (w d m o : Bool) → w ≡ false → d ≡ false → m ≡ true → (not w && (not d && (m && not o))) ≡ false → o ≡ true
@@ -112,8 +115,8 @@ other_held w d m o x y z h = grind arith
 
 -- a finish that leaves an enabled level line masked leaves another thread unfinished
 finish_held : (def : LineDef) (x : DevNo) (unmask : Bool) (past : List Entry)
-    → IsDue def (entries.Finish x false unmask) past → depth past ≡ 0 → is_masked def past ≡ true → unmask ≡ false
-    → is_some_unfinished def (entries.Finish x false unmask ∷ past) ≡ true
+    → IsDue def (by.Thread x (threads.Finish false unmask)) past → depth past ≡ 0 → is_masked def past ≡ true → unmask ≡ false
+    → is_some_unfinished def (by.Thread x (threads.Finish false unmask) ∷ past) ≡ true
 finish_held def x unmask past due zero m shut =
     let u = finish_due def x false unmask past due in
     others_left def x unmask past ∙ other_held (is_woken past x) (is_disabled past) (is_masked def past)
@@ -123,42 +126,42 @@ level_more : (def : LineDef) (e : Entry) (past : List Entry) → IsValid def →
     → KeepsDepth def past → LinkedIsWanted def past → KeepsLevels def past → is_level_line def ≡ true
     → is_masked def (e ∷ past) ≡ true → depth (e ∷ past) ≡ 0
     → (has_flow def (e ∷ past) || is_some_unfinished def (e ∷ past)) ≡ true
-level_more def (entries.Take c way takes.Handle) past valid due kept kd w k level m zero = refl
-level_more def (entries.Take c way takes.Busy) past valid due kept kd w k level m zero =
-    or_left _ _ (ap is_some (flow_quiet def (entries.Take c way takes.Busy) past refl refl refl) ∙ busy_has_flow def c way past due)
-level_more def (entries.Take c way takes.Off) past valid due kept kd w k level m zero = never_off def c way past due kd zero
-level_more def (entries.End c again unmask note) past valid due kept kd w k level m zero
-    = by_case (enabled_before def (entries.End c again unmask note) past due kd zero)
+level_more def (by.Cpu c (cpus.Take way takes.Handle)) past valid due kept kd w k level m zero = refl
+level_more def (by.Cpu c (cpus.Take way takes.Busy)) past valid due kept kd w k level m zero =
+    or_left _ _ (ap is_some (flow_quiet def (by.Cpu c (cpus.Take way takes.Busy)) past refl refl refl) ∙ busy_has_flow def c way past due)
+level_more def (by.Cpu c (cpus.Take way takes.Off)) past valid due kept kd w k level m zero = never_off def c way past due kd zero
+level_more def (by.Cpu c (cpus.End again unmask note)) past valid due kept kd w k level m zero
+    = by_case (enabled_before def (by.Cpu c (cpus.End again unmask note)) past due kd zero)
   where
-    by_case : (is_start (entries.End c again unmask note) ≡ true) ⊎ StaysEnabled (entries.End c again unmask note) past
-        → (has_flow def (entries.End c again unmask note ∷ past) || is_some_unfinished def (entries.End c again unmask note ∷ past)) ≡ true
+    by_case : (is_start (by.Cpu c (cpus.End again unmask note)) ≡ true) ⊎ StaysEnabled (by.Cpu c (cpus.End again unmask note)) past
+        → (has_flow def (by.Cpu c (cpus.End again unmask note) ∷ past) || is_some_unfinished def (by.Cpu c (cpus.End again unmask note) ∷ past)) ≡ true
     by_case (inl starts) = cc
     by_case (inr q) =
-        let b = masked_before def (entries.End c again unmask note) past refl q m in
+        let b = masked_before def (by.Cpu c (cpus.End again unmask note)) past refl q m in
         let u = end_due def c again unmask note past due in
         let on = ap (λ (x : Note). is_off_now past x) (sym u.note_is) ∙ off_now past c again unmask note q in
         or_right _ _ (end_held def def.flow past (note_of def past) valid level refl on (λ eoi. k.eoi_level level eoi b.0 q.was) b.0 (sym u.unmask_is ∙ b.1))
-level_more def (entries.Return c x answer served) past valid due kept kd w k level m zero =
-    or_left _ _ (ap is_some (flow_quiet def (entries.Return c x answer served) past refl refl refl)
+level_more def (by.Cpu c (cpus.Return answer x served)) past valid due kept kd w k level m zero =
+    or_left _ _ (ap is_some (flow_quiet def (by.Cpu c (cpus.Return answer x served)) past refl refl refl)
     ∙ has_a_flow c (flow def past) (return_due def c x answer served past due).of_flow)
-level_more def (entries.Finish x true unmask) past valid due kept kd w k level m zero =
-    level_plain def (entries.Finish x true unmask) past due kd k.level
+level_more def (by.Thread x (threads.Finish true unmask)) past valid due kept kd w k level m zero =
+    level_plain def (by.Thread x (threads.Finish true unmask)) past due kd k.level
     (record { no_take = refl; no_handle = refl; no_leave = refl; no_again = refl }) (λ u. u) level m zero
-level_more def (entries.Finish x false unmask) past valid due kept kd w k level m zero
-    = by_case (enabled_before def (entries.Finish x false unmask) past due kd zero)
+level_more def (by.Thread x (threads.Finish false unmask)) past valid due kept kd w k level m zero
+    = by_case (enabled_before def (by.Thread x (threads.Finish false unmask)) past due kd zero)
   where
-    by_case : (is_start (entries.Finish x false unmask) ≡ true) ⊎ StaysEnabled (entries.Finish x false unmask) past
-        → (has_flow def (entries.Finish x false unmask ∷ past) || is_some_unfinished def (entries.Finish x false unmask ∷ past)) ≡ true
+    by_case : (is_start (by.Thread x (threads.Finish false unmask)) ≡ true) ⊎ StaysEnabled (by.Thread x (threads.Finish false unmask)) past
+        → (has_flow def (by.Thread x (threads.Finish false unmask) ∷ past) || is_some_unfinished def (by.Thread x (threads.Finish false unmask) ∷ past)) ≡ true
     by_case (inl starts) = cc
     by_case (inr q) =
-        let b = masked_before def (entries.Finish x false unmask) past refl q m in
+        let b = masked_before def (by.Thread x (threads.Finish false unmask)) past refl q m in
         or_right _ _ (finish_held def x unmask past due q.was b.0 b.1)
-level_more def (entries.Request s x flags links.Linked opened) past valid due kept kd w k level m zero =
-    level_plain def (entries.Request s x flags links.Linked opened) past due kd k.level
+level_more def (by.Driver s (drivers.Request flags links.Linked opened x)) past valid due kept kd w k level m zero =
+    level_plain def (by.Driver s (drivers.Request flags links.Linked opened x)) past due kd k.level
     (record { no_take = refl; no_handle = refl; no_leave = refl; no_again = refl })
     (request_stays def s x flags opened past valid due kept w) level m zero
-level_more def (entries.Request s x flags (links.Refused error) opened) past valid due kept kd w k level m zero =
-    level_plain def (entries.Request s x flags (links.Refused error) opened) past due kd k.level
+level_more def (by.Driver s (drivers.Request flags (links.Refused error) opened x)) past valid due kept kd w k level m zero =
+    level_plain def (by.Driver s (drivers.Request flags (links.Refused error) opened x)) past due kd k.level
     (record { no_take = refl; no_handle = refl; no_leave = refl; no_again = refl })
     (refused_stays def s x flags error opened past) level m zero
 level_more def e past valid due kept kd w k level m zero =
@@ -186,7 +189,7 @@ oneshot_plain def e past due kd k no_take stays level eoi m zero = by_case (enab
 
 -- a further request has the flag of the requests before it
 request_oneshot : (def : LineDef) (s : DriverNo) (x : DevNo) (flags : Flags) (opened : Opened) (past : List Entry)
-    → IsDue def (entries.Request s x flags links.Linked opened) past → Kept def past → is_none_linked past ≡ false
+    → IsDue def (by.Driver s (drivers.Request flags links.Linked opened x)) past → Kept def past → is_none_linked past ≡ false
     → is_oneshot past ≡ true → flags.oneshot ≡ true
 request_oneshot def s x flags opened past due kept some one =
     let y = some_passes (is_linked past) (requested past) some in
@@ -196,17 +199,17 @@ oneshot_more : (def : LineDef) (e : Entry) (past : List Entry) → IsDue def e p
     → EoiLevelMaskIsOneshot def past → is_level_line def ≡ true → is_eoi_flow def.flow ≡ true
     → is_masked def (e ∷ past) ≡ true → depth (e ∷ past) ≡ 0
     → is_oneshot (e ∷ past) ≡ true
-oneshot_more def (entries.Take c way takes.Handle) past due kept kd k level eoi m zero
+oneshot_more def (by.Cpu c (cpus.Take way takes.Handle)) past due kept kd k level eoi m zero
     = by_case (or_cases _ _ (sym (take_masked def flows.Eoi c way takes.Handle past (eoi_is def.flow eoi)) ∙ m))
   where
     by_case : ((is_level_line def && is_oneshot past) ≡ true) ⊎ (is_masked def past ≡ true) → is_oneshot past ≡ true
     by_case (inl h) = (and_parts (is_level_line def) (is_oneshot past) h).1
     by_case (inr h) = k level eoi h zero
-oneshot_more def (entries.Take c way takes.Busy) past due kept kd k level eoi m zero
+oneshot_more def (by.Cpu c (cpus.Take way takes.Busy)) past due kept kd k level eoi m zero
     = k level eoi (sym (take_masked def flows.Eoi c way takes.Busy past (eoi_is def.flow eoi)) ∙ m) zero
-oneshot_more def (entries.Take c way takes.Off) past due kept kd k level eoi m zero = never_off def c way past due kd zero
-oneshot_more def (entries.Request s x flags links.Linked opened) past due kept kd k level eoi m zero =
-    oneshot_plain def (entries.Request s x flags links.Linked opened) past due kd k refl
+oneshot_more def (by.Cpu c (cpus.Take way takes.Off)) past due kept kd k level eoi m zero = never_off def c way past due kd zero
+oneshot_more def (by.Driver s (drivers.Request flags links.Linked opened x)) past due kept kd k level eoi m zero =
+    oneshot_plain def (by.Driver s (drivers.Request flags links.Linked opened x)) past due kd k refl
     (λ q one. request_oneshot def s x flags opened past due kept (kd.enabled q.was).1 one) level eoi m zero
 oneshot_more def e past due kept kd k level eoi m zero = oneshot_plain def e past due kd k refl (λ q one. one) level eoi m zero
 

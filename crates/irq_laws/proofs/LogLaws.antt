@@ -9,7 +9,7 @@ use Rattle.irq_model.specs.Next.{next, next_past}
 use Rattle.irq_laws.specs.LogLimit.{with_log}
 
 same_next : (def : LineDef) (n : ℕ) (past : List Entry) (a : Actor) → next_past (with_log def n) past a ≡ next_past def past a
-same_next def n past (actors.Thread line d) = refl
+same_next def n past (actors.Thread d) = refl
 same_next def n past (actors.Cpu c) = refl
 same_next def n past (actors.Driver r) = refl
 

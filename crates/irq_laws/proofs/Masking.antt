@@ -6,12 +6,17 @@ use Rattle.irq_base.specs.declared.lines.FlowKind.{FlowKind}
 use Rattle.irq_base.specs.declared.lines.FlowKind.TheVariants as flows
 use Rattle.irq_base.specs.declared.lines.LineDef.{LineDef}
 use Rattle.irq_base.specs.declared.entries.Entry.{Entry}
-use Rattle.irq_base.specs.declared.entries.Entry.TheVariants as entries
+use Rattle.irq_base.specs.declared.entries.Entry.TheVariants as by
+use Rattle.irq_base.specs.declared.entries.CpuEntry.TheVariants as cpus
+use Rattle.irq_base.specs.declared.entries.DriverEntry.TheVariants as drivers
+use Rattle.irq_base.specs.declared.entries.CallEntry.{CallEntry}
+use Rattle.irq_base.specs.declared.entries.CallEntry.TheVariants as called
 use Rattle.irq_base.specs.declared.entries.Way.{Way}
 use Rattle.irq_base.specs.declared.entries.TakeAnswer.{TakeAnswer}
 use Rattle.irq_base.specs.declared.entries.TakeAnswer.TheVariants as takes
 use Rattle.irq_base.specs.declared.entries.Note.{Note}
 use Rattle.irq_model.specs.Kinds.{is_take, is_handle, is_again, is_leave, is_start, is_disable, is_kill, is_last_unlink, is_reopening}
+use Rattle.irq_model.specs.Kinds.{is_started_opened, opened_by_call, disables, unlinks_last}
 use Rattle.irq_model.specs.Lines.{is_edge_flow, is_eoi_flow}
 use Rattle.irq_model.specs.Links.{depth, is_disabled, is_none_linked}
 use Rattle.irq_model.specs.Masks.{take_masks, is_masked}
@@ -53,7 +58,8 @@ off_by true o h = cc
 off_by false true h = (refl, refl)
 off_by false false h = cc
 
-pub busy_has_flow : (def : LineDef) (c : CpuNo) (way : Way) (past : List Entry) → IsDue def (entries.Take c way takes.Busy) past → has_flow def past ≡ true
+pub busy_has_flow : (def : LineDef) (c : CpuNo) (way : Way) (past : List Entry)
+    → IsDue def (by.Cpu c (cpus.Take way takes.Busy)) past → has_flow def past ≡ true
 busy_has_flow def c way past due = busy_by (has_flow def past) _ (take_due def c way takes.Busy past due).answer_is
 
 pub not_disabled : (past : List Entry) → depth past ≡ 0 → is_disabled past ≡ false
@@ -64,7 +70,7 @@ zero_depth past h = let n = ltb-false 0 (depth past) h in omega (arith, n)
 
 -- an enabled line answers no take with Off
 pub never_off : {P : Type 0} (def : LineDef) (c : CpuNo) (way : Way) (past : List Entry)
-    → IsDue def (entries.Take c way takes.Off) past → KeepsDepth def past → depth past ≡ 0 → P
+    → IsDue def (by.Cpu c (cpus.Take way takes.Off)) past → KeepsDepth def past → depth past ≡ 0 → P
 never_off def c way past due k zero =
     let o = (off_by (has_flow def past) (is_disabled past || is_none_linked past) (take_due def c way takes.Off past due).answer_is).1 in
     let n = (k.enabled zero).1 in
@@ -80,14 +86,22 @@ lazy t y u m = grind arith
 
 -- a take masks as its flow says
 pub take_masked : (def : LineDef) (f : FlowKind) (c : CpuNo) (way : Way) (answer : TakeAnswer) (past : List Entry) → def.flow ≡ f
-    → is_masked def (entries.Take c way answer ∷ past) ≡ (take_masks def f (entries.Take c way answer) past || is_masked def past)
+    → is_masked def (by.Cpu c (cpus.Take way answer) ∷ past) ≡ (take_masks def f (by.Cpu c (cpus.Take way answer)) past || is_masked def past)
 take_masked def f c way answer past is =
-    masked_more def (entries.Take c way answer) past ∙ lazy (take_masks def def.flow (entries.Take c way answer) past) def.unlazy false (is_masked def past)
-    ∙ ap (λ (g : FlowKind). take_masks def g (entries.Take c way answer) past || is_masked def past) is
+    masked_more def (by.Cpu c (cpus.Take way answer)) past
+    ∙ lazy (take_masks def def.flow (by.Cpu c (cpus.Take way answer)) past) def.unlazy false (is_masked def past)
+    ∙ ap (λ (g : FlowKind). take_masks def g (by.Cpu c (cpus.Take way answer)) past || is_masked def past) is
+
+starts_alone : (call : CallEntry) → is_started_opened (opened_by_call call) ≡ true
+    → (disables call ≡ false) × (unlinks_last call ≡ false)
+starts_alone (called.Enable answer) h = (refl, refl)
+starts_alone call h = cc
 
 start_alone : (e : Entry) → is_start e ≡ true → (is_take e ≡ false) × ((is_disable e || is_kill e) ≡ false) × (is_last_unlink e ≡ false)
-start_alone (entries.Enable s answer) h = (refl, refl, refl)
-start_alone (entries.Request s x flags answer opened) h = (refl, refl, refl)
+start_alone (by.CpuCall c call) h = let a = starts_alone call h in (refl, rw (a.0) refl, a.1)
+start_alone (by.ThreadCall x call) h = let a = starts_alone call h in (refl, rw (a.0) refl, a.1)
+start_alone (by.DriverCall s call) h = let a = starts_alone call h in (refl, rw (a.0) refl, a.1)
+start_alone (by.Driver s (drivers.Request flags answer opened x)) h = (refl, refl, refl)
 start_alone e h = cc
 
 opened_by : (s r m : Bool) → s ≡ true → (not (s || r) && m) ≡ false
@@ -123,8 +137,8 @@ flow_same def e past p = ap is_some (flow_quiet def e past p.no_handle p.no_leav
 -- ---- the end of a flow on an enabled line
 
 pub off_now : (past : List Entry) (c : CpuNo) (again unmask : Bool) (note : Note)
-    → StaysEnabled (entries.End c again unmask note) past → is_off_now past note ≡ false
-off_now past c again unmask note q = both (is_disabled past) (is_kill (entries.End c again unmask note)) (not_disabled past q.was) q.no_deepening
+    → StaysEnabled (by.Cpu c (cpus.End again unmask note)) past → is_off_now past note ≡ false
+off_now past c again unmask note q = both (is_disabled past) (is_kill (by.Cpu c (cpus.End again unmask note))) (not_disabled past q.was) q.no_deepening
   where
     both : (a b : Bool) → a ≡ false → (false || b) ≡ false → (a || b) ≡ false
     both a b x y = grind arith

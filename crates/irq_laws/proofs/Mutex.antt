@@ -1,88 +1,154 @@
 -- The request mutex, and who holds it: laws of any past.
-use Rattle.std.proofs.Common.{◌≡◌, ◌⊎◌, inl, inr, Bool, true, false, not, ◌||◌, ◌&&◌, Some, List, [], ◌∷◌, refl, sym, ap, ◌∙◌, arith}
-use Rattle.std.proofs.lemmas.Bool.{and_parts, and_from, or_cases, or_left, or_right, or_parts}
+use Rattle.std.proofs.Common.{◌≡◌, ◌⊎◌, inl, inr, Bool, true, false, not, ◌||◌, ◌&&◌, Some, List, [], ◌∷◌, refl, sym, ap, ◌∙◌, subst, arith}
+use Rattle.std.proofs.lemmas.Bool.{and_parts, and_from, or_cases, or_left, or_right, or_from, or_parts, not-true}
 use Rattle.std.specs.List.{list_any}
 use Rattle.irq_base.specs.declared.numbers.DevNo.{DevNo}
 use Rattle.irq_base.specs.declared.numbers.DriverNo.{DriverNo}
+use Rattle.irq_base.specs.declared.entries.Actor.{Actor}
+use Rattle.irq_base.specs.declared.entries.Actor.TheVariants as actors
 use Rattle.irq_base.specs.declared.entries.Entry.{Entry}
-use Rattle.irq_base.specs.declared.entries.Entry.TheVariants as entries
+use Rattle.irq_base.specs.declared.entries.Entry.TheVariants as by
+use Rattle.irq_base.specs.declared.entries.CallEntry.{CallEntry}
+use Rattle.irq_base.specs.declared.entries.CallEntry.TheVariants as called
 use Rattle.irq_base.specs.declared.entries.UnlinkAnswer.TheVariants as unlinks
+use Rattle.irq_base.specs.Who.{actor_of}
 use Rattle.irq_model.specs.Places.{some_place, stands}
-use Rattle.irq_model.specs.Kinds.{same_dev, is_freed_by, is_by_driver, is_hard_clear}
+use Rattle.irq_model.specs.Kinds.{same_dev, same_driver, is_by, is_call, is_hard_clear, is_freed_by, is_unlink, is_unlinked_answer}
+use Rattle.irq_model.specs.Kinds.{unlinks_by, unlinks_one, unlinks_this, unlinks_dev}
 use Rattle.irq_model.specs.Due.{is_being_freed_at, holds_mutex}
 use Rattle.irq_model.specs.Reason.{is_cleared_at, is_cleared}
-use Rattle.irq_steps.proofs.Same.{same_self, same_self_driver}
+use Rattle.irq_steps.proofs.Same.{same_self, same_self_driver, same_self_actor, actor_from_same}
 use Rattle.irq_steps.proofs.Somewhere.{some_ext}
 use Rattle.irq_laws.specs.Kept.{freeing, unlinks_of}
+use Rattle.irq_laws.proofs.Chosen.{the_same}
 use Rattle.irq_laws.proofs.Lists.{place_imply}
 
--- ---- who is within a free holds the mutex
+-- ---- a free that isn't complete
 
-skips : (e : Entry) (a u : List Entry) → ((r : DriverNo) → is_freed_by r e ≡ false) → is_being_freed_at (e ∷ a) u ≡ is_being_freed_at a u
-skips e a (entries.Unlink driver dev (unlinks.Unlinked last) ∷ past) h = ap (λ (b : Bool). not (b || list_any (is_freed_by driver) a)) (h driver)
-skips e a u h = refl
+-- the step unlinks a device that passes the test
+abbrev pub unlinks_some : (DevNo → Bool) → CallEntry → Bool
+unlinks_some t (called.Unlink answer dev) = t dev && is_unlinked_answer answer
+unlinks_some t _ = false
 
-goes_on : (e : Entry) (past : List Entry) → ((r : DriverNo) → is_freed_by r e ≡ false) → holds_mutex past ≡ true → holds_mutex (e ∷ past) ≡ true
-goes_on e past quiet h =
-    or_right (is_being_freed_at [] (e ∷ past)) (some_place (λ a u. is_being_freed_at (e ∷ a) u) past)
-    (some_ext (λ a u. is_being_freed_at (e ∷ a) u) is_being_freed_at past (λ a u is. skips e a u quiet) ∙ h)
-
-pub freeing_holds : (past : List Entry) (f : DriverNo × DevNo) → freeing past ≡ Some f → holds_mutex past ≡ true
-freeing_holds [] f h = cc
-freeing_holds (entries.Unlink driver dev (unlinks.Unlinked last) ∷ past) f h = refl
-freeing_holds (entries.Freed driver dev ∷ past) f h = cc
-freeing_holds (e ∷ past) f h = goes_on e past (λ r. refl) (freeing_holds past f h)
-
--- ---- who holds the mutex is within a free
-
--- the newest entry of `upto` unlinked a device that passes the test, and its driver's free isn't
--- complete
-abbrev pub owned : (DevNo → Bool) → (DriverNo → Bool) → List Entry → List Entry → Bool
-owned t f after (entries.Unlink driver dev (unlinks.Unlinked last) ∷ past) = t dev && not (f driver || list_any (is_freed_by driver) after)
-owned t f after _ = false
+-- the newest entry of `upto` unlinked a device that passes the test, and neither does its maker
+-- pass the other one, nor did it complete a free after it
+abbrev pub owned : (DevNo → Bool) → (Actor → Bool) → List Entry → List Entry → Bool
+owned t f after [] = false
+owned t f after (e ∷ past) = is_call (unlinks_some t) e && not (f (actor_of e) || list_any (is_freed_by (actor_of e)) after)
 
 three : (a b c d : Bool) → (a && not (b || (c || d))) ≡ (a && not ((b || c) || d))
 three a b c d = grind arith
 
-one_later : (t : DevNo → Bool) (f : DriverNo → Bool) (e : Entry) (a u : List Entry) → owned t f (e ∷ a) u ≡ owned t (λ r. f r || is_freed_by r e) a u
-one_later t f e a (entries.Unlink driver dev (unlinks.Unlinked last) ∷ past) = three (t dev) (f driver) (is_freed_by driver e) (list_any (is_freed_by driver) a)
-one_later t f e a u = refl
+one_later : (t : DevNo → Bool) (f : Actor → Bool) (e : Entry) (a u : List Entry) → owned t f (e ∷ a) u ≡ owned t (λ r. f r || is_freed_by r e) a u
+one_later t f e a [] = refl
+one_later t f e a (x ∷ past) = three (is_call (unlinks_some t) x) (f (actor_of x)) (is_freed_by (actor_of x) e) (list_any (is_freed_by (actor_of x)) a)
 
--- a driver that unlinked a device, and made no end of a free since
-pub record Owner (t : DevNo → Bool) (f : DriverNo → Bool) (past : List Entry) : Type 0 where
-  pub driver : DriverNo
+unlinks_any : (call : CallEntry) → unlinks_one call ≡ unlinks_some (λ d. true) call
+unlinks_any (called.Unlink answer dev) = refl
+unlinks_any call = refl
+
+is_any : (e : Entry) → is_unlink e ≡ is_call (unlinks_some (λ d. true)) e
+is_any (by.CpuCall c call) = unlinks_any call
+is_any (by.ThreadCall x call) = unlinks_any call
+is_any (by.DriverCall s call) = unlinks_any call
+is_any e = refl
+
+same_place : (a u : List Entry) → is_being_freed_at a u ≡ owned (λ d. true) (λ r. false) a u
+same_place a [] = refl
+same_place a (e ∷ past) = ap (λ (b : Bool). b && not (list_any (is_freed_by (actor_of e)) a)) (is_any e)
+
+-- ---- who is within a free holds the mutex
+
+-- an actor that unlinked a device, and made no end of a free since
+stands_held : (a : Actor) (f : Actor → Bool) (past : List Entry) → f a ≡ false → stands (unlinks_by a) (is_freed_by a) past ≡ true
+    → some_place (owned (λ d. true) f) past ≡ true
+stands_held a f [] free h = cc
+stands_held a f (e ∷ past) free h = by_case (or_cases _ _ h) (stands_held a (λ r. f r || is_freed_by r e) past)
+  where
+    by_case : (unlinks_by a e ≡ true) ⊎ ((not (is_freed_by a e) && stands (unlinks_by a) (is_freed_by a) past) ≡ true)
+        → ((f a || is_freed_by a e) ≡ false → stands (unlinks_by a) (is_freed_by a) past ≡ true
+        → some_place (owned (λ d. true) (λ r. f r || is_freed_by r e)) past ≡ true)
+        → some_place (owned (λ d. true) f) (e ∷ past) ≡ true
+    by_case (inl now) deeper =
+        let p = and_parts (is_by a e) (is_unlink e) now in
+        let here : f (actor_of e) ≡ false = subst (λ (x : Actor). f x ≡ false) (actor_from_same a (actor_of e) p.0) free in
+        or_left _ _ (and_from _ _ (sym (is_any e) ∙ p.1) (ap not (or_from _ _ here refl)))
+    by_case (inr was) deeper =
+        let p = and_parts (not (is_freed_by a e)) _ was in
+        or_right _ _ (some_ext (λ x u. owned (λ d. true) f (e ∷ x) u) (owned (λ d. true) (λ r. f r || is_freed_by r e)) past
+        (λ x u same. one_later (λ d. true) f e x u) ∙ deeper (or_from _ _ free (not-true (is_freed_by a e) p.0)) p.1)
+
+unended : (u s x : Bool) → x ≡ true → (u || (not (s && false) && x)) ≡ true
+unended u s x h = grind arith
+
+freeing_stands : (past : List Entry) (r : DriverNo) (d : DevNo) → freeing past ≡ Some (r, d)
+    → stands (unlinks_by (actors.Driver r)) (is_freed_by (actors.Driver r)) past ≡ true
+freeing_stands [] r d h = cc
+freeing_stands (by.DriverCall s (called.Unlink (unlinks.Unlinked last) x) ∷ past) r d h =
+    let p : DriverNo × DevNo = (s, x) in
+    let q : DriverNo × DevNo = (r, d) in
+    let same : s ≡ r = ap (λ (y : DriverNo × DevNo). y.0) (the_same p q h) in
+    or_left _ _ (and_from _ _ (subst (λ (y : DriverNo). same_driver r y ≡ true) (sym same) (same_self_driver r)) refl)
+freeing_stands (by.DriverCall s (called.Freed x) ∷ past) r d h = cc
+freeing_stands (by.DriverCall s call ∷ past) r d h = unended (same_driver r s && is_unlink (by.DriverCall s call))
+    (same_driver r s) _ (freeing_stands past r d h)
+freeing_stands (by.Driver s e ∷ past) r d h = unended (same_driver r s && false) (same_driver r s) _ (freeing_stands past r d h)
+freeing_stands (e ∷ past) r d h = freeing_stands past r d h
+
+pub freeing_holds : (past : List Entry) (f : DriverNo × DevNo) → freeing past ≡ Some f → holds_mutex past ≡ true
+freeing_holds past f h = place_imply (owned (λ d. true) (λ r. false)) is_being_freed_at past (λ a u is. same_place a u ∙ is)
+    (stands_held (actors.Driver f.0) (λ r. false) past refl (freeing_stands past f.0 f.1 h))
+
+-- ---- who holds the mutex is within a free
+
+-- an actor that unlinked a device, and made no end of a free since
+pub record Owner (t : DevNo → Bool) (f : Actor → Bool) (past : List Entry) : Type 0 where
+  pub maker : Actor
   pub dev : DevNo
   pub passes : t dev ≡ true
-  pub unfreed : f driver ≡ false
-  pub stands_there : stands (unlinks_of driver dev) (is_freed_by driver) past ≡ true
+  pub unfreed : f maker ≡ false
+  pub stands_there : stands (unlinks_of maker dev) (is_freed_by maker) past ≡ true
 
 not_both : (a b : Bool) → (a && not (b || false)) ≡ true → (a ≡ true) × (b ≡ false)
 not_both true true h = cc
 not_both true false h = (refl, refl)
 not_both false b h = cc
 
-owner_here : (t : DevNo → Bool) (f : DriverNo → Bool) (e : Entry) (past : List Entry) → owned t f [] (e ∷ past) ≡ true → Owner t f (e ∷ past)
-owner_here t f (entries.Unlink driver dev (unlinks.Unlinked last)) past h =
-    let n = not_both (t dev) (f driver) h in
-    record {
-      driver = driver;
-      dev = dev;
-      passes = n.0;
-      unfreed = n.1;
-      stands_there = or_left _ _ (and_from _ _ (and_from _ _ (same_self_driver driver) (same_self dev)) refl);
-    }
-owner_here t f e past h = cc
+abbrev Unlinked : (DevNo → Bool) → Entry → Type 0
+Unlinked t e = (d : DevNo) × (t d ≡ true) × (unlinks_dev d e ≡ true)
 
-pub owner : (t : DevNo → Bool) (f : DriverNo → Bool) (past : List Entry) → some_place (owned t f) past ≡ true → Owner t f past
+call_unlinks : (t : DevNo → Bool) (call : CallEntry) → unlinks_some t call ≡ true → (d : DevNo) × (t d ≡ true) × (unlinks_this d call ≡ true)
+call_unlinks t (called.Unlink answer dev) h = let p = and_parts (t dev) (is_unlinked_answer answer) h in (dev, p.0, and_from _ _ (same_self dev) p.1)
+call_unlinks t call h = cc
+
+unlinked : (t : DevNo → Bool) (e : Entry) → is_call (unlinks_some t) e ≡ true → Unlinked t e
+unlinked t (by.CpuCall c call) h = call_unlinks t call h
+unlinked t (by.ThreadCall x call) h = call_unlinks t call h
+unlinked t (by.DriverCall s call) h = call_unlinks t call h
+unlinked t e h = cc
+
+owner_here : (t : DevNo → Bool) (f : Actor → Bool) (e : Entry) (past : List Entry) → owned t f [] (e ∷ past) ≡ true → Owner t f (e ∷ past)
+owner_here t f e past h =
+    let n = not_both (is_call (unlinks_some t) e) (f (actor_of e)) h in
+    let u = unlinked t e n.0 in
+    record {
+      maker = actor_of e;
+      dev = u.0;
+      passes = u.1;
+      unfreed = n.1;
+      stands_there = or_left _ _ (and_from _ _ (same_self_actor (actor_of e)) u.2);
+    }
+
+pub owner : (t : DevNo → Bool) (f : Actor → Bool) (past : List Entry) → some_place (owned t f) past ≡ true → Owner t f past
 owner t f [] h = cc
 owner t f (e ∷ past) h = by_case (or_cases _ _ h) (λ is. owner t (λ r. f r || is_freed_by r e) past is)
   where
     later : Owner t (λ r. f r || is_freed_by r e) past → Owner t f (e ∷ past)
     later o =
-        let n = or_parts (f o.driver) (is_freed_by o.driver e) o.unfreed in
-        let goes : (not (is_freed_by o.driver e) && stands (unlinks_of o.driver o.dev) (is_freed_by o.driver) past)
+        let n = or_parts (f o.maker) (is_freed_by o.maker e) o.unfreed in
+        let goes : (not (is_freed_by o.maker e) && stands (unlinks_of o.maker o.dev) (is_freed_by o.maker) past)
         ≡ true = and_from _ _ (ap not n.1) o.stands_there in
-        record { driver = o.driver; dev = o.dev; passes = o.passes; unfreed = n.0; stands_there = or_right (unlinks_of o.driver o.dev e) _ goes }
+        record { maker = o.maker; dev = o.dev; passes = o.passes; unfreed = n.0; stands_there = or_right (unlinks_of o.maker o.dev e) _ goes }
 
     by_case : (owned t f [] (e ∷ past) ≡ true) ⊎ (some_place (λ a u. owned t f (e ∷ a) u) past ≡ true)
         → (some_place (owned t (λ r. f r || is_freed_by r e)) past ≡ true → Owner t (λ r. f r || is_freed_by r e) past) → Owner t f (e ∷ past)
@@ -90,21 +156,28 @@ owner t f (e ∷ past) h = by_case (or_cases _ _ h) (λ is. owner t (λ r. f r |
     by_case (inr is) deeper = later (deeper (sym (some_ext (λ a u. owned t f (e ∷ a) u)
         (owned t (λ r. f r || is_freed_by r e)) past (λ a u same. one_later t f e a u)) ∙ is))
 
-held_place : (a u : List Entry) → is_being_freed_at a u ≡ true → owned (λ d. true) (λ r. false) a u ≡ true
-held_place a (entries.Unlink driver dev (unlinks.Unlinked last) ∷ past) h = h
-held_place a u h = cc
-
 pub holder : (past : List Entry) → holds_mutex past ≡ true → Owner (λ d. true) (λ r. false) past
-holder past h = owner (λ d. true) (λ r. false) past (place_imply is_being_freed_at (owned (λ d. true) (λ r. false)) past held_place h)
+holder past h = owner (λ d. true) (λ r. false) past
+    (place_imply is_being_freed_at (owned (λ d. true) (λ r. false)) past (λ a u is. sym (same_place a u) ∙ is) h)
 
 -- ---- a hard clear within a free
 
+unlinks_that : (d : DevNo) (call : CallEntry) → unlinks_this d call ≡ unlinks_some (same_dev d) call
+unlinks_that d (called.Unlink answer dev) = refl
+unlinks_that d call = refl
+
+is_that : (d : DevNo) (e : Entry) → unlinks_dev d e ≡ is_call (unlinks_some (same_dev d)) e
+is_that d (by.CpuCall c call) = unlinks_that d call
+is_that d (by.ThreadCall x call) = unlinks_that d call
+is_that d (by.DriverCall s call) = unlinks_that d call
+is_that d e = refl
+
 cleared_place : (d : DevNo) (a u : List Entry) → is_cleared_at d a u ≡ true → owned (same_dev d) (λ r. false) a u ≡ true
-cleared_place d a (entries.Unlink driver dev (unlinks.Unlinked last) ∷ past) h =
-    let n = and_parts (same_dev d dev) _ h in
-    let m = and_parts (list_any (λ e. is_by_driver driver e && is_hard_clear e) a) _ n.1 in
-    and_from _ _ n.0 m.1
-cleared_place d a u h = cc
+cleared_place d a [] h = cc
+cleared_place d a (e ∷ past) h =
+    let n = and_parts (unlinks_dev d e) _ h in
+    let m = and_parts (list_any (λ x. is_by (actor_of e) x && is_hard_clear x) a) _ n.1 in
+    and_from _ _ (sym (is_that d e) ∙ n.0) m.1
 
 pub clearer : (past : List Entry) (d : DevNo) → is_cleared past d ≡ true → Owner (same_dev d) (λ r. false) past
 clearer past d h = owner (same_dev d) (λ r. false) past (place_imply (is_cleared_at d) (owned (same_dev d) (λ r. false)) past (cleared_place d) h)
@@ -114,18 +187,18 @@ none_at_once true h = cc
 none_at_once false h = cc
 
 not_at_once : (d : DevNo) (u : List Entry) → is_cleared_at d [] u ≡ true → ⊥
-not_at_once d (entries.Unlink driver dev (unlinks.Unlinked last) ∷ past) h = none_at_once (same_dev d dev) h
-not_at_once d u h = cc
+not_at_once d [] h = let n : ⊥ = cc in n
+not_at_once d (e ∷ past) h = none_at_once (unlinks_dev d e) h
 
 fewer : (s b c l f g : Bool) → c ≡ false → (s && (((b && c) || l) && not (f || g))) ≡ true → (s && (l && not g)) ≡ true
 fewer s b c l f g is h = grind arith
 
 cleared_at_before : (d : DevNo) (e : Entry) (a u : List Entry) → is_hard_clear e ≡ false → is_cleared_at d (e ∷ a) u ≡ true → is_cleared_at d a u ≡ true
-cleared_at_before d e a (entries.Unlink driver dev (unlinks.Unlinked last) ∷ past) is h =
-    fewer (same_dev d dev) (is_by_driver driver e) (is_hard_clear e)
-    (list_any (λ e. is_by_driver driver e && is_hard_clear e) a) (is_freed_by driver e)
-    (list_any (is_freed_by driver) a) is h
-cleared_at_before d e a u is h = cc
+cleared_at_before d e a [] is h = h
+cleared_at_before d e a (x ∷ past) is h =
+    fewer (unlinks_dev d x) (is_by (actor_of x) e) (is_hard_clear e)
+    (list_any (λ y. is_by (actor_of x) y && is_hard_clear y) a) (is_freed_by (actor_of x) e)
+    (list_any (is_freed_by (actor_of x)) a) is h
 
 -- an entry that is no hard clear clears nothing
 pub cleared_before : (d : DevNo) (e : Entry) (past : List Entry) → is_hard_clear e ≡ false → is_cleared (e ∷ past) d ≡ true → is_cleared past d ≡ true

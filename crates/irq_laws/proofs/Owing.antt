@@ -4,9 +4,10 @@ use Rattle.std.proofs.lemmas.Bool.{and_parts, or_cases, or_right}
 use Rattle.std.specs.List.{list_any}
 use Rattle.irq_base.specs.declared.numbers.DevNo.{DevNo}
 use Rattle.irq_base.specs.declared.entries.Entry.{Entry}
-use Rattle.irq_base.specs.declared.entries.Entry.TheVariants as entries
+use Rattle.irq_base.specs.declared.entries.Entry.TheVariants as by
+use Rattle.irq_base.specs.declared.entries.DriverEntry.TheVariants as drivers
 use Rattle.irq_model.specs.Places.{some_place}
-use Rattle.irq_model.specs.Kinds.{is_any_ask, is_begin, unlinks_dev, links_dev}
+use Rattle.irq_model.specs.Kinds.{is_device_edge, is_begin, unlinks_dev, links_dev}
 use Rattle.irq_model.specs.Links.{is_linked, is_started}
 use Rattle.irq_model.specs.Owed.{comes_to}
 use Rattle.irq_steps.proofs.Somewhere.{some_none}
@@ -64,8 +65,8 @@ owed_cases d e past h = by_case (or_cases _ _ h)
 asked_stays : (k u l : Bool) → u ≡ false → l ≡ true → (k || (not u && l)) ≡ true
 asked_stays k u l a b = grind arith
 
-asks_unlink_not : (d : DevNo) (e : Entry) → is_any_ask e ≡ true → unlinks_dev d e ≡ false
-asks_unlink_not d (entries.Ask r x) h = refl
+asks_unlink_not : (d : DevNo) (e : Entry) → is_device_edge e ≡ true → unlinks_dev d e ≡ false
+asks_unlink_not d (by.Driver r (drivers.Ask makes x)) h = refl
 asks_unlink_not d e h = cc
 
 -- an edge is owed to linked devices alone
@@ -77,7 +78,7 @@ owed_linked d (e ∷ past) h = by_case (owed_cases d e past h) (owed_linked d pa
         × (is_begin d e ≡ false)) → (some_place (owes d) past ≡ true → is_linked past d ≡ true)
         → is_linked (e ∷ past) d ≡ true
     by_case (inl now) deeper =
-        let p = and_parts (is_any_ask e) (is_started past && is_linked past d) now in
+        let p = and_parts (is_device_edge e) (is_started past && is_linked past d) now in
         let q = and_parts (is_started past) (is_linked past d) p.1 in
         asked_stays (links_dev d e) (unlinks_dev d e) (is_linked past d) (asks_unlink_not d e p.0) q.1
     by_case (inr was) deeper = asked_stays (links_dev d e) (unlinks_dev d e) (is_linked past d) was.1 (deeper was.0)

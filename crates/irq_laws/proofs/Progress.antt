@@ -11,7 +11,8 @@ use Rattle.irq_base.specs.declared.calls.Call.{Call}
 use Rattle.irq_base.specs.declared.calls.Call.TheVariants as calls
 use Rattle.irq_base.specs.declared.lines.LineDef.{LineDef}
 use Rattle.irq_base.specs.declared.entries.Entry.{Entry}
-use Rattle.irq_base.specs.declared.entries.Entry.TheVariants as entries
+use Rattle.irq_base.specs.declared.entries.Entry.TheVariants as by
+use Rattle.irq_base.specs.declared.entries.CallEntry.TheVariants as called
 use Rattle.irq_base.specs.declared.entries.UnlinkAnswer.TheVariants as unlinks
 use Rattle.irq_model.specs.Kinds.{same_driver, is_by_driver}
 use Rattle.irq_model.specs.Due.{calls_by, entries_by, begins_not_there, entries_of_call, due_of, due_call}
@@ -35,7 +36,7 @@ makes_one (calls.Affinity mask) es = omega arith
 makes_one (calls.Moment at) es = omega arith
 
 same_begin : (y : Entry) (ys zs : List Entry) → begins_not_there (y ∷ ys) ≡ begins_not_there (y ∷ zs)
-same_begin (entries.Unlink driver dev unlinks.NotThere) ys zs = refl
+same_begin (by.DriverCall driver (called.Unlink unlinks.NotThere dev)) ys zs = refl
 same_begin y ys zs = refl
 
 pub same_count : (c : Call) (y : Entry) (ys zs : List Entry) → entries_of_call c (y ∷ ys) ≡ entries_of_call c (y ∷ zs)

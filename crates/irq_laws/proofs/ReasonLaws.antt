@@ -7,7 +7,8 @@ use Rattle.irq_base.specs.declared.lines.FlowKind.{FlowKind}
 use Rattle.irq_base.specs.declared.lines.FlowKind.TheVariants as flows
 use Rattle.irq_base.specs.declared.lines.LineDef.{LineDef}
 use Rattle.irq_base.specs.declared.entries.Entry.{Entry}
-use Rattle.irq_base.specs.declared.entries.Entry.TheVariants as entries
+use Rattle.irq_base.specs.declared.entries.Entry.TheVariants as by
+use Rattle.irq_base.specs.declared.entries.CallEntry.TheVariants as called
 use Rattle.irq_base.specs.declared.entries.UnlinkAnswer.TheVariants as unlinks
 use Rattle.irq_model.specs.Kinds.{same_dev}
 use Rattle.irq_model.specs.Lines.{is_edge_line, is_level_line, is_edge_flow, is_level_flow, is_eoi_flow}
@@ -26,6 +27,7 @@ use Rattle.irq_laws.proofs.Mutex.{freeing_holds, holder}
 use Rattle.irq_laws.proofs.FreesKept.{same_free}
 use Rattle.irq_laws.proofs.Masking.{level_is_not, zero_depth}
 use Rattle.irq_laws.proofs.KeptAlways.{kept}
+use Rattle.irq_laws.proofs.OwnLaws.{no_cpu_call, no_thread_call}
 
 -- ---- a masked line
 
@@ -70,22 +72,26 @@ one_is_called def past valid legal =
 none_here : (s f : Bool) → f ≡ true → ((s && false) || f) ≡ true
 none_here s f h = grind arith
 
-freed_device : (past : List Entry) (r : DriverNo) (d : DevNo) → freeing past ≡ Some (r, d) → is_being_freed past d ≡ true
-freed_device [] r d h = cc
-freed_device (entries.Unlink s x (unlinks.Unlinked last) ∷ past) r d h =
+freed_device : (def : LineDef) (past : List Entry) → IsLegalPast def past → (r : DriverNo) (d : DevNo) → freeing past ≡ Some (r, d)
+    → is_being_freed past d ≡ true
+freed_device def [] legal r d h = cc
+freed_device def (by.DriverCall s (called.Unlink (unlinks.Unlinked last) x) ∷ past) legal r d h =
     let p : DriverNo × DevNo = (s, x) in
     let q : DriverNo × DevNo = (r, d) in
     let same : x ≡ d = ap (λ (y : DriverNo × DevNo). y.1) (the_same p q h) in
     or_left _ _ (and_from _ _ (subst (λ (y : DevNo). same_dev d y ≡ true) (sym same) (same_self d)) refl)
-freed_device (entries.Unlink s x unlinks.NotThere ∷ past) r d h = none_here (same_dev d x) (is_being_freed past d) (freed_device past r d h)
-freed_device (entries.Freed s x ∷ past) r d h = cc
-freed_device (e ∷ past) r d h = freed_device past r d h
+freed_device def (by.DriverCall s (called.Unlink unlinks.NotThere x) ∷ past) legal r d h
+    = none_here (same_dev d x) (is_being_freed past d) (freed_device def past legal.1 r d h)
+freed_device def (by.DriverCall s (called.Freed x) ∷ past) legal r d h = cc
+freed_device def (by.CpuCall c call ∷ past) legal r d h = no_cpu_call def c call past legal.0
+freed_device def (by.ThreadCall x call ∷ past) legal r d h = no_thread_call def x call past legal.0
+freed_device def (e ∷ past) legal r d h = freed_device def past legal.1 r d h
 
 pub one_is_freed : (def : LineDef) (past : List Entry) → IsValid def → IsLegalPast def past → OneIsFreed def past
 one_is_freed def past valid legal =
     let k = kept def past valid legal in
     record {
       one = λ d e a b. (let f = k.frees.one_device d a in let g = k.frees.one_device e b in (same_free past f.0 g.0 d e f.1 g.1).1);
-      held = λ h. (let o = holder past h in (o.dev, freed_device past o.driver o.dev (k.frees.one_driver o.driver o.dev o.stands_there)));
+      held = λ h. (let o = holder past h in let f = k.frees.one_driver o.maker o.dev o.stands_there in (o.dev, freed_device def past legal f.0 o.dev f.2));
       free = λ d a. (let f = k.frees.one_device d a in freeing_holds past _ f.1);
     }

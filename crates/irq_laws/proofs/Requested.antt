@@ -9,7 +9,8 @@ use Rattle.irq_base.specs.declared.numbers.DevNo.{DevNo}
 use Rattle.irq_base.specs.declared.numbers.DriverNo.{DriverNo}
 use Rattle.irq_base.specs.declared.calls.Call.{Call}
 use Rattle.irq_base.specs.declared.entries.Entry.{Entry}
-use Rattle.irq_base.specs.declared.entries.Entry.TheVariants as entries
+use Rattle.irq_base.specs.declared.entries.Entry.TheVariants as by
+use Rattle.irq_base.specs.declared.entries.DriverEntry.TheVariants as drivers
 use Rattle.irq_base.specs.declared.entries.LinkAnswer.TheVariants as links
 use Rattle.irq_model.specs.Kinds.{same_dev, same_driver, links_dev, unlinks_dev}
 use Rattle.irq_model.specs.Links.{is_linked, requested, linked}
@@ -41,7 +42,7 @@ kept_others x d xs differs h =
 
 pub in_requested : (past : List Entry) (d : DevNo) → list_any (links_dev d) past ≡ true → list_any (same_dev d) (requested past) ≡ true
 in_requested [] d h = h
-in_requested (entries.Request driver dev flags links.Linked opened ∷ past) d h =
+in_requested (by.Driver driver (drivers.Request flags links.Linked opened dev) ∷ past) d h =
     list_any-append (same_dev d) (filter (λ y. not (same_dev y dev)) (requested past)) (dev ∷ []) ∙ by_test (same_dev d dev) refl (in_requested past d)
   where
     by_test : (b : Bool) → same_dev d dev ≡ b → (list_any (links_dev d) past ≡ true → list_any (same_dev d) (requested past) ≡ true)
@@ -49,7 +50,8 @@ in_requested (entries.Request driver dev flags links.Linked opened ∷ past) d h
     by_test true is deeper = or_right _ _ (or_left (same_dev d dev) false is)
     by_test false is deeper =
         or_left _ _ (kept_others dev d (requested past) is (deeper (ap (λ (b : Bool). (b && true) || list_any (links_dev d) past) (sym is) ∙ h)))
-in_requested (entries.Request driver dev flags (links.Refused error) opened ∷ past) d h = by_case (or_cases (same_dev d dev && false) _ h) (in_requested past d)
+in_requested (by.Driver driver (drivers.Request flags (links.Refused error) opened dev) ∷ past) d h
+    = by_case (or_cases (same_dev d dev && false) _ h) (in_requested past d)
   where
     by_case : ((same_dev d dev && false) ≡ true) ⊎ (list_any (links_dev d) past ≡ true)
         → (list_any (links_dev d) past ≡ true → list_any (same_dev d) (requested past) ≡ true)

@@ -10,7 +10,11 @@ use Rattle.irq_base.specs.declared.calls.Call.TheVariants as calls
 use Rattle.irq_base.specs.declared.calls.Flags.{Flags}
 use Rattle.irq_base.specs.declared.lines.LineDef.{LineDef}
 use Rattle.irq_base.specs.declared.entries.Entry.{Entry}
-use Rattle.irq_base.specs.declared.entries.Entry.TheVariants as entries
+use Rattle.irq_base.specs.declared.entries.Entry.TheVariants as by
+use Rattle.irq_base.specs.declared.entries.CpuEntry.TheVariants as cpus
+use Rattle.irq_base.specs.declared.entries.ThreadEntry.TheVariants as threads
+use Rattle.irq_base.specs.declared.entries.DriverEntry.TheVariants as drivers
+use Rattle.irq_base.specs.declared.entries.CallEntry.TheVariants as called
 use Rattle.irq_base.specs.declared.entries.Errno.TheVariants as errors
 use Rattle.irq_base.specs.declared.entries.Opened.{Opened}
 use Rattle.irq_base.specs.declared.entries.LinkAnswer.TheVariants as links
@@ -33,6 +37,7 @@ use Rattle.irq_laws.proofs.FreesKept.{freed_is, begun_is_linked, not_freeing}
 use Rattle.irq_laws.proofs.ImpliesFlow.{begin_due, return_due}
 use Rattle.irq_laws.proofs.ImpliesThread.{thread_begin_due, finish_due, done_due, has_finished}
 use Rattle.irq_laws.proofs.ImpliesDriver.{request_due, unlink_due, freed_due}
+use Rattle.irq_laws.proofs.OwnLaws.{no_cpu_call, no_thread_call}
 
 -- ---- a test with false beside it
 
@@ -53,7 +58,7 @@ requested_named def r x flags n past valid call = due_passes (names_one_of def.d
 
 named_more : (def : LineDef) (e : Entry) (past : List Entry) → IsValid def → IsDue def e past → Kept def past
     → (d : DevNo) → list_any (links_dev d) (e ∷ past) ≡ true → list_any (is_device d) def.devices ≡ true
-named_more def (entries.Request r x flags links.Linked opened) past valid due k d h = by_case (or_cases (same_dev d x && true) _ h)
+named_more def (by.Driver r (drivers.Request flags links.Linked opened x)) past valid due k d h = by_case (or_cases (same_dev d x && true) _ h)
   where
     by_case : ((same_dev d x && true) ≡ true) ⊎ (list_any (links_dev d) past ≡ true) → list_any (is_device d) def.devices ≡ true
     by_case (inl now) =
@@ -62,7 +67,7 @@ named_more def (entries.Request r x flags links.Linked opened) past valid due k 
         (sym (dev_from_same d x (and_parts (same_dev d x) true now).0))
         (requested_named def r x flags u.count past valid u.call)
     by_case (inr was) = k.rest.named d was
-named_more def (entries.Request r x flags (links.Refused error) opened) past valid due k d h
+named_more def (by.Driver r (drivers.Request flags (links.Refused error) opened x)) past valid due k d h
     = k.rest.named d (sym (not_here (same_dev d x) (list_any (links_dev d) past)) ∙ h)
 named_more def e past valid due k d h = k.rest.named d h
 
@@ -74,12 +79,12 @@ there_when true last v h = refl
 there_when false last v h = cc
 
 pub unlinked_was_linked : (def : LineDef) (r : DriverNo) (x : DevNo) (last : Bool) (past : List Entry)
-    → IsDue def (entries.Unlink r x (unlinks.Unlinked last)) past → is_linked past x ≡ true
+    → IsDue def (by.DriverCall r (called.Unlink (unlinks.Unlinked last) x)) past → is_linked past x ≡ true
 unlinked_was_linked def r x last past due = there_when (is_linked past x) last _ (unlink_due def r x (unlinks.Unlinked last) past due).answer_is
 
 freed_named_more : (def : LineDef) (e : Entry) (past : List Entry) → IsDue def e past → Kept def past → (d : DevNo)
     → is_being_freed (e ∷ past) d ≡ true → list_any (is_device d) def.devices ≡ true
-freed_named_more def (entries.Unlink s x (unlinks.Unlinked last)) past due k d h = by_case (or_cases (same_dev d x && true) _ h)
+freed_named_more def (by.DriverCall s (called.Unlink (unlinks.Unlinked last) x)) past due k d h = by_case (or_cases (same_dev d x && true) _ h)
   where
     by_case : ((same_dev d x && true) ≡ true) ⊎ (is_being_freed past d ≡ true) → list_any (is_device d) def.devices ≡ true
     by_case (inl now) =
@@ -88,8 +93,11 @@ freed_named_more def (entries.Unlink s x (unlinks.Unlinked last)) past due k d h
         in
         k.rest.named d (was_linked past d there)
     by_case (inr was) = k.rest.freed_named d was
-freed_named_more def (entries.Unlink s x unlinks.NotThere) past due k d h = k.rest.freed_named d (sym (not_here (same_dev d x) (is_being_freed past d)) ∙ h)
-freed_named_more def (entries.Freed s x) past due k d h = k.rest.freed_named d (and_parts (not (same_dev d x)) _ h).1
+freed_named_more def (by.DriverCall s (called.Unlink unlinks.NotThere x)) past due k d h
+    = k.rest.freed_named d (sym (not_here (same_dev d x) (is_being_freed past d)) ∙ h)
+freed_named_more def (by.DriverCall s (called.Freed x)) past due k d h = k.rest.freed_named d (and_parts (not (same_dev d x)) _ h).1
+freed_named_more def (by.CpuCall c call) past due k d h = no_cpu_call def c call past due
+freed_named_more def (by.ThreadCall x call) past due k d h = no_thread_call def x call past due
 freed_named_more def e past due k d h = k.rest.freed_named d h
 
 -- a device that is linked or being freed is a device of the line
@@ -112,7 +120,7 @@ freed_now s f h = grind arith
 after_more : (def : LineDef) (e : Entry) (past : List Entry) → IsDue def e past → Kept def past → (d : DevNo)
     → stands (is_freed d) (links_dev d) (e ∷ past) ≡ true
     → (is_linked (e ∷ past) d ≡ false) × (is_being_freed (e ∷ past) d ≡ false)
-after_more def (entries.Freed s x) past due k d h = by_case (or_cases (same_dev d x) _ h)
+after_more def (by.DriverCall s (called.Freed x)) past due k d h = by_case (or_cases (same_dev d x) _ h)
   where
     by_case : (same_dev d x ≡ true) ⊎ (stands (is_freed d) (links_dev d) past ≡ true)
         → (is_linked past d ≡ false) × ((not (same_dev d x) && is_being_freed past d) ≡ false)
@@ -123,20 +131,22 @@ after_more def (entries.Freed s x) past due k d h = by_case (or_cases (same_dev 
           (is_being_freed past d) now,
     )
     by_case (inr was) = let r = k.rest.after_free d was in (r.0, and_right (not (same_dev d x)) _ r.1)
-after_more def (entries.Unlink s x (unlinks.Unlinked last)) past due k d h =
+after_more def (by.DriverCall s (called.Unlink (unlinks.Unlinked last) x)) past due k d h =
     let r = k.rest.after_free d h in
     let other = apart d x (is_linked past) (unlinked_was_linked def s x last past due) r.0 in
     (and_right (not (same_dev d x && true)) _ r.0, or_from _ _ (and_left (same_dev d x) true other) r.1)
-after_more def (entries.Unlink s x unlinks.NotThere) past due k d h =
+after_more def (by.DriverCall s (called.Unlink unlinks.NotThere x)) past due k d h =
     let r = k.rest.after_free d h in (and_right (not (same_dev d x && false)) _ r.0, or_from _ _ (no_part (same_dev d x)) r.1)
-after_more def (entries.Request s x flags links.Linked opened) past due k d h =
+after_more def (by.Driver s (drivers.Request flags links.Linked opened x)) past due k d h =
     let p = and_parts (not (same_dev d x && true)) _ h in
     let r = k.rest.after_free d p.1 in
     (or_from _ _ (not-true (same_dev d x && true) p.0) r.0, r.1)
-after_more def (entries.Request s x flags (links.Refused error) opened) past due k d h =
+after_more def (by.Driver s (drivers.Request flags (links.Refused error) opened x)) past due k d h =
     let p = and_parts (not (same_dev d x && false)) _ h in
     let r = k.rest.after_free d p.1 in
     (or_from _ _ (no_part (same_dev d x)) r.0, r.1)
+after_more def (by.CpuCall c call) past due k d h = no_cpu_call def c call past due
+after_more def (by.ThreadCall x call) past due k d h = no_thread_call def x call past due
 after_more def e past due k d h = k.rest.after_free d h
 
 -- ---- at rest
@@ -156,7 +166,7 @@ all_rest : (w r u c : Bool) → w ≡ false → r ≡ false → u ≡ false → 
 all_rest w r u c a b x y = grind arith
 
 -- a freed device is at rest
-freed_rest : (def : LineDef) (s : DriverNo) (x : DevNo) (past : List Entry) → IsDue def (entries.Freed s x) past
+freed_rest : (def : LineDef) (s : DriverNo) (x : DevNo) (past : List Entry) → IsDue def (by.DriverCall s (called.Freed x)) past
     → Kept def past → (is_woken past x || (is_running past x || (is_unfinished past x || is_called past x))) ≡ false
 freed_rest def s x past due k =
     let u = freed_due def s x past due in
@@ -169,57 +179,59 @@ freed_rest def s x past due k =
 rest_more : (def : LineDef) (e : Entry) (past : List Entry) → IsDue def e past → Kept def past → (d : DevNo)
     → is_linked (e ∷ past) d ≡ false → is_being_freed (e ∷ past) d ≡ false
     → (is_woken (e ∷ past) d || (is_running (e ∷ past) d || (is_unfinished (e ∷ past) d || is_called (e ∷ past) d))) ≡ false
-rest_more def (entries.Begin c x) past due k d l f =
+rest_more def (by.Cpu c (cpus.Begin x)) past due k d l f =
     let r = k.rest.at_rest d l f in
     let other = apart d x (is_linked past) (begun_is_linked def past x (begin_due def c x past due).first).0 l in
     rw other r
-rest_more def (entries.Return c x answer served) past due k d l f =
+rest_more def (by.Cpu c (cpus.Return answer x served)) past due k d l f =
     let r = k.rest.at_rest d l f in
     let p = parts_of past d r in
     let there = (k.runs.working x (return_due def c x answer served past due).is_at_work).0 in
     let other = apart d x (is_called past) there p.3 in
     rw other r
-rest_more def (entries.ThreadBegin x) past due k d l f =
+rest_more def (by.Thread x threads.Begin) past due k d l f =
     let r = k.rest.at_rest d l f in
     let p = parts_of past d r in
     let other = apart d x (is_woken past) (thread_begin_due def x past due).woken p.0 in
     rw other r
-rest_more def (entries.Finish x true unmask) past due k d l f = k.rest.at_rest d l f
-rest_more def (entries.Finish x false unmask) past due k d l f =
+rest_more def (by.Thread x (threads.Finish true unmask)) past due k d l f = k.rest.at_rest d l f
+rest_more def (by.Thread x (threads.Finish false unmask)) past due k d l f =
     let r = k.rest.at_rest d l f in
     let p = parts_of past d r in
     let other = apart d x (is_running past) (finish_due def x false unmask past due).running p.1 in
     rw other r
-rest_more def (entries.Done x) past due k d l f =
+rest_more def (by.Thread x threads.Done) past due k d l f =
     let r = k.rest.at_rest d l f in
     let p = parts_of past d r in
     let other = apart d x (is_running past) (done_due def x past due).running p.1 in
     rw other r
-rest_more def (entries.Request s x flags links.Linked opened) past due k d l f =
+rest_more def (by.Driver s (drivers.Request flags links.Linked opened x)) past due k d l f =
     let p = or_parts (same_dev d x && true) (is_linked past d) l in
     rw (p.0) (k.rest.at_rest d p.1 f)
-rest_more def (entries.Request s x flags (links.Refused error) opened) past due k d l f =
+rest_more def (by.Driver s (drivers.Request flags (links.Refused error) opened x)) past due k d l f =
     let p = or_parts (same_dev d x && false) (is_linked past d) l in
     rw (p.0) (k.rest.at_rest d p.1 f)
-rest_more def (entries.Unlink s x (unlinks.Unlinked last)) past due k d l f =
+rest_more def (by.DriverCall s (called.Unlink (unlinks.Unlinked last) x)) past due k d l f =
     let p = or_parts (same_dev d x && true) (is_being_freed past d) f in
     k.rest.at_rest d (still_linked (same_dev d x) (is_linked past d) p.0 l) p.1
   where
     still_linked : (s l : Bool) → (s && true) ≡ false → (not (s && true) && l) ≡ false → l ≡ false
     still_linked s l a b = grind arith
-rest_more def (entries.Unlink s x unlinks.NotThere) past due k d l f
+rest_more def (by.DriverCall s (called.Unlink unlinks.NotThere x)) past due k d l f
     = k.rest.at_rest d (none_changed (same_dev d x) (is_linked past d) l)
     (or_parts (same_dev d x && false) (is_being_freed past d) f).1
   where
     none_changed : (s l : Bool) → (not (s && false) && l) ≡ false → l ≡ false
     none_changed s l b = grind arith
-rest_more def (entries.Freed s x) past due k d l f = by_test (same_dev d x) refl
+rest_more def (by.DriverCall s (called.Freed x)) past due k d l f = by_test (same_dev d x) refl
   where
     by_test : (b : Bool) → same_dev d x ≡ b → (is_woken past d || (is_running past d || (is_unfinished past d || is_called past d))) ≡ false
     by_test true same = subst (λ (y : DevNo). (is_woken past y ||
         (is_running past y || (is_unfinished past y || is_called past y))) ≡ false) (sym (dev_from_same d x same))
         (freed_rest def s x past due k)
     by_test false other = k.rest.at_rest d l (ap (λ (b : Bool). not b && is_being_freed past d) (sym other) ∙ f)
+rest_more def (by.CpuCall c call) past due k d l f = no_cpu_call def c call past due
+rest_more def (by.ThreadCall x call) past due k d l f = no_thread_call def x call past due
 rest_more def e past due k d l f = k.rest.at_rest d l f
 
 -- ---- a thread bit that stands
@@ -285,7 +297,7 @@ called_there def past k x called =
     (parts_of past x (k.rest.at_rest x p.0 p.1)).3)
 
 -- a run ends with the thread's bit only if the thread was woken again
-done_woken : (def : LineDef) (x : DevNo) (past : List Entry) → IsDue def (entries.Done x) past → Kept def past
+done_woken : (def : LineDef) (x : DevNo) (past : List Entry) → IsDue def (by.Thread x threads.Done) past → Kept def past
     → is_unfinished past x ≡ true → is_woken past x ≡ true
 done_woken def x past due k h = by_case (or_cases (is_woken past x) (is_finishing past x) (k.rest.at_work x h))
   where
@@ -304,39 +316,40 @@ done_woken def x past due k h = by_case (or_cases (is_woken past x) (is_finishin
 
 work_more : (def : LineDef) (e : Entry) (past : List Entry) → IsDue def e past → Kept def past → (d : DevNo)
     → is_unfinished (e ∷ past) d ≡ true → (is_woken (e ∷ past) d || is_finishing (e ∷ past) d) ≡ true
-work_more def (entries.Return c x answer served) past due k d h =
+work_more def (by.Cpu c (cpus.Return answer x served)) past due k d h =
     woken_now (linking_flags past d).oneshot (same_dev d x && is_wake answer)
     (stands (wakes d) (is_cleared_finish d) (since (links_dev d) past)) (is_woken past d) (is_finishing past d) h
     (k.rest.at_work d)
-work_more def (entries.ThreadBegin x) past due k d h = by_test (same_dev d x) refl
+work_more def (by.Thread x threads.Begin) past due k d h = by_test (same_dev d x) refl
   where
-    by_test : (b : Bool) → same_dev d x ≡ b → (is_woken (entries.ThreadBegin x ∷ past) d || is_finishing (entries.ThreadBegin x ∷ past) d) ≡ true
+    by_test : (b : Bool) → same_dev d x ≡ b → (is_woken (by.Thread x threads.Begin ∷ past) d || is_finishing (by.Thread x threads.Begin ∷ past) d) ≡ true
     by_test true same = rw same refl
     by_test false other = rw other (k.rest.at_work d h)
-work_more def (entries.Finish x true unmask) past due k d h = by_test (same_dev d x) refl
+work_more def (by.Thread x (threads.Finish true unmask)) past due k d h = by_test (same_dev d x) refl
   where
-    by_test : (b : Bool) → same_dev d x ≡ b → (is_woken (entries.Finish x true unmask ∷ past) d || is_finishing (entries.Finish x true unmask ∷ past) d) ≡ true
+    by_test : (b : Bool) → same_dev d x ≡ b → (is_woken (by.Thread x (threads.Finish true unmask) ∷ past) d ||
+        is_finishing (by.Thread x (threads.Finish true unmask) ∷ past) d) ≡ true
     by_test true same = or_left _ _ (subst (λ (y : DevNo). is_woken past y ≡ true) (sym (dev_from_same d x same))
         (sym (finish_due def x true unmask past due).kept_is))
     by_test false other = rw other (k.rest.at_work d h)
-work_more def (entries.Finish x false unmask) past due k d h =
+work_more def (by.Thread x (threads.Finish false unmask)) past due k d h =
     let p = and_parts (linking_flags past d).oneshot (not (same_dev d x) && stands (wakes d) (is_cleared_finish d) (since (links_dev d) past)) h in
     let q = and_parts (not (same_dev d x)) (stands (wakes d) (is_cleared_finish d) (since (links_dev d) past)) p.1 in
     rw (not-true (same_dev d x) q.0) (k.rest.at_work d (and_from _ _ p.0 q.1))
-work_more def (entries.Done x) past due k d h = by_test (same_dev d x) refl
+work_more def (by.Thread x threads.Done) past due k d h = by_test (same_dev d x) refl
   where
-    by_test : (b : Bool) → same_dev d x ≡ b → (is_woken (entries.Done x ∷ past) d || is_finishing (entries.Done x ∷ past) d) ≡ true
+    by_test : (b : Bool) → same_dev d x ≡ b → (is_woken (by.Thread x threads.Done ∷ past) d || is_finishing (by.Thread x threads.Done ∷ past) d) ≡ true
     by_test true same =
         let equal = dev_from_same d x same in
         let bit = subst (λ (y : DevNo). is_unfinished past y ≡ true) equal h in
         or_left _ _ (subst (λ (y : DevNo). is_woken past y ≡ true) (sym equal) (done_woken def x past due k bit))
     by_test false other = rw other (k.rest.at_work d h)
-work_more def (entries.Request s x flags links.Linked opened) past due k d h = by_test (same_dev d x) refl
+work_more def (by.Driver s (drivers.Request flags links.Linked opened x)) past due k d h = by_test (same_dev d x) refl
   where
     by_test : (b : Bool) → same_dev d x ≡ b → (is_woken past d || is_finishing past d) ≡ true
     by_test true same = let n = rw same at h in absurd ((let m = and_parts _ false n in let f : ⊥ = cc (m.1) in f))
     by_test false other = k.rest.at_work d (rw other at h)
-work_more def (entries.Request s x flags (links.Refused error) opened) past due k d h = k.rest.at_work d (rw (no_part (same_dev d x)) at h)
+work_more def (by.Driver s (drivers.Request flags (links.Refused error) opened x)) past due k d h = k.rest.at_work d (rw (no_part (same_dev d x)) at h)
 work_more def e past due k d h = k.rest.at_work d h
 
 -- ---- the flags
@@ -353,7 +366,7 @@ not_mismatch false true b3 b4 h = cc
 not_mismatch false false b3 b4 h = refl
 
 pub goes_with : (def : LineDef) (s : DriverNo) (x : DevNo) (flags : Flags) (opened : Opened) (past : List Entry)
-    → IsDue def (entries.Request s x flags links.Linked opened) past → (d : DevNo) → is_linked past d ≡ true
+    → IsDue def (by.Driver s (drivers.Request flags links.Linked opened x)) past → (d : DevNo) → is_linked past d ≡ true
     → (linking_flags past d).oneshot ≡ flags.oneshot
 goes_with def s x flags opened past due d there =
     let u = request_due def s x flags links.Linked opened past due in
@@ -370,30 +383,32 @@ none_freed def past k free d = false_from_ne_true (is_being_freed past d) (λ h.
 flags_more : (def : LineDef) (e : Entry) (past : List Entry) → IsDue def e past → Kept def past → (d : DevNo)
     → (is_linked (e ∷ past) d || is_being_freed (e ∷ past) d) ≡ true
     → (linking_flags (e ∷ past) d).oneshot ≡ is_oneshot (e ∷ past)
-flags_more def (entries.Request s x flags links.Linked opened) past due k d h = by_test (same_dev d x) refl
+flags_more def (by.Driver s (drivers.Request flags links.Linked opened x)) past due k d h = by_test (same_dev d x) refl
   where
     was_there : (l f : Bool) → f ≡ false → (l || f) ≡ true → l ≡ true
     was_there l f a b = grind arith
 
-    by_test : (b : Bool) → same_dev d x ≡ b → (linking_flags (entries.Request s x flags links.Linked opened ∷ past) d).oneshot ≡ flags.oneshot
+    by_test : (b : Bool) → same_dev d x ≡ b → (linking_flags (by.Driver s (drivers.Request flags links.Linked opened x) ∷ past) d).oneshot ≡ flags.oneshot
     by_test true same = rw same refl
     by_test false other =
         let none = none_freed def past k (request_due def s x flags links.Linked opened past due).no_mutex d in
         let there = was_there (is_linked past d) (is_being_freed past d) none (rw other at h) in
         rw other (goes_with def s x flags opened past due d there)
-flags_more def (entries.Request s x flags (links.Refused error) opened) past due k d h
+flags_more def (by.Driver s (drivers.Request flags (links.Refused error) opened x)) past due k d h
     = rw (no_part (same_dev d x)) (k.rest.flags d (rw (no_part (same_dev d x)) at h))
-flags_more def (entries.Unlink s x (unlinks.Unlinked last)) past due k d h = by_test (same_dev d x) refl
+flags_more def (by.DriverCall s (called.Unlink (unlinks.Unlinked last) x)) past due k d h = by_test (same_dev d x) refl
   where
     by_test : (b : Bool) → same_dev d x ≡ b → (linking_flags past d).oneshot ≡ is_oneshot past
     by_test true same = k.rest.flags d (or_left _ _ (subst (λ (y : DevNo). is_linked past y ≡ true)
         (sym (dev_from_same d x same)) (unlinked_was_linked def s x last past due)))
     by_test false other = k.rest.flags d (rw other at h)
-flags_more def (entries.Unlink s x unlinks.NotThere) past due k d h = k.rest.flags d (rw (no_part (same_dev d x)) at h)
-flags_more def (entries.Freed s x) past due k d h = k.rest.flags d (more (is_linked past d) (not (same_dev d x)) (is_being_freed past d) h)
+flags_more def (by.DriverCall s (called.Unlink unlinks.NotThere x)) past due k d h = k.rest.flags d (rw (no_part (same_dev d x)) at h)
+flags_more def (by.DriverCall s (called.Freed x)) past due k d h = k.rest.flags d (more (is_linked past d) (not (same_dev d x)) (is_being_freed past d) h)
   where
     more : (l s f : Bool) → (l || (s && f)) ≡ true → (l || f) ≡ true
     more l s f h = grind arith
+flags_more def (by.CpuCall c call) past due k d h = no_cpu_call def c call past due
+flags_more def (by.ThreadCall x call) past due k d h = no_thread_call def x call past due
 flags_more def e past due k d h = k.rest.flags d h
 
 pub rest_kept : (def : LineDef) (e : Entry) (past : List Entry) → IsValid def → IsDue def e past → Kept def past → KeepsRest def (e ∷ past)

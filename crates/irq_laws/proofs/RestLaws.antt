@@ -10,7 +10,8 @@ use Rattle.irq_base.specs.declared.lines.LineDef.{LineDef}
 use Rattle.irq_base.specs.declared.entries.Actor.{Actor}
 use Rattle.irq_base.specs.declared.entries.Actor.TheVariants as actors
 use Rattle.irq_base.specs.declared.entries.Entry.{Entry}
-use Rattle.irq_base.specs.declared.entries.Entry.TheVariants as entries
+use Rattle.irq_base.specs.declared.entries.Entry.TheVariants as by
+use Rattle.irq_base.specs.declared.entries.CpuEntry.TheVariants as cpus
 use Rattle.irq_base.specs.declared.entries.TakeAnswer.TheVariants as takes
 use Rattle.irq_model.specs.Lines.{is_level_line}
 use Rattle.irq_model.specs.Links.{depth, is_linked}
@@ -51,7 +52,7 @@ no_bit_idle def past k i = none_of (λ (x : DeviceDef). is_unfinished past x.dev
 -- ---- all was delivered
 
 not_next : {P : Type 0} (def : LineDef) (h : List Entry) → CpusRest def (reverse h) → IsHandledNext def h → P
-not_next def h still n = let s = still n.0 in let d : Some (entries.Take n.0 n.1 takes.Handle) ≡ None = sym n.3 ∙ s in cc
+not_next def h still n = let s = still n.0 in let d : Some (by.Cpu n.0 (cpus.Take n.1 takes.Handle)) ≡ None = sym n.3 ∙ s in cc
 
 delivered : (def : LineDef) (h : List Entry) → IsValid def → IsLegal def h → CpusRest def (reverse h) → IsIdle def (reverse h) → IsDelivered def h
 delivered def h valid legal still i =
@@ -85,7 +86,7 @@ pub no_standstill : (def : LineDef) (h : List Entry) → IsValid def → IsLegal
 no_standstill def h valid legal still = record { still = still; complete = λ r. by_call r (due_call def r (reverse h)) refl }
   where
     i : IsIdle def (reverse h)
-    i = idle def (reverse h) (λ line d. still (actors.Thread line d)) (λ c. still (actors.Cpu c))
+    i = idle def (reverse h) (kept def (reverse h) valid legal) (λ d. still (actors.Thread d)) (λ c. still (actors.Cpu c))
 
     by_move : {P : Type 0} (r : DriverNo) → (is_some (next def h (actors.Driver r)) ≡ true) ⊎ FreeMoves def h → P
     by_move r (inl moves) = not_both (next def h (actors.Driver r)) (still (actors.Driver r)) moves
@@ -97,11 +98,12 @@ no_standstill def h valid legal still = record { still = still; complete = λ r.
 
 -- ---- a settled line
 
-settled_idle : (def : LineDef) (h : List Entry) → IsSettled def h → IsIdle def (reverse h)
-settled_idle def h settled = idle def (reverse h) (λ line d. settled.still (actors.Thread line d)) (λ c. settled.still (actors.Cpu c))
+settled_idle : (def : LineDef) (h : List Entry) → IsValid def → IsLegal def h → IsSettled def h → IsIdle def (reverse h)
+settled_idle def h valid legal settled = idle def (reverse h) (kept def (reverse h) valid legal)
+    (λ d. settled.still (actors.Thread d)) (λ c. settled.still (actors.Cpu c))
 
 pub settled_is_delivered : (def : LineDef) (h : List Entry) → IsValid def → IsLegal def h → IsSettled def h → IsDelivered def h
-settled_is_delivered def h valid legal settled = delivered def h valid legal (λ c. settled.still (actors.Cpu c)) (settled_idle def h settled)
+settled_is_delivered def h valid legal settled = delivered def h valid legal (λ c. settled.still (actors.Cpu c)) (settled_idle def h valid legal settled)
 
 no_call : {P : Type 0} (o : Option (Call × ℕ)) (c : Call) (n : ℕ) → o ≡ Some (c, n) → o ≡ None → P
 no_call None c n is none = cc
@@ -119,11 +121,12 @@ settled_is_quiet def h valid legal settled =
     }
   where
     i : IsIdle def (reverse h)
-    i = settled_idle def h settled
+    i = settled_idle def h valid legal settled
 
     -- the holder's free is due, and no call is
     no_holder : holds_mutex (reverse h) ≡ true → ⊥
     no_holder held =
         let o = holder (reverse h) held in
-        let w = within_free def (reverse h) legal o.driver o.dev ((kept def (reverse h) valid legal).frees.one_driver o.driver o.dev o.stands_there) in
-        no_call (due_call def o.driver (reverse h)) (calls.Free o.dev) (suc w.0) w.1 (settled.complete o.driver)
+        let under = (kept def (reverse h) valid legal).frees.one_driver o.maker o.dev o.stands_there in
+        let w = within_free def (reverse h) legal under.0 o.dev under.2 in
+        no_call (due_call def under.0 (reverse h)) (calls.Free o.dev) (suc w.0) w.1 (settled.complete under.0)

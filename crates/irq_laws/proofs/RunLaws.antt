@@ -8,7 +8,10 @@ use Rattle.irq_base.specs.declared.lines.FlowKind.{FlowKind}
 use Rattle.irq_base.specs.declared.lines.FlowKind.TheVariants as flows
 use Rattle.irq_base.specs.declared.lines.LineDef.{LineDef}
 use Rattle.irq_base.specs.declared.entries.Entry.{Entry}
-use Rattle.irq_base.specs.declared.entries.Entry.TheVariants as entries
+use Rattle.irq_base.specs.declared.entries.Entry.TheVariants as by
+use Rattle.irq_base.specs.declared.entries.CpuEntry.TheVariants as cpus
+use Rattle.irq_base.specs.declared.entries.ThreadEntry.TheVariants as threads
+use Rattle.irq_base.specs.declared.entries.CallEntry.TheVariants as called
 use Rattle.irq_base.specs.declared.entries.Note.{Note}
 use Rattle.irq_model.specs.Places.{stands}
 use Rattle.irq_model.specs.Kinds.{same_dev, is_begin, is_thread_begin, is_hard_clear, is_synced, is_freed, links_dev, is_reopening}
@@ -32,17 +35,18 @@ use Rattle.irq_laws.proofs.KeptAlways.{each}
 use Rattle.irq_laws.proofs.ImpliesFlow.{unmask_by, begin_due, return_due, end_due}
 use Rattle.irq_laws.proofs.ImpliesThread.{thread_begin_due, thread_return_due, finish_due, done_due}
 use Rattle.irq_laws.proofs.ImpliesDriver.{hard_clear_due, synced_due}
+use Rattle.irq_laws.proofs.OwnLaws.{no_cpu_call, no_thread_call}
 
 -- ---- no overlap
 
 overlap : (def : LineDef) (e : Entry) (past : List Entry) → IsDue def e past → Kept def past → (d : DevNo)
     → (is_begin d e ≡ true → is_called past d ≡ false) × (is_thread_begin d e ≡ true → is_running past d ≡ false)
-overlap def (entries.Begin c x) past due k d = (
+overlap def (by.Cpu c (cpus.Begin x)) past due k d = (
   λ same. false_from_ne_true (is_called past d) (λ called. let a = k.runs.called d called in
       let b = (begin_due def c x past due).none_at_work in let n : ⊥ = cc in n),
   λ none. cc,
 )
-overlap def (entries.ThreadBegin x) past due k d =
+overlap def (by.Thread x threads.Begin) past due k d =
     (λ none. cc, λ same. subst (λ (y : DevNo). is_running past y ≡ false) (sym (dev_from_same d x same)) (thread_begin_due def x past due).not_running)
 overlap def e past due k d = (λ none. cc, λ none. cc)
 
@@ -67,18 +71,19 @@ or_none false h = h
 
 silent : (def : LineDef) (e : Entry) (past : List Entry) → IsDue def e past → Kept def past → (d : DevNo)
     → is_run_of d e ≡ true → stands (is_freed d) (links_dev d) past ≡ false
-silent def (entries.Begin c x) past due k d h = not_freed def past k d x (or_none _ h)
+silent def (by.Cpu c (cpus.Begin x)) past due k d h = not_freed def past k d x (or_none _ h)
     (or_left _ _ (begun_is_linked def past x (begin_due def c x past due).first).0)
-silent def (entries.Return c x answer served) past due k d h =
+silent def (by.Cpu c (cpus.Return answer x served)) past due k d h =
     not_freed def past k d x (or_none _ h) (called_there def past k x (k.runs.working x (return_due def c x answer served past due).is_at_work).0)
-silent def (entries.ThreadBegin x) past due k d h = not_freed def past k d x (or_none _ h) (woken_there def past k x (thread_begin_due def x past due).woken)
-silent def (entries.ThreadReturn x served) past due k d h
+silent def (by.Thread x threads.Begin) past due k d h = not_freed def past k d x (or_none _ h)
+    (woken_there def past k x (thread_begin_due def x past due).woken)
+silent def (by.Thread x (threads.Return handled served)) past due k d h
     = not_freed def past k d x (or_none _ h) (running_there def past k x
-    (thread_return_due def x served past due).running)
-silent def (entries.Finish x kept unmask) past due k d h
+    (thread_return_due _ def x served past due).running)
+silent def (by.Thread x (threads.Finish kept unmask)) past due k d h
     = not_freed def past k d x (or_none _ h) (running_there def past k x
     (finish_due def x kept unmask past due).running)
-silent def (entries.Done x) past due k d h = not_freed def past k d x h (running_there def past k x (done_due def x past due).running)
+silent def (by.Thread x threads.Done) past due k d h = not_freed def past k d x h (running_there def past k x (done_due def x past due).running)
 silent def e past due k d h = cc
 
 pub silent_after_free : (def : LineDef) (h : List Entry) → IsValid def → IsLegal def h → IsSilentAfterFree def h
@@ -109,8 +114,11 @@ all_idle def past k none d =
 synchronised_at : (def : LineDef) (e : Entry) (past : List Entry) → IsDue def e past → Kept def past → (d : DevNo)
     → (is_hard_clear e ≡ true → is_called past d ≡ false)
     × (is_synced e ≡ true → (is_woken past d || is_running past d) ≡ false)
-synchronised_at def (entries.HardClear s) past due k d = (λ is. nothing_called def past k.runs (hard_clear_due def s past due).no_flow d, λ none. cc)
-synchronised_at def (entries.Synced s) past due k d = (λ none. cc, λ is. all_idle def past k (synced_due def s past due).none_active d)
+synchronised_at def (by.DriverCall s called.HardClear) past due k d
+    = (λ is. nothing_called def past k.runs (hard_clear_due def s past due).no_flow d, λ none. cc)
+synchronised_at def (by.DriverCall s called.Synced) past due k d = (λ none. cc, λ is. all_idle def past k (synced_due def s past due).none_active d)
+synchronised_at def (by.CpuCall c call) past due k d = no_cpu_call def c call past due
+synchronised_at def (by.ThreadCall x call) past due k d = no_thread_call def x call past due
 synchronised_at def e past due k d = (λ none. cc, λ none. cc)
 
 pub synchronised : (def : LineDef) (h : List Entry) → IsValid def → IsLegal def h → IsSynchronised def h
@@ -140,13 +148,13 @@ woken_kept w d m o h = (grind arith, grind arith)
 
 oneshot_at : (def : LineDef) (e : Entry) (past : List Entry) → IsValid def → is_level_line def ≡ true → IsDue def e past
     → is_reopening e ≡ true → is_some_unfinished def (e ∷ past) ≡ false
-oneshot_at def (entries.End c again unmask note) past valid level due h =
+oneshot_at def (by.Cpu c (cpus.End again unmask note)) past valid level due h =
     opens_unheld def def.flow past (note_of def past) valid level refl (sym (end_due def c again unmask note past due).unmask_is ∙ h)
-oneshot_at def (entries.Finish x true unmask) past valid level due h =
+oneshot_at def (by.Thread x (threads.Finish true unmask)) past valid level due h =
     let u = finish_due def x true unmask past due in
     let p = woken_kept (is_woken past x) (is_disabled past) (is_masked def past) (is_other_unfinished def past x) (sym u.unmask_is ∙ h) in
     both_ways (is_woken past x) (sym u.kept_is) p.0
-oneshot_at def (entries.Finish x false unmask) past valid level due h =
+oneshot_at def (by.Thread x (threads.Finish false unmask)) past valid level due h =
     let u = finish_due def x false unmask past due in
     let p = woken_kept (is_woken past x) (is_disabled past) (is_masked def past) (is_other_unfinished def past x) (sym u.unmask_is ∙ h) in
     others_left def x unmask past ∙ p.1

@@ -10,7 +10,9 @@ use Rattle.irq_base.specs.declared.calls.Call.{Call}
 use Rattle.irq_base.specs.declared.calls.Call.TheVariants as calls
 use Rattle.irq_base.specs.declared.lines.LineDef.{LineDef}
 use Rattle.irq_base.specs.declared.entries.Entry.{Entry}
-use Rattle.irq_base.specs.declared.entries.Entry.TheVariants as entries
+use Rattle.irq_base.specs.declared.entries.Entry.TheVariants as by
+use Rattle.irq_base.specs.declared.entries.DriverEntry.TheVariants as drivers
+use Rattle.irq_base.specs.declared.entries.CallEntry.TheVariants as called
 use Rattle.irq_base.specs.declared.calls.Flags.{Flags}
 use Rattle.irq_base.specs.declared.entries.Opened.{Opened}
 use Rattle.irq_base.specs.declared.entries.Opened.TheVariants as opens
@@ -30,20 +32,22 @@ use Rattle.irq_steps.proofs.Same.{driver_from_same}
 use Rattle.irq_laws.proofs.Progress.{makes_one, same_count, same_call, due_at, entries_more}
 use Rattle.irq_laws.proofs.ImpliesDriver.{ask_due, request_due, unlink_due, freed_due, disable_due, hard_clear_due}
 use Rattle.irq_laws.proofs.ImpliesDriver.{synced_due, enable_due, affinity_due, moment_due}
+use Rattle.irq_laws.proofs.OwnLaws.{no_new_call}
 
 -- ---- how many entries a call makes
 
 all_count : (c : Call) (es : List Entry) → MakesAll c es → entries_of_call c es ≡ length es
-all_count (calls.Ask d) (entries.Ask r dev ∷ []) h = refl
-all_count (calls.Request d flags) (entries.Request r dev given answer opened ∷ []) h = refl
-all_count (calls.Free d) (entries.Unlink r dev unlinks.NotThere ∷ []) h = refl
-all_count (calls.Free d) (entries.Unlink r dev (unlinks.Unlinked last) ∷ entries.HardClear s ∷ entries.Freed t freed ∷ []) h = refl
-all_count calls.Disable (entries.Disable r ∷ entries.HardClear s ∷ entries.Synced t ∷ []) h = refl
-all_count calls.DisableNosync (entries.Disable r ∷ []) h = refl
-all_count calls.Enable (entries.Enable r answer ∷ []) h = refl
-all_count calls.Sync (entries.HardClear r ∷ entries.Synced s ∷ []) h = refl
-all_count (calls.Affinity mask) (entries.Affinity r given answer ∷ []) h = refl
-all_count (calls.Moment at) (entries.Moment r given ∷ []) h = refl
+all_count (calls.Ask d) (by.Driver r (drivers.Ask makes dev) ∷ []) h = refl
+all_count (calls.Request d flags) (by.Driver r (drivers.Request given answer opened dev) ∷ []) h = refl
+all_count (calls.Free d) (by.DriverCall r (called.Unlink unlinks.NotThere dev) ∷ []) h = refl
+all_count (calls.Free d) (by.DriverCall r (called.Unlink (unlinks.Unlinked last) dev) ∷ by.DriverCall s called.HardClear
+    ∷ by.DriverCall t (called.Freed freed) ∷ []) h = refl
+all_count calls.Disable (by.DriverCall r called.Disable ∷ by.DriverCall s called.HardClear ∷ by.DriverCall t called.Synced ∷ []) h = refl
+all_count calls.DisableNosync (by.DriverCall r called.Disable ∷ []) h = refl
+all_count calls.Enable (by.DriverCall r (called.Enable answer) ∷ []) h = refl
+all_count calls.Sync (by.DriverCall r called.HardClear ∷ by.DriverCall s called.Synced ∷ []) h = refl
+all_count (calls.Affinity mask) (by.Driver r (drivers.Affinity answer given) ∷ []) h = refl
+all_count (calls.Moment at) (by.Driver r (drivers.Moment given) ∷ []) h = refl
 all_count c es h = absurd h
 
 first_driver : DriverNo
@@ -51,15 +55,19 @@ first_driver = record { 0 = 0 }
 
 -- of no entries each call makes the rest
 nothing_made : (c : Call) → MakesSome c []
-nothing_made (calls.Ask d) = (entries.Ask first_driver d ∷ [], refl)
-nothing_made (calls.Request d flags) = (entries.Request first_driver d flags links.Linked opens.No ∷ [], (refl, refl))
-nothing_made (calls.Free d) = (entries.Unlink first_driver d unlinks.NotThere ∷ [], refl)
-nothing_made calls.Disable = (entries.Disable first_driver ∷ entries.HardClear first_driver ∷ entries.Synced first_driver ∷ [], tt)
-nothing_made calls.DisableNosync = (entries.Disable first_driver ∷ [], tt)
-nothing_made calls.Enable = (entries.Enable first_driver enables.Unbalanced ∷ [], tt)
-nothing_made calls.Sync = (entries.HardClear first_driver ∷ entries.Synced first_driver ∷ [], tt)
-nothing_made (calls.Affinity mask) = (entries.Affinity first_driver mask moves.Now ∷ [], refl)
-nothing_made (calls.Moment at) = (entries.Moment first_driver at ∷ [], refl)
+nothing_made (calls.Ask d) = (by.Driver first_driver (drivers.Ask true d) ∷ [], refl)
+nothing_made (calls.Request d flags) = (by.Driver first_driver (drivers.Request flags links.Linked opens.No d) ∷ [], (refl, refl))
+nothing_made (calls.Free d) = (by.DriverCall first_driver (called.Unlink unlinks.NotThere d) ∷ [], refl)
+nothing_made calls.Disable = (
+  by.DriverCall first_driver called.Disable ∷ by.DriverCall first_driver called.HardClear
+      ∷ by.DriverCall first_driver called.Synced ∷ [],
+  tt,
+)
+nothing_made calls.DisableNosync = (by.DriverCall first_driver called.Disable ∷ [], tt)
+nothing_made calls.Enable = (by.DriverCall first_driver (called.Enable enables.Unbalanced) ∷ [], tt)
+nothing_made calls.Sync = (by.DriverCall first_driver called.HardClear ∷ by.DriverCall first_driver called.Synced ∷ [], tt)
+nothing_made (calls.Affinity mask) = (by.Driver first_driver (drivers.Affinity moves.Now mask) ∷ [], refl)
+nothing_made (calls.Moment at) = (by.Driver first_driver (drivers.Moment at) ∷ [], refl)
 
 none_made : (cs : List Call) → AreMadeBy cs []
 none_made [] = refl
@@ -143,31 +151,32 @@ alone y ys lt = absurd (let below = ltb-true (length (y ∷ ys)) 1 lt in omega (
 first_of_all : {P : Type 0} (y : Entry) (ys : List Entry) → length (y ∷ ys) ≡ 0 → P
 first_of_all y ys l = absurd (omega (arith, l))
 
-goes_ask : (s : DriverNo) (x : DevNo) (n : ℕ) → GoesOn (calls.Ask x) n (entries.Ask s x)
-goes_ask s x n [] made l lt = ([], refl)
-goes_ask s x n (y ∷ ys) made l lt = alone y ys lt
+goes_ask : (makes : Bool) (s : DriverNo) (x : DevNo) (n : ℕ) → GoesOn (calls.Ask x) n (by.Driver s (drivers.Ask makes x))
+goes_ask makes s x n [] made l lt = ([], refl)
+goes_ask makes s x n (y ∷ ys) made l lt = alone y ys lt
 
 goes_request : (s : DriverNo) (x : DevNo) (flags : Flags) (answer : LinkAnswer) (opened : Opened) (n : ℕ)
-    → GoesOn (calls.Request x flags) n (entries.Request s x flags answer opened)
+    → GoesOn (calls.Request x flags) n (by.Driver s (drivers.Request flags answer opened x))
 goes_request s x flags answer opened n [] made l lt = ([], (refl, refl))
 goes_request s x flags answer opened n (y ∷ ys) made l lt = alone y ys lt
 
-goes_unlink : (s : DriverNo) (x : DevNo) (answer : UnlinkAnswer) → GoesOn (calls.Free x) 0 (entries.Unlink s x answer)
+goes_unlink : (s : DriverNo) (x : DevNo) (answer : UnlinkAnswer) → GoesOn (calls.Free x) 0 (by.DriverCall s (called.Unlink answer x))
 goes_unlink s x unlinks.NotThere [] made l lt = ([], refl)
-goes_unlink s x (unlinks.Unlinked last) [] made l lt = (entries.HardClear s ∷ entries.Freed s x ∷ [], (refl, refl))
+goes_unlink s x (unlinks.Unlinked last) [] made l lt = (by.DriverCall s called.HardClear ∷ by.DriverCall s (called.Freed x) ∷ [], (refl, refl))
 goes_unlink s x answer (y ∷ ys) made l lt = first_of_all y ys l
 
-goes_free_clear : (s : DriverNo) (x : DevNo) → GoesOn (calls.Free x) 1 (entries.HardClear s)
+goes_free_clear : (s : DriverNo) (x : DevNo) → GoesOn (calls.Free x) 1 (by.DriverCall s called.HardClear)
 goes_free_clear s x [] made l lt = absurd (omega (arith, l))
-goes_free_clear s x (entries.Unlink r d unlinks.NotThere ∷ []) made l lt = absurd (let below = ltb-true 1 1 lt in omega (arith, below))
-goes_free_clear s x (entries.Unlink r d (unlinks.Unlinked last) ∷ [])
-    (entries.HardClear a ∷ entries.Freed t freed ∷ [], all) l lt = (entries.Freed t freed ∷ [], all)
+goes_free_clear s x (by.DriverCall r (called.Unlink unlinks.NotThere d) ∷ []) made l lt = absurd (let below = ltb-true 1 1 lt in omega (arith, below))
+goes_free_clear s x (by.DriverCall r (called.Unlink (unlinks.Unlinked last) d) ∷ [])
+    (by.DriverCall a called.HardClear ∷ by.DriverCall t (called.Freed freed) ∷ [], all) l lt = (by.DriverCall t (called.Freed freed) ∷ [], all)
 goes_free_clear s x (y ∷ z ∷ ys) made l lt = absurd (omega (arith, l))
 goes_free_clear s x (y ∷ []) (more, all) l lt = absurd all
 
-goes_freed : (s : DriverNo) (x : DevNo) (n : ℕ) → (n == 0) ≡ false → (n == 1) ≡ false → GoesOn (calls.Free x) n (entries.Freed s x)
+goes_freed : (s : DriverNo) (x : DevNo) (n : ℕ) → (n == 0) ≡ false → (n == 1) ≡ false → GoesOn (calls.Free x) n (by.DriverCall s (called.Freed x))
 goes_freed s x n some more [] made l lt = absurd (eqb-false n 0 some (sym l))
-goes_freed s x n some more (entries.Unlink r d (unlinks.Unlinked last) ∷ entries.HardClear a ∷ []) (entries.Freed t freed ∷ [], all) l lt = ([], (all.0, refl))
+goes_freed s x n some more (by.DriverCall r (called.Unlink (unlinks.Unlinked last) d) ∷ by.DriverCall a called.HardClear
+    ∷ []) (by.DriverCall t (called.Freed freed) ∷ [], all) l lt = ([], (all.0, refl))
 goes_freed s x n some more (y ∷ []) made l lt = absurd (eqb-false n 1 more (sym l))
 goes_freed s x n some more (y ∷ z ∷ w ∷ ys) made l lt = absurd
     (let below = ltb-true (length (y ∷ z ∷ w ∷ ys)) (entries_of_call (calls.Free x) (y ∷ z ∷ w ∷ ys)) lt in
@@ -178,46 +187,49 @@ goes_freed s x n some more (y ∷ z ∷ w ∷ ys) made l lt = absurd
     at_most false = omega arith
 goes_freed s x n some more (y ∷ z ∷ []) (rest, all) l lt = absurd all
 
-goes_disable : (s : DriverNo) → GoesOn calls.Disable 0 (entries.Disable s)
-goes_disable s [] made l lt = (entries.HardClear s ∷ entries.Synced s ∷ [], tt)
+goes_disable : (s : DriverNo) → GoesOn calls.Disable 0 (by.DriverCall s called.Disable)
+goes_disable s [] made l lt = (by.DriverCall s called.HardClear ∷ by.DriverCall s called.Synced ∷ [], tt)
 goes_disable s (y ∷ ys) made l lt = first_of_all y ys l
 
-goes_nosync : (s : DriverNo) (n : ℕ) → GoesOn calls.DisableNosync n (entries.Disable s)
+goes_nosync : (s : DriverNo) (n : ℕ) → GoesOn calls.DisableNosync n (by.DriverCall s called.Disable)
 goes_nosync s n [] made l lt = ([], tt)
 goes_nosync s n (y ∷ ys) made l lt = alone y ys lt
 
-goes_disable_clear : (s : DriverNo) → GoesOn calls.Disable 1 (entries.HardClear s)
+goes_disable_clear : (s : DriverNo) → GoesOn calls.Disable 1 (by.DriverCall s called.HardClear)
 goes_disable_clear s [] made l lt = absurd (omega (arith, l))
-goes_disable_clear s (entries.Disable r ∷ []) (entries.HardClear a ∷ entries.Synced t ∷ [], all) l lt = (entries.Synced t ∷ [], tt)
+goes_disable_clear s (by.DriverCall r called.Disable ∷ [])
+    (by.DriverCall a called.HardClear ∷ by.DriverCall t called.Synced ∷ [], all) l lt
+    = (by.DriverCall t called.Synced ∷ [], tt)
 goes_disable_clear s (y ∷ z ∷ ys) made l lt = absurd (omega (arith, l))
 goes_disable_clear s (y ∷ []) (more, all) l lt = absurd all
 
-goes_sync_clear : (s : DriverNo) → GoesOn calls.Sync 0 (entries.HardClear s)
-goes_sync_clear s [] made l lt = (entries.Synced s ∷ [], tt)
+goes_sync_clear : (s : DriverNo) → GoesOn calls.Sync 0 (by.DriverCall s called.HardClear)
+goes_sync_clear s [] made l lt = (by.DriverCall s called.Synced ∷ [], tt)
 goes_sync_clear s (y ∷ ys) made l lt = first_of_all y ys l
 
-goes_disable_synced : (s : DriverNo) (n : ℕ) → (n == 0) ≡ false → (n == 1) ≡ false → GoesOn calls.Disable n (entries.Synced s)
+goes_disable_synced : (s : DriverNo) (n : ℕ) → (n == 0) ≡ false → (n == 1) ≡ false → GoesOn calls.Disable n (by.DriverCall s called.Synced)
 goes_disable_synced s n some more [] made l lt = absurd (eqb-false n 0 some (sym l))
-goes_disable_synced s n some more (entries.Disable r ∷ entries.HardClear a ∷ []) (entries.Synced t ∷ [], all) l lt = ([], tt)
+goes_disable_synced s n some more (by.DriverCall r called.Disable ∷ by.DriverCall a called.HardClear ∷ [])
+    (by.DriverCall t called.Synced ∷ [], all) l lt = ([], tt)
 goes_disable_synced s n some more (y ∷ []) made l lt = absurd (eqb-false n 1 more (sym l))
 goes_disable_synced s n some more (y ∷ z ∷ w ∷ ys) made l lt = absurd (let below = ltb-true (length (y ∷ z ∷ w ∷ ys)) 3 lt in omega (arith, below))
 goes_disable_synced s n some more (y ∷ z ∷ []) (rest, all) l lt = absurd all
 
-goes_synced : (s : DriverNo) (n : ℕ) → (n == 0) ≡ false → GoesOn calls.Sync n (entries.Synced s)
+goes_synced : (s : DriverNo) (n : ℕ) → (n == 0) ≡ false → GoesOn calls.Sync n (by.DriverCall s called.Synced)
 goes_synced s n some [] made l lt = absurd (eqb-false n 0 some (sym l))
-goes_synced s n some (entries.HardClear a ∷ []) (entries.Synced t ∷ [], all) l lt = ([], tt)
+goes_synced s n some (by.DriverCall a called.HardClear ∷ []) (by.DriverCall t called.Synced ∷ [], all) l lt = ([], tt)
 goes_synced s n some (y ∷ z ∷ ys) made l lt = absurd (let below = ltb-true (length (y ∷ z ∷ ys)) 2 lt in omega (arith, below))
 goes_synced s n some (y ∷ []) (more, all) l lt = absurd all
 
-goes_enable : (s : DriverNo) (answer : EnableAnswer) (n : ℕ) → GoesOn calls.Enable n (entries.Enable s answer)
+goes_enable : (s : DriverNo) (answer : EnableAnswer) (n : ℕ) → GoesOn calls.Enable n (by.DriverCall s (called.Enable answer))
 goes_enable s answer n [] made l lt = ([], tt)
 goes_enable s answer n (y ∷ ys) made l lt = alone y ys lt
 
-goes_affinity : (s : DriverNo) (mask : ℕ) (answer : AffinityAnswer) (n : ℕ) → GoesOn (calls.Affinity mask) n (entries.Affinity s mask answer)
+goes_affinity : (s : DriverNo) (mask : ℕ) (answer : AffinityAnswer) (n : ℕ) → GoesOn (calls.Affinity mask) n (by.Driver s (drivers.Affinity answer mask))
 goes_affinity s mask answer n [] made l lt = ([], refl)
 goes_affinity s mask answer n (y ∷ ys) made l lt = alone y ys lt
 
-goes_moment : (s : DriverNo) (at n : ℕ) → GoesOn (calls.Moment at) n (entries.Moment s at)
+goes_moment : (s : DriverNo) (at n : ℕ) → GoesOn (calls.Moment at) n (by.Driver s (drivers.Moment at))
 goes_moment s at n [] made l lt = ([], refl)
 goes_moment s at n (y ∷ ys) made l lt = alone y ys lt
 
@@ -239,49 +251,53 @@ follows def s e past c n by due goes f r = by_driver (same_driver r s) refl
         (f r)
 
 follows_more : (def : LineDef) (e : Entry) (past : List Entry) → IsDue def e past → FollowsScriptsPast def past → FollowsScriptsPast def (e ∷ past)
-follows_more def (entries.Ask s x) past due f = let u = ask_due def s x past due in
-    follows def s (entries.Ask s x) past (calls.Ask x) u.count (λ r. refl) u.call (goes_ask s x u.count) f
-follows_more def (entries.Disable s) past due f = by_call (disable_due def s past due).call
+follows_more def (by.Driver s (drivers.Ask makes x)) past due f = let u = ask_due _ def s x past due in
+    follows def s (by.Driver s (drivers.Ask makes x)) past (calls.Ask x) u.count (λ r. refl) u.call (goes_ask _ s x u.count) f
+follows_more def (by.DriverCall s called.Disable) past due f = by_call (disable_due def s past due).call
   where
     by_call : (due_call def s past ≡ Some (calls.Disable, 0))
         ⊎ ((n : ℕ) × (due_call def s past ≡ Some (calls.DisableNosync, n)))
-        → FollowsScriptsPast def (entries.Disable s ∷ past)
-    by_call (inl u) = follows def s (entries.Disable s) past calls.Disable 0 (λ r. refl) u (goes_disable s) f
-    by_call (inr u) = follows def s (entries.Disable s) past calls.DisableNosync u.0 (λ r. refl) u.1 (goes_nosync s u.0) f
-follows_more def (entries.HardClear s) past due f = by_call (hard_clear_due def s past due).call
+        → FollowsScriptsPast def (by.DriverCall s called.Disable ∷ past)
+    by_call (inl u) = follows def s (by.DriverCall s called.Disable) past calls.Disable 0 (λ r. refl) u (goes_disable s) f
+    by_call (inr u) = follows def s (by.DriverCall s called.Disable) past calls.DisableNosync u.0 (λ r. refl) u.1 (goes_nosync s u.0) f
+follows_more def (by.DriverCall s called.HardClear) past due f = by_call (hard_clear_due def s past due).call
   where
     by_call : ((x : DevNo) × (due_call def s past ≡ Some (calls.Free x, 1)))
         ⊎ ((due_call def s past ≡ Some (calls.Disable, 1)) ⊎ (due_call def s past ≡ Some (calls.Sync, 0)))
-        → FollowsScriptsPast def (entries.HardClear s ∷ past)
-    by_call (inl u) = follows def s (entries.HardClear s) past (calls.Free u.0) 1 (λ r. refl) u.1 (goes_free_clear s u.0) f
-    by_call (inr (inl u)) = follows def s (entries.HardClear s) past calls.Disable 1 (λ r. refl) u (goes_disable_clear s) f
-    by_call (inr (inr u)) = follows def s (entries.HardClear s) past calls.Sync 0 (λ r. refl) u (goes_sync_clear s) f
-follows_more def (entries.Synced s) past due f = by_call (synced_due def s past due).count (synced_due def s past due).call
+        → FollowsScriptsPast def (by.DriverCall s called.HardClear ∷ past)
+    by_call (inl u) = follows def s (by.DriverCall s called.HardClear) past (calls.Free u.0) 1 (λ r. refl) u.1 (goes_free_clear s u.0) f
+    by_call (inr (inl u)) = follows def s (by.DriverCall s called.HardClear) past calls.Disable 1 (λ r. refl) u (goes_disable_clear s) f
+    by_call (inr (inr u)) = follows def s (by.DriverCall s called.HardClear) past calls.Sync 0 (λ r. refl) u (goes_sync_clear s) f
+follows_more def (by.DriverCall s called.Synced) past due f = by_call (synced_due def s past due).count (synced_due def s past due).call
   where
     by_call : (n : ℕ) → ((due_call def s past ≡ Some (calls.Disable, n)) × ((n == 0) ≡ false) × ((n == 1) ≡ false))
         ⊎ ((due_call def s past ≡ Some (calls.Sync, n)) × ((n == 0) ≡ false))
-        → FollowsScriptsPast def (entries.Synced s ∷ past)
-    by_call n (inl u) = follows def s (entries.Synced s) past calls.Disable n (λ r. refl) u.0 (goes_disable_synced s n u.1 u.2) f
-    by_call n (inr u) = follows def s (entries.Synced s) past calls.Sync n (λ r. refl) u.0 (goes_synced s n u.1) f
-follows_more def (entries.Enable s answer) past due f = let u = enable_due def s answer past due in
-    follows def s (entries.Enable s answer) past calls.Enable u.count (λ r. refl) u.call (goes_enable s answer u.count)
+        → FollowsScriptsPast def (by.DriverCall s called.Synced ∷ past)
+    by_call n (inl u) = follows def s (by.DriverCall s called.Synced) past calls.Disable n (λ r. refl) u.0 (goes_disable_synced s n u.1 u.2) f
+    by_call n (inr u) = follows def s (by.DriverCall s called.Synced) past calls.Sync n (λ r. refl) u.0 (goes_synced s n u.1) f
+follows_more def (by.DriverCall s (called.Enable answer)) past due f = let u = enable_due def s answer past due in
+    follows def s (by.DriverCall s (called.Enable answer)) past calls.Enable u.count (λ r. refl) u.call (goes_enable s answer u.count)
     f
-follows_more def (entries.Request s x flags answer opened) past due f =
+follows_more def (by.Driver s (drivers.Request flags answer opened x)) past due f =
     let u = request_due def s x flags answer opened past due in
-    follows def s (entries.Request s x flags answer opened) past (calls.Request x flags) u.count (λ r. refl) u.call
+    follows def s (by.Driver s (drivers.Request flags answer opened x)) past (calls.Request x flags) u.count (λ r. refl) u.call
     (goes_request s x flags answer opened u.count) f
-follows_more def (entries.Unlink s x answer) past due f
-    = follows def s (entries.Unlink s x answer) past (calls.Free x) 0 (λ r. refl)
+follows_more def (by.DriverCall s (called.Unlink answer x)) past due f
+    = follows def s (by.DriverCall s (called.Unlink answer x)) past (calls.Free x) 0 (λ r. refl)
     (unlink_due def s x answer past due).call (goes_unlink s x answer) f
-follows_more def (entries.Freed s x) past due f =
-    let u = freed_due def s x past due in follows def s (entries.Freed s x) past (calls.Free x) u.count (λ r. refl)
+follows_more def (by.DriverCall s (called.Freed x)) past due f =
+    let u = freed_due def s x past due in follows def s (by.DriverCall s (called.Freed x)) past (calls.Free x) u.count (λ r. refl)
     u.call (goes_freed s x u.count u.not_first u.not_second) f
-follows_more def (entries.Affinity s mask answer) past due f =
+follows_more def (by.Driver s (drivers.Affinity answer mask)) past due f =
     let u = affinity_due def s mask answer past due in
-    follows def s (entries.Affinity s mask answer) past (calls.Affinity mask) u.count (λ r. refl) u.call
+    follows def s (by.Driver s (drivers.Affinity answer mask)) past (calls.Affinity mask) u.count (λ r. refl) u.call
     (goes_affinity s mask answer u.count) f
-follows_more def (entries.Moment s at) past due f = let u = moment_due def s at past due in
-    follows def s (entries.Moment s at) past (calls.Moment at) u.count (λ r. refl) u.call (goes_moment s at u.count) f
+follows_more def (by.Driver s (drivers.Moment at)) past due f = let u = moment_due def s at past due in
+    follows def s (by.Driver s (drivers.Moment at)) past (calls.Moment at) u.count (λ r. refl) u.call (goes_moment s at u.count) f
+follows_more def (by.DriverCall s (called.Wake woken x)) past due f = no_new_call def s (called.Wake woken x) past refl due
+follows_more def (by.DriverCall s (called.Quiet x)) past due f = no_new_call def s (called.Quiet x) past refl due
+follows_more def (by.DriverCall s (called.Arm makes x)) past due f = no_new_call def s (called.Arm makes x) past refl due
+follows_more def (by.DriverCall s (called.Serve x served)) past due f = no_new_call def s (called.Serve x served) past refl due
 follows_more def e past due f = f
 
 pub follows_past : (def : LineDef) (past : List Entry) → IsLegalPast def past → FollowsScriptsPast def past

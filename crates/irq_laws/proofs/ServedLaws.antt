@@ -7,7 +7,9 @@ use Rattle.irq_base.specs.declared.numbers.CpuNo.{CpuNo}
 use Rattle.irq_base.specs.declared.numbers.DevNo.{DevNo}
 use Rattle.irq_base.specs.declared.lines.LineDef.{LineDef}
 use Rattle.irq_base.specs.declared.entries.Entry.{Entry}
-use Rattle.irq_base.specs.declared.entries.Entry.TheVariants as entries
+use Rattle.irq_base.specs.declared.entries.Entry.TheVariants as by
+use Rattle.irq_base.specs.declared.entries.CpuEntry.TheVariants as cpus
+use Rattle.irq_base.specs.declared.entries.DriverEntry.TheVariants as drivers
 use Rattle.irq_base.specs.declared.entries.AffinityAnswer.{AffinityAnswer}
 use Rattle.irq_base.specs.declared.entries.AffinityAnswer.TheVariants as moves
 use Rattle.irq_base.specs.declared.entries.Errno.TheVariants as errors
@@ -45,13 +47,13 @@ use Rattle.irq_laws.proofs.ImpliesDriver.{affinity_due}
 
 -- the newest entry changes the mask
 abbrev is_change : List Entry → Bool
-is_change (entries.Affinity driver mask moves.Now ∷ past) = true
-is_change (entries.Affinity driver mask moves.Later ∷ past) = true
+is_change (by.Driver driver (drivers.Affinity moves.Now mask) ∷ past) = true
+is_change (by.Driver driver (drivers.Affinity moves.Later mask) ∷ past) = true
 is_change _ = false
 
 puts_change : (a u : List Entry) → puts_in_force a u ≡ true → is_change u ≡ true
-puts_change a (entries.Affinity driver mask moves.Now ∷ past) h = refl
-puts_change a (entries.Affinity driver mask moves.Later ∷ past) h = refl
+puts_change a (by.Driver driver (drivers.Affinity moves.Now mask) ∷ past) h = refl
+puts_change a (by.Driver driver (drivers.Affinity moves.Later mask) ∷ past) h = refl
 puts_change a u h = cc
 
 not_refused : (b l : Bool) (answer : AffinityAnswer) → answer
@@ -62,10 +64,10 @@ not_refused false l answer is differs = absurd (differs is)
 
 changed_mask : (def : LineDef) (e : Entry) (past : List Entry) → IsDue def e past → is_change (e ∷ past) ≡ true
     → is_some (lowest_in def.cpus (mask_of def.mask (e ∷ past))) ≡ true
-changed_mask def (entries.Affinity s mask moves.Now) past due h
+changed_mask def (by.Driver s (drivers.Affinity moves.Now mask)) past due h
     = not_refused (is_some (lowest_in def.cpus mask)) def.later moves.Now
     (affinity_due def s mask moves.Now past due).answer_is (λ is. cc)
-changed_mask def (entries.Affinity s mask moves.Later) past due h
+changed_mask def (by.Driver s (drivers.Affinity moves.Later mask)) past due h
     = not_refused (is_some (lowest_in def.cpus mask)) def.later moves.Later
     (affinity_due def s mask moves.Later past due).answer_is (λ is. cc)
 changed_mask def e past due h = cc
@@ -126,7 +128,7 @@ by_resend false true false false x l r a b c d = cc
 
 handled : (def : LineDef) (past : List Entry) (c : CpuNo) → target def past ≡ Some c → has_flow def past ≡ false
     → (is_disabled past || is_none_linked past) ≡ false → (signals def past || is_soft past) ≡ true
-    → (way : Way) × (next_of_cpu def c past ≡ Some (entries.Take c way takes.Handle))
+    → (way : Way) × (next_of_cpu def c past ≡ Some (by.Cpu c (cpus.Take way takes.Handle)))
 handled def past c of_target idle on waits = by_signal (signals def past) refl
   where
     outside : is_cpu c (flow def past) ≡ false
@@ -141,19 +143,19 @@ handled def past c of_target idle on waits = by_signal (signals def past) refl
     soft_when : (a b : Bool) → (a || b) ≡ true → a ≡ false → b ≡ true
     soft_when a b h i = grind arith
 
-    by_signal : (b : Bool) → signals def past ≡ b → (way : Way) × (next_of_cpu def c past ≡ Some (entries.Take c way takes.Handle))
+    by_signal : (b : Bool) → signals def past ≡ b → (way : Way) × (next_of_cpu def c past ≡ Some (by.Cpu c (cpus.Take way takes.Handle)))
     by_signal true is = (
       ways.Line,
       by_take (is_cpu c (flow def past)) (is_cpu c (target def past)) (signals def past) (is_soft past) _
-          (entries.Take c ways.Line (take_answer def past)) _ outside aimed is
-          ∙ ap (λ (a : TakeAnswer). Some (entries.Take c ways.Line a)) answer,
+          (by.Cpu c (cpus.Take ways.Line (take_answer def past))) _ outside aimed is
+          ∙ ap (λ (a : TakeAnswer). Some (by.Cpu c (cpus.Take ways.Line a))) answer,
     )
     by_signal false is = (
       ways.Resend,
       by_resend (is_cpu c (flow def past)) (is_cpu c (target def past)) (signals def past)
-          (is_soft past) _ _ (entries.Take c ways.Resend (take_answer def past)) outside aimed is
+          (is_soft past) _ _ (by.Cpu c (cpus.Take ways.Resend (take_answer def past))) outside aimed is
           (soft_when (signals def past) (is_soft past) waits is)
-          ∙ ap (λ (a : TakeAnswer). Some (entries.Take c ways.Resend a)) answer,
+          ∙ ap (λ (a : TakeAnswer). Some (by.Cpu c (cpus.Take ways.Resend a))) answer,
     )
 
 handled_next : (def : LineDef) (h : List Entry) → IsValid def → IsLegal def h → depth (reverse h) ≡ 0

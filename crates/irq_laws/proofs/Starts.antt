@@ -3,7 +3,9 @@ use Rattle.std.proofs.Common.{◌≡◌, ◌⊎◌, inl, inr, Bool, true, false,
 use Rattle.irq_base.specs.declared.lines.LineDef.{LineDef}
 use Rattle.irq_base.specs.declared.calls.Flags.{Flags}
 use Rattle.irq_base.specs.declared.entries.Entry.{Entry}
-use Rattle.irq_base.specs.declared.entries.Entry.TheVariants as entries
+use Rattle.irq_base.specs.declared.entries.Entry.TheVariants as by
+use Rattle.irq_base.specs.declared.entries.DriverEntry.TheVariants as drivers
+use Rattle.irq_base.specs.declared.entries.CallEntry.TheVariants as called
 use Rattle.irq_base.specs.declared.entries.Resend.{Resend}
 use Rattle.irq_base.specs.declared.entries.Resend.TheVariants as resends
 use Rattle.irq_base.specs.declared.entries.EnableAnswer.TheVariants as enables
@@ -19,6 +21,7 @@ use Rattle.irq_model.specs.Next.{resend_of, enable_answer}
 use Rattle.irq_model.specs.Legal.{IsDue, IsLegalPast}
 use Rattle.irq_laws.proofs.Lists.{stands_cases}
 use Rattle.irq_laws.proofs.ImpliesDriver.{enable_due, request_due, opened_with}
+use Rattle.irq_laws.proofs.OwnLaws.{no_cpu_call, no_thread_call}
 
 -- ---- a start resends what the line says
 
@@ -46,10 +49,12 @@ request_resends def flags past (links.Refused error) r h = cc
 
 pub resends_what_is_pending : (def : LineDef) (e : Entry) (past : List Entry) (r : Resend) → IsDue def e past
     → opened_of e ≡ opens.Started r → r ≡ resend_of def past
-resends_what_is_pending def (entries.Enable s answer) past r due h =
+resends_what_is_pending def (by.DriverCall s (called.Enable answer)) past r due h =
     enable_resends def past r (ap opened_by_enable (sym (enable_due def s answer past due).answer_is) ∙ h)
-resends_what_is_pending def (entries.Request s x flags answer opened) past r due h =
+resends_what_is_pending def (by.Driver s (drivers.Request flags answer opened x)) past r due h =
     let u = request_due def s x flags answer opened past due in request_resends def flags past _ r (sym u.opened_is ∙ h)
+resends_what_is_pending def (by.CpuCall c call) past r due h = no_cpu_call def c call past due
+resends_what_is_pending def (by.ThreadCall x call) past r due h = no_thread_call def x call past due
 resends_what_is_pending def e past r due h = cc
 
 -- ---- which resend that is

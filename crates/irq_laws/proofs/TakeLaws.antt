@@ -2,10 +2,11 @@
 use Rattle.std.proofs.Common.{◌≡◌, ℕ, ◌+◌, ◌≤◌, Bool, true, false, not, ◌||◌, ◌&&◌, cond, List, [], ◌∷◌, reverse, refl, ap, ap₂, ◌∙◌, arith}
 use Rattle.irq_base.specs.declared.lines.LineDef.{LineDef}
 use Rattle.irq_base.specs.declared.entries.Entry.{Entry}
-use Rattle.irq_base.specs.declared.entries.Entry.TheVariants as entries
+use Rattle.irq_base.specs.declared.entries.Entry.TheVariants as by
+use Rattle.irq_base.specs.declared.entries.CpuEntry.TheVariants as cpus
 use Rattle.irq_base.specs.declared.entries.Way.TheVariants as ways
 use Rattle.irq_model.specs.Places.{count_of}
-use Rattle.irq_model.specs.Kinds.{is_take, is_line_take, is_resend_take, is_any_ask, is_chip_start, is_soft_start, is_again}
+use Rattle.irq_model.specs.Kinds.{is_take, is_line_take, is_resend_take, is_device_edge, is_chip_start, is_soft_start, is_again}
 use Rattle.irq_model.specs.Lines.{is_edge_line, is_eoi_flow, serves}
 use Rattle.irq_model.specs.Masks.{is_masked}
 use Rattle.irq_model.specs.Asks.{is_high}
@@ -48,7 +49,7 @@ abbrev pub MarksCounted : LineDef → Entry → List Entry → Type 0
 MarksCounted def e past =
     one_if (is_line_take e) + (one_if (is_sent def (e ∷ past)) + one_if (is_stored def (e ∷ past)))
     ≤ (one_if (is_sent def past) + one_if (is_stored def past)) +
-    ((one_if (is_any_ask e) + one_if (is_chip_start e)) + one_if (is_eoi_flow def.flow && is_again e))
+    ((one_if (is_device_edge e) + one_if (is_chip_start e)) + one_if (is_eoi_flow def.flow && is_again e))
 
 untaken : (def : LineDef) (e : Entry) (past : List Entry) → is_take e ≡ false → is_line_take e ≡ false → MarksCounted def e past
 untaken def e past no_take no_line =
@@ -64,7 +65,7 @@ untaken def e past no_take no_line =
     let s_num = ap one_if s in
     let w_num = ap one_if w in
     let t_num : one_if (is_line_take e) ≡ 0 = ap one_if no_line in
-    let e_num = one_of_three (is_edge_line def) (is_any_ask e) (is_chip_start e) (is_eoi_flow def.flow && is_again e) in
+    let e_num = one_of_three (is_edge_line def) (is_device_edge e) (is_chip_start e) (is_eoi_flow def.flow && is_again e) in
     plain _ _ _ _ _ _ _ _ _ _ _ t_num s_num w_num m e_num
   where
     plain : (t s w s' w' a c f x y g : ℕ) → t ≡ 0 → s' ≡ x → w' ≡ y → x + y ≤ s + w + g → g ≤ a + c + f → t + (s' + w') ≤ (s + w) + ((a + c) + f)
@@ -101,15 +102,15 @@ taken def e past takes none =
     plain s' w' x y w h i j = omega (arith, h, i, j)
 
 marks_more : (def : LineDef) (e : Entry) (past : List Entry) → IsDue def e past → is_edge_line def ≡ true → MarksCounted def e past
-marks_more def (entries.Take c ways.Line answer) past due edge =
-    let m = taken def (entries.Take c ways.Line answer) past refl (no_edge (is_edge_line def) (is_eoi_flow def.flow)) in
+marks_more def (by.Cpu c (cpus.Take ways.Line answer)) past due edge =
+    let m = taken def (by.Cpu c (cpus.Take ways.Line answer)) past refl (no_edge (is_edge_line def) (is_eoi_flow def.flow)) in
     let s : one_if (is_sent def past) ≡ 1 = ap one_if (taken_by_line def past edge ((take_due def c ways.Line answer past due).by_line refl)) in
     plain _ _ _ _ _ m s
   where
     plain : (s w s' w' f : ℕ) → s' + w' ≤ w → s ≡ 1 → 1 + (s' + w') ≤ (s + w) + ((0 + 0) + f)
     plain s w s' w' f h i = omega (arith, h, i)
-marks_more def (entries.Take c ways.Resend answer) past due edge
-    = plain _ _ _ _ _ (taken def (entries.Take c ways.Resend answer) past refl
+marks_more def (by.Cpu c (cpus.Take ways.Resend answer)) past due edge
+    = plain _ _ _ _ _ (taken def (by.Cpu c (cpus.Take ways.Resend answer)) past refl
     (no_edge (is_edge_line def) (is_eoi_flow def.flow)))
   where
     plain : (s w s' w' f : ℕ) → s' + w' ≤ w → 0 + (s' + w') ≤ (s + w) + ((0 + 0) + f)
@@ -120,11 +121,11 @@ marks_more def e past due edge = untaken def e past refl refl
 
 line_past : (def : LineDef) (past : List Entry) → IsLegalPast def past → is_edge_line def ≡ true
     → count_of is_line_take past + (one_if (is_sent def past) + one_if (is_stored def past)) ≤
-    (count_of is_any_ask past + count_of is_chip_start past) + count_of (λ e. is_eoi_flow def.flow && is_again e)
+    (count_of is_device_edge past + count_of is_chip_start past) + count_of (λ e. is_eoi_flow def.flow && is_again e)
     past
 line_past def [] legal edge = omega arith
 line_past def (e ∷ past) legal edge =
-    summed _ _ _ _ _ _ _ _ _ _ _ _ _ _ (count_more is_line_take e past) (count_more is_any_ask e past)
+    summed _ _ _ _ _ _ _ _ _ _ _ _ _ _ (count_more is_line_take e past) (count_more is_device_edge e past)
     (count_more is_chip_start e past) (count_more (λ e. is_eoi_flow def.flow && is_again e) e past)
     (line_past def past legal.1 edge) (marks_more def e past legal.0 edge)
   where
@@ -136,8 +137,8 @@ soft_marks : (k r s : Bool) → (r ≡ true → s ≡ true) → one_if r + one_i
 soft_marks k r s h = grind arith
 
 resend_needs : (def : LineDef) (e : Entry) (past : List Entry) → IsDue def e past → is_resend_take e ≡ true → is_soft past ≡ true
-resend_needs def (entries.Take c ways.Resend answer) past due h = ((take_due def c ways.Resend answer past due).by_resend refl).1
-resend_needs def (entries.Take c ways.Line answer) past due h = cc
+resend_needs def (by.Cpu c (cpus.Take ways.Resend answer)) past due h = ((take_due def c ways.Resend answer past due).by_resend refl).1
+resend_needs def (by.Cpu c (cpus.Take ways.Line answer)) past due h = cc
 resend_needs def e past due h = cc
 
 resend_past : (def : LineDef) (past : List Entry) → IsLegalPast def past → count_of is_resend_take past + one_if (is_soft past) ≤ count_of is_soft_start past

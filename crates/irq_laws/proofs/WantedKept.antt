@@ -9,7 +9,9 @@ use Rattle.irq_base.specs.declared.calls.Call.TheVariants as calls
 use Rattle.irq_base.specs.declared.calls.Flags.{Flags}
 use Rattle.irq_base.specs.declared.lines.LineDef.{LineDef}
 use Rattle.irq_base.specs.declared.entries.Entry.{Entry}
-use Rattle.irq_base.specs.declared.entries.Entry.TheVariants as entries
+use Rattle.irq_base.specs.declared.entries.Entry.TheVariants as by
+use Rattle.irq_base.specs.declared.entries.DriverEntry.TheVariants as drivers
+use Rattle.irq_base.specs.declared.entries.CallEntry.TheVariants as called
 use Rattle.irq_base.specs.declared.entries.LinkAnswer.TheVariants as links
 use Rattle.irq_base.specs.declared.entries.UnlinkAnswer.TheVariants as unlinks
 use Rattle.irq_model.specs.Places.{stands}
@@ -25,6 +27,7 @@ use Rattle.irq_laws.proofs.Progress.{entries_more}
 use Rattle.irq_laws.proofs.Scripted.{Completes, completes, unrequested, place_of}
 use Rattle.irq_laws.proofs.FreesKept.{freed_is}
 use Rattle.irq_laws.proofs.ImpliesDriver.{ask_due, request_due, unlink_due, disable_due, hard_clear_due, synced_due, enable_due, affinity_due, moment_due}
+use Rattle.irq_laws.proofs.OwnLaws.{no_cpu_call, no_thread_call, no_new_call}
 
 -- ---- the complete calls after one more entry
 
@@ -115,71 +118,78 @@ absent_when false v h = refl
 
 wanted_more : (def : LineDef) (e : Entry) (past : List Entry) → IsDue def e past → KeepsFrees def past
     → LinkedIsWanted def past → (d : DevNo) → is_linked (e ∷ past) d ≡ true → Wanted def (e ∷ past) d
-wanted_more def (entries.Ask s x) past due k w d h = let u = ask_due def s x past due in
-    keeps_wanted def s (entries.Ask s x) past (calls.Ask x) u.count d (λ r. refl) u.call refl (w d h)
-wanted_more def (entries.Disable s) past due k w d h = by_call (disable_due def s past due).call
+wanted_more def (by.Driver s (drivers.Ask makes x)) past due k w d h = let u = ask_due _ def s x past due in
+    keeps_wanted def s (by.Driver s (drivers.Ask makes x)) past (calls.Ask x) u.count d (λ r. refl) u.call refl (w d h)
+wanted_more def (by.DriverCall s called.Disable) past due k w d h = by_call (disable_due def s past due).call
   where
     by_call : (due_call def s past ≡ Some (calls.Disable, 0))
-        ⊎ ((n : ℕ) × (due_call def s past ≡ Some (calls.DisableNosync, n))) → Wanted def (entries.Disable s ∷ past) d
-    by_call (inl u) = keeps_wanted def s (entries.Disable s) past calls.Disable 0 d (λ r. refl) u refl (w d h)
-    by_call (inr u) = keeps_wanted def s (entries.Disable s) past calls.DisableNosync u.0 d (λ r. refl) u.1 refl (w d h)
-wanted_more def (entries.HardClear s) past due k w d h = by_call (hard_clear_due def s past due).call
+        ⊎ ((n : ℕ) × (due_call def s past ≡ Some (calls.DisableNosync, n))) → Wanted def (by.DriverCall s called.Disable ∷ past) d
+    by_call (inl u) = keeps_wanted def s (by.DriverCall s called.Disable) past calls.Disable 0 d (λ r. refl) u refl (w d h)
+    by_call (inr u) = keeps_wanted def s (by.DriverCall s called.Disable) past calls.DisableNosync u.0 d (λ r. refl) u.1 refl (w d h)
+wanted_more def (by.DriverCall s called.HardClear) past due k w d h = by_call (hard_clear_due def s past due).call
   where
     by_call : ((x : DevNo) × (due_call def s past ≡ Some (calls.Free x, 1)))
         ⊎ ((due_call def s past ≡ Some (calls.Disable, 1)) ⊎ (due_call def s past ≡ Some (calls.Sync, 0)))
-        → Wanted def (entries.HardClear s ∷ past) d
-    by_call (inl u) = keeps_wanted def s (entries.HardClear s) past (calls.Free u.0) 1 d (λ r. refl) u.1
+        → Wanted def (by.DriverCall s called.HardClear ∷ past) d
+    by_call (inl u) = keeps_wanted def s (by.DriverCall s called.HardClear) past (calls.Free u.0) 1 d (λ r. refl) u.1
         (not_that def past k s u.0 d (k.within s u.0 0 u.1) h) (w d h)
-    by_call (inr (inl u)) = keeps_wanted def s (entries.HardClear s) past calls.Disable 1 d (λ r. refl) u refl (w d h)
-    by_call (inr (inr u)) = keeps_wanted def s (entries.HardClear s) past calls.Sync 0 d (λ r. refl) u refl (w d h)
-wanted_more def (entries.Synced s) past due k w d h = by_call (synced_due def s past due).count (synced_due def s past due).call
+    by_call (inr (inl u)) = keeps_wanted def s (by.DriverCall s called.HardClear) past calls.Disable 1 d (λ r. refl) u refl (w d h)
+    by_call (inr (inr u)) = keeps_wanted def s (by.DriverCall s called.HardClear) past calls.Sync 0 d (λ r. refl) u refl (w d h)
+wanted_more def (by.DriverCall s called.Synced) past due k w d h = by_call (synced_due def s past due).count (synced_due def s past due).call
   where
     by_call : (n : ℕ) → ((due_call def s past ≡ Some (calls.Disable, n)) × ((n == 0) ≡ false) × ((n == 1) ≡ false))
-        ⊎ ((due_call def s past ≡ Some (calls.Sync, n)) × ((n == 0) ≡ false)) → Wanted def (entries.Synced s ∷ past) d
-    by_call n (inl u) = keeps_wanted def s (entries.Synced s) past calls.Disable n d (λ r. refl) u.0 refl (w d h)
-    by_call n (inr u) = keeps_wanted def s (entries.Synced s) past calls.Sync n d (λ r. refl) u.0 refl (w d h)
-wanted_more def (entries.Enable s answer) past due k w d h = let u = enable_due def s answer past due in
-    keeps_wanted def s (entries.Enable s answer) past calls.Enable u.count d (λ r. refl) u.call refl (w d h)
-wanted_more def (entries.Request s x flags links.Linked opened) past due k w d h = by_case (or_cases (same_dev d x && true) (is_linked past d) h)
+        ⊎ ((due_call def s past ≡ Some (calls.Sync, n)) × ((n == 0) ≡ false)) → Wanted def (by.DriverCall s called.Synced ∷ past) d
+    by_call n (inl u) = keeps_wanted def s (by.DriverCall s called.Synced) past calls.Disable n d (λ r. refl) u.0 refl (w d h)
+    by_call n (inr u) = keeps_wanted def s (by.DriverCall s called.Synced) past calls.Sync n d (λ r. refl) u.0 refl (w d h)
+wanted_more def (by.DriverCall s (called.Enable answer)) past due k w d h = let u = enable_due def s answer past due in
+    keeps_wanted def s (by.DriverCall s (called.Enable answer)) past calls.Enable u.count d (λ r. refl) u.call refl (w d h)
+wanted_more def (by.Driver s (drivers.Request flags links.Linked opened x)) past due k w d h = by_case (or_cases (same_dev d x && true) (is_linked past d) h)
   where
-    by_case : ((same_dev d x && true) ≡ true) ⊎ (is_linked past d ≡ true) → Wanted def (entries.Request s x flags links.Linked opened ∷ past) d
+    by_case : ((same_dev d x && true) ≡ true) ⊎ (is_linked past d ≡ true) → Wanted def (by.Driver s (drivers.Request flags links.Linked opened x) ∷ past) d
     by_case (inl now) =
         let u = request_due def s x flags links.Linked opened past due in
-        now_wanted def s x flags (entries.Request s x flags links.Linked opened) past u.count d (same_self_driver s)
+        now_wanted def s x flags (by.Driver s (drivers.Request flags links.Linked opened x)) past u.count d (same_self_driver s)
         u.call (and_parts (same_dev d x) true now).0
     by_case (inr was) =
         let u = request_due def s x flags links.Linked opened past due in
-        keeps_wanted def s (entries.Request s x flags links.Linked opened) past (calls.Request x flags) u.count d (λ r. refl) u.call refl (w d was)
-wanted_more def (entries.Request s x flags (links.Refused error) opened) past due k w d h =
+        keeps_wanted def s (by.Driver s (drivers.Request flags links.Linked opened x)) past (calls.Request x flags) u.count d (λ r. refl) u.call refl (w d was)
+wanted_more def (by.Driver s (drivers.Request flags (links.Refused error) opened x)) past due k w d h =
     let u = request_due def s x flags (links.Refused error) opened past due in
-    keeps_wanted def s (entries.Request s x flags (links.Refused error) opened) past (calls.Request x flags) u.count d
+    keeps_wanted def s (by.Driver s (drivers.Request flags (links.Refused error) opened x)) past (calls.Request x flags) u.count d
     (λ r. refl) u.call refl (w d (was_there (same_dev d x) (is_linked past d) h))
   where
     was_there : (s l : Bool) → ((s && false) || l) ≡ true → l ≡ true
     was_there s l h = grind arith
-wanted_more def (entries.Unlink s x (unlinks.Unlinked last)) past due k w d h =
+wanted_more def (by.DriverCall s (called.Unlink (unlinks.Unlinked last) x)) past due k w d h =
     let p = and_parts (not (same_dev d x && true)) (is_linked past d) h in
     let u = unlink_due def s x (unlinks.Unlinked last) past due in
-    keeps_wanted def s (entries.Unlink s x (unlinks.Unlinked last)) past (calls.Free x) 0 d (λ r. refl) u.call (differs (same_dev d x) p.0) (w d p.1)
+    keeps_wanted def s (by.DriverCall s (called.Unlink (unlinks.Unlinked last) x)) past (calls.Free x) 0 d (λ r. refl)
+    u.call (differs (same_dev d x) p.0) (w d p.1)
   where
     differs : (s : Bool) → not (s && true) ≡ true → s ≡ false
     differs s h = grind arith
-wanted_more def (entries.Unlink s x unlinks.NotThere) past due k w d h =
+wanted_more def (by.DriverCall s (called.Unlink unlinks.NotThere x)) past due k w d h =
     let p = and_parts (not (same_dev d x && false)) (is_linked past d) h in
     let u = unlink_due def s x unlinks.NotThere past due in
     let absent = absent_when (is_linked past x) _ u.answer_is in
     let other = false_from_ne_true (same_dev d x) (λ same. both_ways (is_linked past d) p.1
     (subst (λ (y : DevNo). is_linked past y ≡ false) (sym (dev_from_same d x same)) absent)) in
-    keeps_wanted def s (entries.Unlink s x unlinks.NotThere) past (calls.Free x) 0 d (λ r. refl) u.call other (w d p.1)
-wanted_more def (entries.Freed s x) past due k w d h =
-    let f = freed_is def s x past due k in keeps_wanted def s (entries.Freed s x) past (calls.Free x) 2 d (λ r. refl)
+    keeps_wanted def s (by.DriverCall s (called.Unlink unlinks.NotThere x)) past (calls.Free x) 0 d (λ r. refl) u.call other (w d p.1)
+wanted_more def (by.DriverCall s (called.Freed x)) past due k w d h =
+    let f = freed_is def s x past due k in keeps_wanted def s (by.DriverCall s (called.Freed x)) past (calls.Free x) 2 d (λ r. refl)
     f.0 (not_that def past k s x d f.1 h) (w d h)
-wanted_more def (entries.Affinity s mask answer) past due k w d h =
+wanted_more def (by.Driver s (drivers.Affinity answer mask)) past due k w d h =
     let u = affinity_due def s mask answer past due in
-    keeps_wanted def s (entries.Affinity s mask answer) past (calls.Affinity mask) u.count d (λ r. refl) u.call refl
+    keeps_wanted def s (by.Driver s (drivers.Affinity answer mask)) past (calls.Affinity mask) u.count d (λ r. refl) u.call refl
     (w d h)
-wanted_more def (entries.Moment s at) past due k w d h = let u = moment_due def s at past due in
-    keeps_wanted def s (entries.Moment s at) past (calls.Moment at) u.count d (λ r. refl) u.call refl (w d h)
+wanted_more def (by.Driver s (drivers.Moment at)) past due k w d h = let u = moment_due def s at past due in
+    keeps_wanted def s (by.Driver s (drivers.Moment at)) past (calls.Moment at) u.count d (λ r. refl) u.call refl (w d h)
+wanted_more def (by.CpuCall c call) past due k w d h = no_cpu_call def c call past due
+wanted_more def (by.ThreadCall x call) past due k w d h = no_thread_call def x call past due
+wanted_more def (by.DriverCall s (called.Wake woken x)) past due k w d h = no_new_call def s (called.Wake woken x) past refl due
+wanted_more def (by.DriverCall s (called.Quiet x)) past due k w d h = no_new_call def s (called.Quiet x) past refl due
+wanted_more def (by.DriverCall s (called.Arm makes x)) past due k w d h = no_new_call def s (called.Arm makes x) past refl due
+wanted_more def (by.DriverCall s (called.Serve x served)) past due k w d h = no_new_call def s (called.Serve x served) past refl due
 wanted_more def e past due k w d h =
     let v = w d h in record { driver = v.driver; place = v.place; call = v.call; there = v.there; own = v.own; requests = v.requests; wanted = v.wanted }
 

@@ -5,7 +5,12 @@ use Rattle.irq_base.specs.declared.lines.FlowKind.{FlowKind}
 use Rattle.irq_base.specs.declared.lines.FlowKind.TheVariants as flows
 use Rattle.irq_base.specs.declared.lines.LineDef.{LineDef}
 use Rattle.irq_base.specs.declared.entries.Entry.{Entry}
-use Rattle.irq_base.specs.declared.entries.Entry.TheVariants as entries
+use Rattle.irq_base.specs.declared.entries.Entry.TheVariants as by
+use Rattle.irq_base.specs.declared.entries.CpuEntry.TheVariants as cpus
+use Rattle.irq_base.specs.declared.entries.ThreadEntry.TheVariants as threads
+use Rattle.irq_base.specs.declared.entries.DriverEntry.TheVariants as drivers
+use Rattle.irq_base.specs.declared.entries.CallEntry.{CallEntry}
+use Rattle.irq_base.specs.declared.entries.CallEntry.TheVariants as called
 use Rattle.irq_base.specs.declared.entries.Way.{Way}
 use Rattle.irq_base.specs.declared.entries.Way.TheVariants as ways
 use Rattle.irq_base.specs.declared.entries.TakeAnswer.{TakeAnswer}
@@ -13,7 +18,8 @@ use Rattle.irq_base.specs.declared.entries.TakeAnswer.TheVariants as takes
 use Rattle.irq_base.specs.Cell.{Cell, fresh_cell, after_edge, after_high, after_mask}
 use Rattle.irq_base.specs.Cell.{after_unmask, after_accept, after_ack, after_eoi, after_retrigger}
 use Rattle.irq_base.specs.Cell.{signals as presents}
-use Rattle.irq_model.specs.Kinds.{is_kill, is_last_unlink, is_start, is_chip_start}
+use Rattle.irq_model.specs.Kinds.{is_kill, is_start, is_chip_start, unlinks_last}
+use Rattle.irq_model.specs.Kinds.{opened_by_enable, is_started_opened, is_chip_opened}
 use Rattle.irq_model.specs.Lines.{is_edge_line, is_level_line, serves}
 use Rattle.irq_model.specs.Links.{is_oneshot}
 use Rattle.irq_model.specs.Asks.{is_high}
@@ -92,36 +98,43 @@ ended def flows.Eoi again unmask c =
     retriggered_if (is_edge_line def && again) (unmasked_if unmask (after_eoi c))
 ended def _ again unmask c = unmasked_if unmask c
 
--- a device asks: an edge comes, or the level is set by whether some device has an unserved ask
-abbrev pub asked : LineDef → List Entry → Cell → Cell
-asked def past c = if is_edge_line def then after_edge c else after_high (is_high def past) c
+-- a device asks: an edge comes, if the device makes one, or the level is set by whether some device
+-- has an unserved ask
+abbrev pub asked : LineDef → Bool → List Entry → Cell → Cell
+asked def edge past c =
+    if is_edge_line def then (if edge then after_edge c else c) else after_high (is_high def past) c
 
 abbrev pub served : LineDef → ℕ → List Entry → Cell → Cell
 served def count past c =
     if is_level_line def && nat_lt 0 count then after_high (is_high def past) c else c
 
+-- what the step of a call does, whoever makes it
+abbrev pub called_on : LineDef → CallEntry → Cell → Cell
+called_on def called.Disable c = masked_if def.unlazy c
+called_on def (called.Unlink answer dev) c = masked_if (unlinks_last (called.Unlink answer dev)) c
+called_on def (called.Enable answer) c = retriggered_if (is_chip_opened (opened_by_enable answer))
+    (unmasked_if (is_started_opened (opened_by_enable answer)) c)
+called_on def _ c = c
+
 -- what the entry does after `past`
 abbrev pub driven : LineDef → Entry → List Entry → Cell → Cell
-driven def (entries.Ask driver dev) past c = asked def (entries.Ask driver dev ∷ past) c
-driven def (entries.Return cpu dev answer count) past c =
-    served def count (entries.Return cpu dev answer count ∷ past) c
-driven def (entries.ThreadReturn dev count) past c =
-    served def count (entries.ThreadReturn dev count ∷ past) c
-driven def (entries.Take cpu way answer) past c =
+driven def (by.Driver driver (drivers.Ask edge dev)) past c =
+    asked def edge (by.Driver driver (drivers.Ask edge dev) ∷ past) c
+driven def (by.Cpu cpu (cpus.Return answer dev count)) past c =
+    served def count (by.Cpu cpu (cpus.Return answer dev count) ∷ past) c
+driven def (by.Thread dev (threads.Return handled count)) past c =
+    served def count (by.Thread dev (threads.Return handled count) ∷ past) c
+driven def (by.Cpu cpu (cpus.Take way answer)) past c =
     taken def def.flow (is_oneshot past) answer (accepted way c)
-driven def (entries.End cpu again unmask note) past c
-    = ended def def.flow again unmask (masked_if
-    (def.unlazy && is_kill (entries.End cpu again unmask note)) c)
-driven def (entries.Finish dev kept unmask) past c = unmasked_if unmask c
-driven def (entries.Disable driver) past c = masked_if def.unlazy c
-driven def (entries.Unlink driver dev answer) past c =
-    masked_if (is_last_unlink (entries.Unlink driver dev answer)) c
-driven def (entries.Request driver dev flags answer opened) past c =
-    retriggered_if (is_chip_start (entries.Request driver dev flags answer opened))
-    (unmasked_if (is_start (entries.Request driver dev flags answer opened)) c)
-driven def (entries.Enable driver answer) past c =
-    retriggered_if (is_chip_start (entries.Enable driver answer))
-    (unmasked_if (is_start (entries.Enable driver answer)) c)
+driven def (by.Cpu cpu (cpus.End again unmask note)) past c = ended def def.flow again unmask
+    (masked_if (def.unlazy && is_kill (by.Cpu cpu (cpus.End again unmask note))) c)
+driven def (by.Thread dev (threads.Finish kept unmask)) past c = unmasked_if unmask c
+driven def (by.Driver driver (drivers.Request flags answer opened dev)) past c =
+    retriggered_if (is_chip_start (by.Driver driver (drivers.Request flags answer opened dev)))
+    (unmasked_if (is_start (by.Driver driver (drivers.Request flags answer opened dev))) c)
+driven def (by.CpuCall cpu call) past c = called_on def call c
+driven def (by.ThreadCall dev call) past c = called_on def call c
+driven def (by.DriverCall driver call) past c = called_on def call c
 driven def _ past c = c
 
 -- the cell after all entries

@@ -8,12 +8,14 @@ use Rattle.irq_base.specs.declared.numbers.DriverNo.{DriverNo}
 use Rattle.irq_base.specs.declared.calls.Call.{Call}
 use Rattle.irq_base.specs.declared.calls.Call.TheVariants as calls
 use Rattle.irq_base.specs.declared.lines.LineDef.{LineDef}
+use Rattle.irq_base.specs.declared.entries.Actor.{Actor}
+use Rattle.irq_base.specs.declared.entries.Actor.TheVariants as actors
 use Rattle.irq_base.specs.declared.entries.Entry.{Entry}
-use Rattle.irq_base.specs.declared.entries.Entry.TheVariants as entries
+use Rattle.irq_base.specs.declared.entries.Entry.TheVariants as by
+use Rattle.irq_base.specs.declared.entries.CallEntry.TheVariants as called
 use Rattle.irq_base.specs.declared.entries.UnlinkAnswer.TheVariants as unlinks
 use Rattle.irq_model.specs.Places.{stands, since_place, upto_place, count_of}
-use Rattle.irq_model.specs.Kinds.{same_dev, same_driver, is_freed, is_freed_by, links_dev}
-use Rattle.irq_model.specs.Kinds.{is_unlinked_answer}
+use Rattle.irq_model.specs.Kinds.{is_by, is_freed, is_freed_by, links_dev, unlinks_dev}
 use Rattle.irq_model.specs.Lines.{is_device}
 use Rattle.irq_model.specs.Links.{is_linked, is_reset, base, is_deepening, is_lowering}
 use Rattle.irq_model.specs.Rounds.{has_flow, has_begun, at_work}
@@ -32,23 +34,23 @@ pub record KeepsRuns (def : LineDef) (past : List Entry) : Type 0 where
   pub working : (d : DevNo) → at_work past ≡ Some d
       → (is_called past d ≡ true) × (has_flow def past ≡ true) × (has_begun def past d ≡ true)
 
--- the driver and the device of the last unlink, unless a free was completed after it
+-- the driver and the device of the last unlink, unless a free was completed after it; only drivers
+-- free
 abbrev pub freeing : List Entry → Option (DriverNo × DevNo)
 freeing [] = None
-freeing (entries.Unlink driver dev (unlinks.Unlinked last) ∷ past) = Some (driver, dev)
-freeing (entries.Freed driver dev ∷ past) = None
+freeing (by.DriverCall driver (called.Unlink (unlinks.Unlinked last) dev) ∷ past)
+    = Some (driver, dev)
+freeing (by.DriverCall driver (called.Freed dev) ∷ past) = None
 freeing (_ ∷ past) = freeing past
 
--- r unlinked d
-abbrev pub unlinks_of : DriverNo → DevNo → Entry → Bool
-unlinks_of r d (entries.Unlink driver dev answer) =
-    (same_driver r driver && same_dev d dev) && is_unlinked_answer answer
-unlinks_of r d _ = false
+-- the actor unlinked d
+abbrev pub unlinks_of : Actor → DevNo → Entry → Bool
+unlinks_of a d e = is_by a e && unlinks_dev d e
 
--- at most one free is under way; a driver that is within a free is its driver
+-- at most one free is under way, and it is a driver's; a driver that is within a free is its driver
 pub record KeepsFrees (def : LineDef) (past : List Entry) : Type 0 where
-  pub one_driver : (r : DriverNo) (d : DevNo) → stands (unlinks_of r d) (is_freed_by r) past ≡ true
-      → freeing past ≡ Some (r, d)
+  pub one_driver : (a : Actor) (d : DevNo) → stands (unlinks_of a d) (is_freed_by a) past ≡ true
+      → (r : DriverNo) × (a ≡ actors.Driver r) × (freeing past ≡ Some (r, d))
   pub one_device : (d : DevNo) → is_being_freed past d ≡ true
       → (r : DriverNo) × (freeing past ≡ Some (r, d))
   pub within : (r : DriverNo) (d : DevNo) (n : ℕ) → due_call def r past ≡ Some (calls.Free d, suc n)

@@ -11,7 +11,6 @@ ghost use Rattle.irq_base.specs.declared.lines.LineDef.{LineDef};
 ghost use Rattle.irq_base.specs.declared.numbers.CpuNo.{CpuNo};
 ghost use Rattle.irq_base.specs.declared.numbers.DevNo.{DevNo};
 ghost use Rattle.irq_base.specs.declared.numbers.DriverNo.{DriverNo};
-ghost use Rattle.irq_base.specs.declared.numbers.LineNo.{LineNo};
 ghost use Rattle.irq_base.specs.declared.entries.Actor.{Actor};
 ghost use Rattle.irq_base.specs.declared.entries.Actor.TheVariants as actors;
 ghost use Rattle.irq_base.specs.declared.entries.Entry.{Entry};
@@ -153,7 +152,7 @@ pub fn driven_cell()
 /// What is due of an actor is an entry of that actor.
 pub fn due_is_own()
     ensures law { (def : LineDef) (h : List Entry) (a : Actor) (e : Entry) → next def h a ≡ Some e
-        → actor_of def.line e ≡ a }
+        → actor_of e ≡ a }
 {}
 
 /// Only the target ever has a take due, so at most one processor has.
@@ -184,7 +183,7 @@ pub fn call_waits()
 /// calls aren't complete may, or the driver of the free that is under way may.
 pub fn drivers_move()
     ensures law { (def : LineDef) (h : List Entry) → IsValid def → IsLegal def h
-        → ((line : LineNo) (d : DevNo) → next def h (actors.Thread line d) ≡ None)
+        → ((d : DevNo) → next def h (actors.Thread d) ≡ None)
         → ((c : CpuNo) → next def h (actors.Cpu c) ≡ None) → (r : DriverNo)
         → IsSome (due_call def r (reverse h))
         → IsSome (next def h (actors.Driver r)) ⊎ FreeMoves def h }

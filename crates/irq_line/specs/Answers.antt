@@ -31,7 +31,7 @@ IsDueOf line actor = IsSome (next line.def line.entries actor)
 pub record AddsEntry (old : LineSeen) (who : Actor) (said : Option SaidSeen) (entry : Entry)
     (new : LineSeen) : Type 0 where
   pub due : next old.def old.entries who ≡ Some entry
-  pub actor : actor_of old.def.line entry ≡ who
+  pub actor : actor_of entry ≡ who
   pub heard : IfSome (run_of old.def old.entries who) (IsSaidFor said)
   pub below : length old.entries < old.def.log
   pub def : new.def ≡ old.def

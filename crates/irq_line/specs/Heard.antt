@@ -14,7 +14,7 @@ use Rattle.irq_line.specs.declared.answers.StepRefused.TheVariants as refusals
 -- one of the free places is gone.
 pub record Adds (old : LineSeen) (who : Actor) (entry : Entry) (new : LineSeen) : Type 0 where
   pub due : next old.def old.entries who ≡ Some entry
-  pub actor : actor_of old.def.line entry ≡ who
+  pub actor : actor_of entry ≡ who
   pub below : length old.entries < old.def.log
   pub def : new.def ≡ old.def
   pub entries : new.entries ≡ old.entries ++ entry ∷ []

@@ -34,7 +34,7 @@ IsTaker line taker = (cpu : CpuNo) → (taker ≡ Some cpu) ↔ IsPresented line
 
 -- an entry is due of the device's thread
 abbrev pub IsThreadDue : LineSeen → DevNo → Type 0
-IsThreadDue line dev = IsSome (next line.def line.entries (actors.Thread line.def.line dev))
+IsThreadDue line dev = IsSome (next line.def line.entries (actors.Thread dev))
 
 -- the lowest device by number whose thread has an entry due; none if no thread has one
 abbrev pub IsLowestThread : LineSeen → Option DevNo → Type 0

@@ -6,7 +6,9 @@ use Rattle.irq_base.specs.declared.devices.Part.TheVariants as parts
 use Rattle.irq_base.specs.declared.devices.Run.{Run}
 use Rattle.irq_base.specs.declared.entries.Actor.{Actor}
 use Rattle.irq_base.specs.declared.entries.Entry.{Entry}
-use Rattle.irq_base.specs.declared.entries.Entry.TheVariants as entries
+use Rattle.irq_base.specs.declared.entries.Entry.TheVariants as by
+use Rattle.irq_base.specs.declared.entries.CpuEntry.TheVariants as cpus
+use Rattle.irq_base.specs.declared.entries.ThreadEntry.TheVariants as threads
 use Rattle.irq_base.specs.declared.lines.LineDef.{LineDef}
 use Rattle.irq_model.specs.Lines.{kind_of}
 use Rattle.irq_model.specs.Next.{next, asks_of_handler, asks_of_thread}
@@ -18,13 +20,13 @@ device_of def dev = record { dev = dev; line = def.line; kind = kind_of def dev 
 -- a return ends a run of the device's handler, a thread's return a run of its thread; with the run
 -- stands how many asks were unserved as it began
 abbrev pub run_ended : LineDef → List Entry → Entry → Option Run
-run_ended def past (entries.Return cpu dev answer served)
+run_ended def past (by.Cpu cpu (cpus.Return answer dev served))
     = Some (record {
       def = device_of def dev;
       part = parts.Primary;
       unserved = asks_of_handler def dev past;
     })
-run_ended def past (entries.ThreadReturn dev served)
+run_ended def past (by.Thread dev (threads.Return handled served))
     = Some (record {
       def = device_of def dev;
       part = parts.Thread;

@@ -6,7 +6,11 @@ use Rattle.irq_base.specs.declared.devices.Answer.TheVariants as answers
 use Rattle.irq_base.specs.declared.lines.LineDef.{LineDef}
 use Rattle.irq_base.specs.declared.entries.Actor.TheVariants as actors
 use Rattle.irq_base.specs.declared.entries.Entry.{Entry}
-use Rattle.irq_base.specs.declared.entries.Entry.TheVariants as entries
+use Rattle.irq_base.specs.declared.entries.Entry.TheVariants as by
+use Rattle.irq_base.specs.declared.entries.CpuEntry.TheVariants as cpus
+use Rattle.irq_base.specs.declared.entries.ThreadEntry.TheVariants as threads
+use Rattle.irq_base.specs.declared.entries.DriverEntry.TheVariants as drivers
+use Rattle.irq_base.specs.declared.entries.CallEntry.TheVariants as called
 use Rattle.irq_base.specs.declared.entries.Errno.TheVariants as errors
 use Rattle.irq_base.specs.declared.entries.Way.TheVariants as ways
 use Rattle.irq_base.specs.declared.entries.TakeAnswer.TheVariants as takes
@@ -34,15 +38,15 @@ first_line = record latch {
 
 abbrev pub first_log : List Entry
 first_log =
-    entries.Request (driver 1) (dev 1) no_flags links.Linked (opens.Started resends.No) ∷
-    entries.Ask (driver 1) (dev 1) ∷
-    entries.Take (cpu 0) ways.Line takes.Handle ∷
-    entries.Begin (cpu 0) (dev 1) ∷
-    entries.Return (cpu 0) (dev 1) answers.Handled 1 ∷
-    entries.End (cpu 0) false false notes.Quiet ∷
-    entries.Unlink (driver 1) (dev 1) (unlinks.Unlinked true) ∷
-    entries.HardClear (driver 1) ∷
-    entries.Freed (driver 1) (dev 1) ∷ []
+    by.Driver (driver 1) (drivers.Request no_flags links.Linked (opens.Started resends.No) (dev 1)) ∷
+    by.Driver (driver 1) (drivers.Ask true (dev 1)) ∷
+    by.Cpu (cpu 0) (cpus.Take ways.Line takes.Handle) ∷
+    by.Cpu (cpu 0) (cpus.Begin (dev 1)) ∷
+    by.Cpu (cpu 0) (cpus.Return answers.Handled (dev 1) 1) ∷
+    by.Cpu (cpu 0) (cpus.End false false notes.Quiet) ∷
+    by.DriverCall (driver 1) (called.Unlink (unlinks.Unlinked true) (dev 1)) ∷
+    by.DriverCall (driver 1) called.HardClear ∷
+    by.DriverCall (driver 1) (called.Freed (dev 1)) ∷ []
 
 pub first_is_legal : IsLegal first_line first_log
 first_is_legal = (refl, (refl, (refl, (refl, (refl, (refl, (refl, (refl, (refl, tt)))))))))
@@ -73,18 +77,18 @@ nested_latch_line = record latch {
 
 abbrev pub nested_latch_log : List Entry
 nested_latch_log =
-    entries.Request (driver 1) (dev 1) no_flags links.Linked (opens.Started resends.No) ∷
-    entries.Disable (driver 1) ∷
-    entries.Disable (driver 1) ∷
-    entries.Enable (driver 1) enables.Lowered ∷
-    entries.Ask (driver 1) (dev 1) ∷
-    entries.Take (cpu 0) ways.Line takes.Off ∷
-    entries.Enable (driver 1) (enables.Started resends.Chip) ∷
-    entries.Take (cpu 0) ways.Line takes.Handle ∷
-    entries.Begin (cpu 0) (dev 1) ∷
-    entries.Return (cpu 0) (dev 1) answers.Handled 1 ∷
-    entries.End (cpu 0) false false notes.Quiet ∷
-    entries.Enable (driver 1) enables.Unbalanced ∷ []
+    by.Driver (driver 1) (drivers.Request no_flags links.Linked (opens.Started resends.No) (dev 1)) ∷
+    by.DriverCall (driver 1) called.Disable ∷
+    by.DriverCall (driver 1) called.Disable ∷
+    by.DriverCall (driver 1) (called.Enable enables.Lowered) ∷
+    by.Driver (driver 1) (drivers.Ask true (dev 1)) ∷
+    by.Cpu (cpu 0) (cpus.Take ways.Line takes.Off) ∷
+    by.DriverCall (driver 1) (called.Enable (enables.Started resends.Chip)) ∷
+    by.Cpu (cpu 0) (cpus.Take ways.Line takes.Handle) ∷
+    by.Cpu (cpu 0) (cpus.Begin (dev 1)) ∷
+    by.Cpu (cpu 0) (cpus.Return answers.Handled (dev 1) 1) ∷
+    by.Cpu (cpu 0) (cpus.End false false notes.Quiet) ∷
+    by.DriverCall (driver 1) (called.Enable enables.Unbalanced) ∷ []
 
 pub nested_latch_is_legal : IsLegal nested_latch_line nested_latch_log
 nested_latch_is_legal = (refl, (refl, (refl, (refl, (refl, (refl, (refl, (refl, (refl, (refl, (refl, (refl, tt))))))))))))
@@ -111,18 +115,18 @@ nested_plain_line = record plain {
 
 abbrev pub nested_plain_log : List Entry
 nested_plain_log =
-    entries.Request (driver 1) (dev 1) no_flags links.Linked (opens.Started resends.No) ∷
-    entries.Disable (driver 1) ∷
-    entries.Disable (driver 1) ∷
-    entries.Enable (driver 1) enables.Lowered ∷
-    entries.Ask (driver 1) (dev 1) ∷
-    entries.Take (cpu 0) ways.Line takes.Off ∷
-    entries.Enable (driver 1) (enables.Started resends.Soft) ∷
-    entries.Take (cpu 0) ways.Resend takes.Handle ∷
-    entries.Begin (cpu 0) (dev 1) ∷
-    entries.Return (cpu 0) (dev 1) answers.Handled 1 ∷
-    entries.End (cpu 0) false false notes.Quiet ∷
-    entries.Enable (driver 1) enables.Unbalanced ∷ []
+    by.Driver (driver 1) (drivers.Request no_flags links.Linked (opens.Started resends.No) (dev 1)) ∷
+    by.DriverCall (driver 1) called.Disable ∷
+    by.DriverCall (driver 1) called.Disable ∷
+    by.DriverCall (driver 1) (called.Enable enables.Lowered) ∷
+    by.Driver (driver 1) (drivers.Ask true (dev 1)) ∷
+    by.Cpu (cpu 0) (cpus.Take ways.Line takes.Off) ∷
+    by.DriverCall (driver 1) (called.Enable (enables.Started resends.Soft)) ∷
+    by.Cpu (cpu 0) (cpus.Take ways.Resend takes.Handle) ∷
+    by.Cpu (cpu 0) (cpus.Begin (dev 1)) ∷
+    by.Cpu (cpu 0) (cpus.Return answers.Handled (dev 1) 1) ∷
+    by.Cpu (cpu 0) (cpus.End false false notes.Quiet) ∷
+    by.DriverCall (driver 1) (called.Enable enables.Unbalanced) ∷ []
 
 pub nested_plain_is_legal : IsLegal nested_plain_line nested_plain_log
 nested_plain_is_legal = (refl, (refl, (refl, (refl, (refl, (refl, (refl, (refl, (refl, (refl, (refl, (refl, tt))))))))))))
@@ -146,19 +150,19 @@ free_running_line = record latch {
 
 abbrev pub free_running_log : List Entry
 free_running_log =
-    entries.Request (driver 1) (dev 1) no_flags links.Linked (opens.Started resends.No) ∷
-    entries.Ask (driver 1) (dev 1) ∷
-    entries.Take (cpu 0) ways.Line takes.Handle ∷
-    entries.Begin (cpu 0) (dev 1) ∷
-    entries.Unlink (driver 1) (dev 1) (unlinks.Unlinked true) ∷
-    entries.Return (cpu 0) (dev 1) answers.Wake 0 ∷
-    entries.End (cpu 0) false false notes.Quiet ∷
-    entries.HardClear (driver 1) ∷
-    entries.ThreadBegin (dev 1) ∷
-    entries.ThreadReturn (dev 1) 1 ∷
-    entries.Done (dev 1) ∷
-    entries.Freed (driver 1) (dev 1) ∷
-    entries.Unlink (driver 1) (dev 1) unlinks.NotThere ∷ []
+    by.Driver (driver 1) (drivers.Request no_flags links.Linked (opens.Started resends.No) (dev 1)) ∷
+    by.Driver (driver 1) (drivers.Ask true (dev 1)) ∷
+    by.Cpu (cpu 0) (cpus.Take ways.Line takes.Handle) ∷
+    by.Cpu (cpu 0) (cpus.Begin (dev 1)) ∷
+    by.DriverCall (driver 1) (called.Unlink (unlinks.Unlinked true) (dev 1)) ∷
+    by.Cpu (cpu 0) (cpus.Return answers.Wake (dev 1) 0) ∷
+    by.Cpu (cpu 0) (cpus.End false false notes.Quiet) ∷
+    by.DriverCall (driver 1) called.HardClear ∷
+    by.Thread (dev 1) threads.Begin ∷
+    by.Thread (dev 1) (threads.Return true 1) ∷
+    by.Thread (dev 1) threads.Done ∷
+    by.DriverCall (driver 1) (called.Freed (dev 1)) ∷
+    by.DriverCall (driver 1) (called.Unlink unlinks.NotThere (dev 1)) ∷ []
 
 pub free_running_is_legal : IsLegal free_running_line free_running_log
 free_running_is_legal = (refl, (refl, (refl, (refl, (refl, (refl, (refl, (refl, (refl, (refl, (refl, (refl, (refl, tt)))))))))))))
@@ -167,7 +171,7 @@ free_running_is_legal = (refl, (refl, (refl, (refl, (refl, (refl, (refl, (refl, 
 pub free_running_is_still :
     (next free_running_line free_running_log (actors.Cpu (cpu 0)) ≡ None)
     × (next free_running_line free_running_log (actors.Driver (driver 1)) ≡ None)
-    × (next free_running_line free_running_log (actors.Thread line (dev 1)) ≡ None)
+    × (next free_running_line free_running_log (actors.Thread (dev 1)) ≡ None)
 free_running_is_still = (refl, refl, refl)
 
 -- the line's domains stay activated at the last unlink, until the free is complete
@@ -194,11 +198,11 @@ refused_line = record latch {
 
 abbrev pub refused_log : List Entry
 refused_log =
-    entries.Request (driver 1) (dev 1) shared_noauto (links.Refused errors.Inval) opens.No ∷
-    entries.Request (driver 1) (dev 2) no_flags (links.Refused errors.Inval) opens.No ∷
-    entries.Request (driver 1) (dev 3) shared_oneshot links.Linked (opens.Started resends.No) ∷
-    entries.Request (driver 1) (dev 4) shared (links.Refused errors.Busy) opens.No ∷
-    entries.Request (driver 1) (dev 5) oneshot (links.Refused errors.Busy) opens.No ∷ []
+    by.Driver (driver 1) (drivers.Request shared_noauto (links.Refused errors.Inval) opens.No (dev 1)) ∷
+    by.Driver (driver 1) (drivers.Request no_flags (links.Refused errors.Inval) opens.No (dev 2)) ∷
+    by.Driver (driver 1) (drivers.Request shared_oneshot links.Linked (opens.Started resends.No) (dev 3)) ∷
+    by.Driver (driver 1) (drivers.Request shared (links.Refused errors.Busy) opens.No (dev 4)) ∷
+    by.Driver (driver 1) (drivers.Request oneshot (links.Refused errors.Busy) opens.No (dev 5)) ∷ []
 
 pub refused_is_legal : IsLegal refused_line refused_log
 refused_is_legal = (refl, (refl, (refl, (refl, (refl, tt)))))
@@ -207,5 +211,5 @@ refused_is_legal = (refl, (refl, (refl, (refl, (refl, tt)))))
 pub refused_is_still :
     (next refused_line refused_log (actors.Cpu (cpu 0)) ≡ None)
     × (next refused_line refused_log (actors.Driver (driver 1)) ≡ None)
-    × (next refused_line refused_log (actors.Thread line (dev 2)) ≡ None)
+    × (next refused_line refused_log (actors.Thread (dev 2)) ≡ None)
 refused_is_still = (refl, refl, refl)

@@ -6,7 +6,10 @@ use Rattle.irq_base.specs.declared.devices.Answer.TheVariants as answers
 use Rattle.irq_base.specs.declared.lines.LineDef.{LineDef}
 use Rattle.irq_base.specs.declared.entries.Actor.TheVariants as actors
 use Rattle.irq_base.specs.declared.entries.Entry.{Entry}
-use Rattle.irq_base.specs.declared.entries.Entry.TheVariants as entries
+use Rattle.irq_base.specs.declared.entries.Entry.TheVariants as by
+use Rattle.irq_base.specs.declared.entries.CpuEntry.TheVariants as cpus
+use Rattle.irq_base.specs.declared.entries.DriverEntry.TheVariants as drivers
+use Rattle.irq_base.specs.declared.entries.CallEntry.TheVariants as called
 use Rattle.irq_base.specs.declared.entries.Way.TheVariants as ways
 use Rattle.irq_base.specs.declared.entries.TakeAnswer.TheVariants as takes
 use Rattle.irq_base.specs.declared.entries.Note.TheVariants as notes
@@ -32,13 +35,13 @@ coalescing_line = record latch {
 
 abbrev pub coalescing_log : List Entry
 coalescing_log =
-    entries.Request (driver 1) (dev 1) no_flags links.Linked (opens.Started resends.No) ∷
-    entries.Ask (driver 1) (dev 1) ∷
-    entries.Ask (driver 1) (dev 1) ∷
-    entries.Take (cpu 0) ways.Line takes.Handle ∷
-    entries.Begin (cpu 0) (dev 1) ∷
-    entries.Return (cpu 0) (dev 1) answers.Handled 2 ∷
-    entries.End (cpu 0) false false notes.Quiet ∷ []
+    by.Driver (driver 1) (drivers.Request no_flags links.Linked (opens.Started resends.No) (dev 1)) ∷
+    by.Driver (driver 1) (drivers.Ask true (dev 1)) ∷
+    by.Driver (driver 1) (drivers.Ask true (dev 1)) ∷
+    by.Cpu (cpu 0) (cpus.Take ways.Line takes.Handle) ∷
+    by.Cpu (cpu 0) (cpus.Begin (dev 1)) ∷
+    by.Cpu (cpu 0) (cpus.Return answers.Handled (dev 1) 2) ∷
+    by.Cpu (cpu 0) (cpus.End false false notes.Quiet) ∷ []
 
 pub coalescing_is_legal : IsLegal coalescing_line coalescing_log
 coalescing_is_legal = (refl, (refl, (refl, (refl, (refl, (refl, (refl, tt)))))))
@@ -65,18 +68,18 @@ busy_latch_line = record latch {
 
 abbrev pub busy_latch_log : List Entry
 busy_latch_log =
-    entries.Request (driver 1) (dev 1) no_flags links.Linked (opens.Started resends.No) ∷
-    entries.Ask (driver 1) (dev 1) ∷
-    entries.Take (cpu 0) ways.Line takes.Handle ∷
-    entries.Begin (cpu 0) (dev 1) ∷
-    entries.Affinity (driver 1) 2 moves.Now ∷
-    entries.Ask (driver 1) (dev 1) ∷
-    entries.Take (cpu 1) ways.Line takes.Busy ∷
-    entries.Return (cpu 0) (dev 1) answers.Handled 1 ∷
-    entries.End (cpu 0) true true notes.Quiet ∷
-    entries.Begin (cpu 0) (dev 1) ∷
-    entries.Return (cpu 0) (dev 1) answers.Handled 1 ∷
-    entries.End (cpu 0) false false notes.Quiet ∷ []
+    by.Driver (driver 1) (drivers.Request no_flags links.Linked (opens.Started resends.No) (dev 1)) ∷
+    by.Driver (driver 1) (drivers.Ask true (dev 1)) ∷
+    by.Cpu (cpu 0) (cpus.Take ways.Line takes.Handle) ∷
+    by.Cpu (cpu 0) (cpus.Begin (dev 1)) ∷
+    by.Driver (driver 1) (drivers.Affinity moves.Now 2) ∷
+    by.Driver (driver 1) (drivers.Ask true (dev 1)) ∷
+    by.Cpu (cpu 1) (cpus.Take ways.Line takes.Busy) ∷
+    by.Cpu (cpu 0) (cpus.Return answers.Handled (dev 1) 1) ∷
+    by.Cpu (cpu 0) (cpus.End true true notes.Quiet) ∷
+    by.Cpu (cpu 0) (cpus.Begin (dev 1)) ∷
+    by.Cpu (cpu 0) (cpus.Return answers.Handled (dev 1) 1) ∷
+    by.Cpu (cpu 0) (cpus.End false false notes.Quiet) ∷ []
 
 pub busy_latch_is_legal : IsLegal busy_latch_line busy_latch_log
 busy_latch_is_legal = (refl, (refl, (refl, (refl, (refl, (refl, (refl, (refl, (refl, (refl, (refl, (refl, tt))))))))))))
@@ -105,19 +108,19 @@ busy_plain_line = record plain {
 
 abbrev pub busy_plain_log : List Entry
 busy_plain_log =
-    entries.Request (driver 1) (dev 1) no_flags links.Linked (opens.Started resends.No) ∷
-    entries.Ask (driver 1) (dev 1) ∷
-    entries.Take (cpu 0) ways.Line takes.Handle ∷
-    entries.Begin (cpu 0) (dev 1) ∷
-    entries.Affinity (driver 1) 2 moves.Now ∷
-    entries.Ask (driver 1) (dev 1) ∷
-    entries.Take (cpu 1) ways.Line takes.Busy ∷
-    entries.Ask (driver 1) (dev 1) ∷
-    entries.Return (cpu 0) (dev 1) answers.Handled 1 ∷
-    entries.End (cpu 0) true true notes.Quiet ∷
-    entries.Begin (cpu 0) (dev 1) ∷
-    entries.Return (cpu 0) (dev 1) answers.Handled 2 ∷
-    entries.End (cpu 0) false false notes.Quiet ∷ []
+    by.Driver (driver 1) (drivers.Request no_flags links.Linked (opens.Started resends.No) (dev 1)) ∷
+    by.Driver (driver 1) (drivers.Ask true (dev 1)) ∷
+    by.Cpu (cpu 0) (cpus.Take ways.Line takes.Handle) ∷
+    by.Cpu (cpu 0) (cpus.Begin (dev 1)) ∷
+    by.Driver (driver 1) (drivers.Affinity moves.Now 2) ∷
+    by.Driver (driver 1) (drivers.Ask true (dev 1)) ∷
+    by.Cpu (cpu 1) (cpus.Take ways.Line takes.Busy) ∷
+    by.Driver (driver 1) (drivers.Ask true (dev 1)) ∷
+    by.Cpu (cpu 0) (cpus.Return answers.Handled (dev 1) 1) ∷
+    by.Cpu (cpu 0) (cpus.End true true notes.Quiet) ∷
+    by.Cpu (cpu 0) (cpus.Begin (dev 1)) ∷
+    by.Cpu (cpu 0) (cpus.Return answers.Handled (dev 1) 2) ∷
+    by.Cpu (cpu 0) (cpus.End false false notes.Quiet) ∷ []
 
 pub busy_plain_is_legal : IsLegal busy_plain_line busy_plain_log
 busy_plain_is_legal = (refl, (refl, (refl, (refl, (refl, (refl, (refl, (refl, (refl, (refl, (refl, (refl, (refl, tt)))))))))))))
@@ -144,19 +147,19 @@ busy_lpi_line = record lpi {
 
 abbrev pub busy_lpi_log : List Entry
 busy_lpi_log =
-    entries.Request (driver 1) (dev 1) no_flags links.Linked (opens.Started resends.No) ∷
-    entries.Ask (driver 1) (dev 1) ∷
-    entries.Take (cpu 0) ways.Line takes.Handle ∷
-    entries.Begin (cpu 0) (dev 1) ∷
-    entries.Affinity (driver 1) 2 moves.Now ∷
-    entries.Ask (driver 1) (dev 1) ∷
-    entries.Take (cpu 1) ways.Line takes.Busy ∷
-    entries.Return (cpu 0) (dev 1) answers.Handled 1 ∷
-    entries.End (cpu 0) true false notes.Quiet ∷
-    entries.Take (cpu 1) ways.Line takes.Handle ∷
-    entries.Begin (cpu 1) (dev 1) ∷
-    entries.Return (cpu 1) (dev 1) answers.Handled 1 ∷
-    entries.End (cpu 1) false false notes.Quiet ∷ []
+    by.Driver (driver 1) (drivers.Request no_flags links.Linked (opens.Started resends.No) (dev 1)) ∷
+    by.Driver (driver 1) (drivers.Ask true (dev 1)) ∷
+    by.Cpu (cpu 0) (cpus.Take ways.Line takes.Handle) ∷
+    by.Cpu (cpu 0) (cpus.Begin (dev 1)) ∷
+    by.Driver (driver 1) (drivers.Affinity moves.Now 2) ∷
+    by.Driver (driver 1) (drivers.Ask true (dev 1)) ∷
+    by.Cpu (cpu 1) (cpus.Take ways.Line takes.Busy) ∷
+    by.Cpu (cpu 0) (cpus.Return answers.Handled (dev 1) 1) ∷
+    by.Cpu (cpu 0) (cpus.End true false notes.Quiet) ∷
+    by.Cpu (cpu 1) (cpus.Take ways.Line takes.Handle) ∷
+    by.Cpu (cpu 1) (cpus.Begin (dev 1)) ∷
+    by.Cpu (cpu 1) (cpus.Return answers.Handled (dev 1) 1) ∷
+    by.Cpu (cpu 1) (cpus.End false false notes.Quiet) ∷ []
 
 pub busy_lpi_is_legal : IsLegal busy_lpi_line busy_lpi_log
 busy_lpi_is_legal = (refl, (refl, (refl, (refl, (refl, (refl, (refl, (refl, (refl, (refl, (refl, (refl, (refl, tt)))))))))))))
@@ -183,16 +186,16 @@ msi_line = record msi {
 
 abbrev pub msi_log : List Entry
 msi_log =
-    entries.Request (driver 1) (dev 1) no_flags links.Linked (opens.Started resends.No) ∷
-    entries.Ask (driver 1) (dev 1) ∷
-    entries.Disable (driver 1) ∷
-    entries.Ask (driver 1) (dev 1) ∷
-    entries.Take (cpu 0) ways.Line takes.Off ∷
-    entries.Enable (driver 1) (enables.Started resends.Chip) ∷
-    entries.Take (cpu 0) ways.Line takes.Handle ∷
-    entries.Begin (cpu 0) (dev 1) ∷
-    entries.Return (cpu 0) (dev 1) answers.Handled 2 ∷
-    entries.End (cpu 0) false false notes.Quiet ∷ []
+    by.Driver (driver 1) (drivers.Request no_flags links.Linked (opens.Started resends.No) (dev 1)) ∷
+    by.Driver (driver 1) (drivers.Ask true (dev 1)) ∷
+    by.DriverCall (driver 1) called.Disable ∷
+    by.Driver (driver 1) (drivers.Ask true (dev 1)) ∷
+    by.Cpu (cpu 0) (cpus.Take ways.Line takes.Off) ∷
+    by.DriverCall (driver 1) (called.Enable (enables.Started resends.Chip)) ∷
+    by.Cpu (cpu 0) (cpus.Take ways.Line takes.Handle) ∷
+    by.Cpu (cpu 0) (cpus.Begin (dev 1)) ∷
+    by.Cpu (cpu 0) (cpus.Return answers.Handled (dev 1) 2) ∷
+    by.Cpu (cpu 0) (cpus.End false false notes.Quiet) ∷ []
 
 pub msi_is_legal : IsLegal msi_line msi_log
 msi_is_legal = (refl, (refl, (refl, (refl, (refl, (refl, (refl, (refl, (refl, (refl, tt))))))))))
@@ -219,31 +222,31 @@ later_line = record latch {
 
 abbrev pub asked_later_log : List Entry
 asked_later_log =
-    entries.Request (driver 1) (dev 1) no_flags links.Linked (opens.Started resends.No) ∷
-    entries.Affinity (driver 1) 2 moves.Later ∷
-    entries.Ask (driver 1) (dev 1) ∷ []
+    by.Driver (driver 1) (drivers.Request no_flags links.Linked (opens.Started resends.No) (dev 1)) ∷
+    by.Driver (driver 1) (drivers.Affinity moves.Later 2) ∷
+    by.Driver (driver 1) (drivers.Ask true (dev 1)) ∷ []
 
 -- the old target is still the one that takes
 pub old_target_takes :
     (target later_line (reverse asked_later_log) ≡ Some (cpu 0))
-    × (next later_line asked_later_log (actors.Cpu (cpu 0)) ≡ Some (entries.Take (cpu 0) ways.Line takes.Handle))
+    × (next later_line asked_later_log (actors.Cpu (cpu 0)) ≡ Some (by.Cpu (cpu 0) (cpus.Take ways.Line takes.Handle)))
     × (next later_line asked_later_log (actors.Cpu (cpu 1)) ≡ None)
 old_target_takes = (refl, refl, refl)
 
 abbrev pub later_log : List Entry
 later_log =
-    entries.Request (driver 1) (dev 1) no_flags links.Linked (opens.Started resends.No) ∷
-    entries.Affinity (driver 1) 2 moves.Later ∷
-    entries.Ask (driver 1) (dev 1) ∷
-    entries.Take (cpu 0) ways.Line takes.Handle ∷
-    entries.Begin (cpu 0) (dev 1) ∷
-    entries.Return (cpu 0) (dev 1) answers.Handled 1 ∷
-    entries.End (cpu 0) false false notes.Quiet ∷
-    entries.Ask (driver 1) (dev 1) ∷
-    entries.Take (cpu 1) ways.Line takes.Handle ∷
-    entries.Begin (cpu 1) (dev 1) ∷
-    entries.Return (cpu 1) (dev 1) answers.Handled 1 ∷
-    entries.End (cpu 1) false false notes.Quiet ∷ []
+    by.Driver (driver 1) (drivers.Request no_flags links.Linked (opens.Started resends.No) (dev 1)) ∷
+    by.Driver (driver 1) (drivers.Affinity moves.Later 2) ∷
+    by.Driver (driver 1) (drivers.Ask true (dev 1)) ∷
+    by.Cpu (cpu 0) (cpus.Take ways.Line takes.Handle) ∷
+    by.Cpu (cpu 0) (cpus.Begin (dev 1)) ∷
+    by.Cpu (cpu 0) (cpus.Return answers.Handled (dev 1) 1) ∷
+    by.Cpu (cpu 0) (cpus.End false false notes.Quiet) ∷
+    by.Driver (driver 1) (drivers.Ask true (dev 1)) ∷
+    by.Cpu (cpu 1) (cpus.Take ways.Line takes.Handle) ∷
+    by.Cpu (cpu 1) (cpus.Begin (dev 1)) ∷
+    by.Cpu (cpu 1) (cpus.Return answers.Handled (dev 1) 1) ∷
+    by.Cpu (cpu 1) (cpus.End false false notes.Quiet) ∷ []
 
 pub later_is_legal : IsLegal later_line later_log
 later_is_legal = (refl, (refl, (refl, (refl, (refl, (refl, (refl, (refl, (refl, (refl, (refl, (refl, tt))))))))))))

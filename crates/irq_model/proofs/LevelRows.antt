@@ -6,7 +6,10 @@ use Rattle.irq_base.specs.declared.devices.Answer.TheVariants as answers
 use Rattle.irq_base.specs.declared.lines.LineDef.{LineDef}
 use Rattle.irq_base.specs.declared.entries.Actor.TheVariants as actors
 use Rattle.irq_base.specs.declared.entries.Entry.{Entry}
-use Rattle.irq_base.specs.declared.entries.Entry.TheVariants as entries
+use Rattle.irq_base.specs.declared.entries.Entry.TheVariants as by
+use Rattle.irq_base.specs.declared.entries.CpuEntry.TheVariants as cpus
+use Rattle.irq_base.specs.declared.entries.DriverEntry.TheVariants as drivers
+use Rattle.irq_base.specs.declared.entries.CallEntry.TheVariants as called
 use Rattle.irq_base.specs.declared.entries.Way.TheVariants as ways
 use Rattle.irq_base.specs.declared.entries.TakeAnswer.TheVariants as takes
 use Rattle.irq_base.specs.declared.entries.Note.TheVariants as notes
@@ -32,22 +35,22 @@ retaken_line = record level {
 
 abbrev pub retaken_log : List Entry
 retaken_log =
-    entries.Request (driver 1) (dev 1) shared links.Linked (opens.Started resends.No) ∷
-    entries.Request (driver 1) (dev 2) shared links.Linked opens.No ∷
-    entries.Ask (driver 1) (dev 2) ∷
-    entries.Take (cpu 0) ways.Line takes.Handle ∷
-    entries.Begin (cpu 0) (dev 1) ∷
-    entries.Return (cpu 0) (dev 1) answers.Nothing 0 ∷
-    entries.Ask (driver 1) (dev 1) ∷
-    entries.Begin (cpu 0) (dev 2) ∷
-    entries.Return (cpu 0) (dev 2) answers.Handled 1 ∷
-    entries.End (cpu 0) false true notes.Quiet ∷
-    entries.Take (cpu 0) ways.Line takes.Handle ∷
-    entries.Begin (cpu 0) (dev 1) ∷
-    entries.Return (cpu 0) (dev 1) answers.Handled 1 ∷
-    entries.Begin (cpu 0) (dev 2) ∷
-    entries.Return (cpu 0) (dev 2) answers.Nothing 0 ∷
-    entries.End (cpu 0) false true notes.Quiet ∷ []
+    by.Driver (driver 1) (drivers.Request shared links.Linked (opens.Started resends.No) (dev 1)) ∷
+    by.Driver (driver 1) (drivers.Request shared links.Linked opens.No (dev 2)) ∷
+    by.Driver (driver 1) (drivers.Ask true (dev 2)) ∷
+    by.Cpu (cpu 0) (cpus.Take ways.Line takes.Handle) ∷
+    by.Cpu (cpu 0) (cpus.Begin (dev 1)) ∷
+    by.Cpu (cpu 0) (cpus.Return answers.Nothing (dev 1) 0) ∷
+    by.Driver (driver 1) (drivers.Ask true (dev 1)) ∷
+    by.Cpu (cpu 0) (cpus.Begin (dev 2)) ∷
+    by.Cpu (cpu 0) (cpus.Return answers.Handled (dev 2) 1) ∷
+    by.Cpu (cpu 0) (cpus.End false true notes.Quiet) ∷
+    by.Cpu (cpu 0) (cpus.Take ways.Line takes.Handle) ∷
+    by.Cpu (cpu 0) (cpus.Begin (dev 1)) ∷
+    by.Cpu (cpu 0) (cpus.Return answers.Handled (dev 1) 1) ∷
+    by.Cpu (cpu 0) (cpus.Begin (dev 2)) ∷
+    by.Cpu (cpu 0) (cpus.Return answers.Nothing (dev 2) 0) ∷
+    by.Cpu (cpu 0) (cpus.End false true notes.Quiet) ∷ []
 
 pub retaken_is_legal : IsLegal retaken_line retaken_log
 retaken_is_legal = (refl, (refl, (refl, (refl, (refl, (refl, (refl, (refl, (refl, (refl, (refl, (refl, (refl, (refl, (refl, (refl, tt))))))))))))))))
@@ -73,39 +76,39 @@ storm_line = record level {
 
 abbrev pub storm_log : List Entry
 storm_log =
-    entries.Request (driver 1) (dev 1) shared links.Linked (opens.Started resends.No) ∷
-    entries.Ask (driver 1) (dev 1) ∷
-    entries.Take (cpu 0) ways.Line takes.Handle ∷
-    entries.Begin (cpu 0) (dev 1) ∷
-    entries.Return (cpu 0) (dev 1) answers.Nothing 0 ∷
-    entries.End (cpu 0) false true notes.Counted ∷
-    entries.Take (cpu 0) ways.Line takes.Handle ∷
-    entries.Begin (cpu 0) (dev 1) ∷
-    entries.Return (cpu 0) (dev 1) answers.Nothing 0 ∷
-    entries.End (cpu 0) false true notes.Counted ∷
-    entries.Take (cpu 0) ways.Line takes.Handle ∷
-    entries.Begin (cpu 0) (dev 1) ∷
-    entries.Return (cpu 0) (dev 1) answers.Nothing 0 ∷
-    entries.End (cpu 0) false false notes.Killed ∷
-    entries.Request (driver 1) (dev 2) shared links.Linked (opens.Started resends.No) ∷
-    entries.Take (cpu 0) ways.Line takes.Handle ∷
-    entries.Begin (cpu 0) (dev 1) ∷
-    entries.Return (cpu 0) (dev 1) answers.Nothing 0 ∷
-    entries.Begin (cpu 0) (dev 2) ∷
-    entries.Return (cpu 0) (dev 2) answers.Nothing 0 ∷
-    entries.End (cpu 0) false true notes.Counted ∷
-    entries.Take (cpu 0) ways.Line takes.Handle ∷
-    entries.Begin (cpu 0) (dev 1) ∷
-    entries.Return (cpu 0) (dev 1) answers.Nothing 0 ∷
-    entries.Begin (cpu 0) (dev 2) ∷
-    entries.Return (cpu 0) (dev 2) answers.Nothing 0 ∷
-    entries.End (cpu 0) false true notes.Counted ∷
-    entries.Take (cpu 0) ways.Line takes.Handle ∷
-    entries.Begin (cpu 0) (dev 1) ∷
-    entries.Return (cpu 0) (dev 1) answers.Nothing 0 ∷
-    entries.Begin (cpu 0) (dev 2) ∷
-    entries.Return (cpu 0) (dev 2) answers.Nothing 0 ∷
-    entries.End (cpu 0) false false notes.Killed ∷ []
+    by.Driver (driver 1) (drivers.Request shared links.Linked (opens.Started resends.No) (dev 1)) ∷
+    by.Driver (driver 1) (drivers.Ask true (dev 1)) ∷
+    by.Cpu (cpu 0) (cpus.Take ways.Line takes.Handle) ∷
+    by.Cpu (cpu 0) (cpus.Begin (dev 1)) ∷
+    by.Cpu (cpu 0) (cpus.Return answers.Nothing (dev 1) 0) ∷
+    by.Cpu (cpu 0) (cpus.End false true notes.Counted) ∷
+    by.Cpu (cpu 0) (cpus.Take ways.Line takes.Handle) ∷
+    by.Cpu (cpu 0) (cpus.Begin (dev 1)) ∷
+    by.Cpu (cpu 0) (cpus.Return answers.Nothing (dev 1) 0) ∷
+    by.Cpu (cpu 0) (cpus.End false true notes.Counted) ∷
+    by.Cpu (cpu 0) (cpus.Take ways.Line takes.Handle) ∷
+    by.Cpu (cpu 0) (cpus.Begin (dev 1)) ∷
+    by.Cpu (cpu 0) (cpus.Return answers.Nothing (dev 1) 0) ∷
+    by.Cpu (cpu 0) (cpus.End false false notes.Killed) ∷
+    by.Driver (driver 1) (drivers.Request shared links.Linked (opens.Started resends.No) (dev 2)) ∷
+    by.Cpu (cpu 0) (cpus.Take ways.Line takes.Handle) ∷
+    by.Cpu (cpu 0) (cpus.Begin (dev 1)) ∷
+    by.Cpu (cpu 0) (cpus.Return answers.Nothing (dev 1) 0) ∷
+    by.Cpu (cpu 0) (cpus.Begin (dev 2)) ∷
+    by.Cpu (cpu 0) (cpus.Return answers.Nothing (dev 2) 0) ∷
+    by.Cpu (cpu 0) (cpus.End false true notes.Counted) ∷
+    by.Cpu (cpu 0) (cpus.Take ways.Line takes.Handle) ∷
+    by.Cpu (cpu 0) (cpus.Begin (dev 1)) ∷
+    by.Cpu (cpu 0) (cpus.Return answers.Nothing (dev 1) 0) ∷
+    by.Cpu (cpu 0) (cpus.Begin (dev 2)) ∷
+    by.Cpu (cpu 0) (cpus.Return answers.Nothing (dev 2) 0) ∷
+    by.Cpu (cpu 0) (cpus.End false true notes.Counted) ∷
+    by.Cpu (cpu 0) (cpus.Take ways.Line takes.Handle) ∷
+    by.Cpu (cpu 0) (cpus.Begin (dev 1)) ∷
+    by.Cpu (cpu 0) (cpus.Return answers.Nothing (dev 1) 0) ∷
+    by.Cpu (cpu 0) (cpus.Begin (dev 2)) ∷
+    by.Cpu (cpu 0) (cpus.Return answers.Nothing (dev 2) 0) ∷
+    by.Cpu (cpu 0) (cpus.End false false notes.Killed) ∷ []
 
 pub storm_is_legal : IsLegal storm_line storm_log
 storm_is_legal = (
@@ -201,22 +204,22 @@ enabled_storm_line = record level {
 
 abbrev pub enabled_storm_log : List Entry
 enabled_storm_log =
-    entries.Request (driver 1) (dev 1) shared links.Linked (opens.Started resends.No) ∷
-    entries.Ask (driver 1) (dev 1) ∷
-    entries.Take (cpu 0) ways.Line takes.Handle ∷
-    entries.Begin (cpu 0) (dev 1) ∷
-    entries.Return (cpu 0) (dev 1) answers.Nothing 0 ∷
-    entries.End (cpu 0) false true notes.Counted ∷
-    entries.Take (cpu 0) ways.Line takes.Handle ∷
-    entries.Begin (cpu 0) (dev 1) ∷
-    entries.Return (cpu 0) (dev 1) answers.Nothing 0 ∷
-    entries.End (cpu 0) false true notes.Counted ∷
-    entries.Take (cpu 0) ways.Line takes.Handle ∷
-    entries.Begin (cpu 0) (dev 1) ∷
-    entries.Return (cpu 0) (dev 1) answers.Nothing 0 ∷
-    entries.End (cpu 0) false false notes.Killed ∷
-    entries.Enable (driver 1) (enables.Started resends.No) ∷
-    entries.Request (driver 1) (dev 2) shared links.Linked opens.Unbalanced ∷ []
+    by.Driver (driver 1) (drivers.Request shared links.Linked (opens.Started resends.No) (dev 1)) ∷
+    by.Driver (driver 1) (drivers.Ask true (dev 1)) ∷
+    by.Cpu (cpu 0) (cpus.Take ways.Line takes.Handle) ∷
+    by.Cpu (cpu 0) (cpus.Begin (dev 1)) ∷
+    by.Cpu (cpu 0) (cpus.Return answers.Nothing (dev 1) 0) ∷
+    by.Cpu (cpu 0) (cpus.End false true notes.Counted) ∷
+    by.Cpu (cpu 0) (cpus.Take ways.Line takes.Handle) ∷
+    by.Cpu (cpu 0) (cpus.Begin (dev 1)) ∷
+    by.Cpu (cpu 0) (cpus.Return answers.Nothing (dev 1) 0) ∷
+    by.Cpu (cpu 0) (cpus.End false true notes.Counted) ∷
+    by.Cpu (cpu 0) (cpus.Take ways.Line takes.Handle) ∷
+    by.Cpu (cpu 0) (cpus.Begin (dev 1)) ∷
+    by.Cpu (cpu 0) (cpus.Return answers.Nothing (dev 1) 0) ∷
+    by.Cpu (cpu 0) (cpus.End false false notes.Killed) ∷
+    by.DriverCall (driver 1) (called.Enable (enables.Started resends.No)) ∷
+    by.Driver (driver 1) (drivers.Request shared links.Linked opens.Unbalanced (dev 2)) ∷ []
 
 pub enabled_storm_is_legal : IsLegal enabled_storm_line enabled_storm_log
 enabled_storm_is_legal = (refl, (refl, (refl, (refl, (refl, (refl, (refl, (refl, (refl, (refl, (refl, (refl, (refl, (refl, (refl, (refl, tt))))))))))))))))
@@ -236,41 +239,41 @@ moment_late_line = record level {
 
 abbrev pub moment_late_log : List Entry
 moment_late_log =
-    entries.Request (driver 1) (dev 1) no_flags links.Linked (opens.Started resends.No) ∷
-    entries.Ask (driver 1) (dev 1) ∷
-    entries.Take (cpu 0) ways.Line takes.Handle ∷
-    entries.Begin (cpu 0) (dev 1) ∷
-    entries.Return (cpu 0) (dev 1) answers.Nothing 0 ∷
-    entries.End (cpu 0) false true notes.Counted ∷
-    entries.Take (cpu 0) ways.Line takes.Handle ∷
-    entries.Begin (cpu 0) (dev 1) ∷
-    entries.Return (cpu 0) (dev 1) answers.Nothing 0 ∷
-    entries.End (cpu 0) false true notes.Counted ∷
-    entries.Moment (driver 1) 101 ∷
-    entries.Take (cpu 0) ways.Line takes.Handle ∷
-    entries.Begin (cpu 0) (dev 1) ∷
-    entries.Return (cpu 0) (dev 1) answers.Nothing 0 ∷
-    entries.End (cpu 0) false true notes.Counted ∷
-    entries.Take (cpu 0) ways.Line takes.Handle ∷
-    entries.Begin (cpu 0) (dev 1) ∷
-    entries.Return (cpu 0) (dev 1) answers.Nothing 0 ∷
-    entries.End (cpu 0) false true notes.Counted ∷
-    entries.Take (cpu 0) ways.Line takes.Handle ∷
-    entries.Begin (cpu 0) (dev 1) ∷
-    entries.Return (cpu 0) (dev 1) answers.Nothing 0 ∷
-    entries.End (cpu 0) false true notes.Counted ∷
-    entries.Take (cpu 0) ways.Line takes.Handle ∷
-    entries.Begin (cpu 0) (dev 1) ∷
-    entries.Return (cpu 0) (dev 1) answers.Nothing 0 ∷
-    entries.End (cpu 0) false true notes.Counted ∷
-    entries.Take (cpu 0) ways.Line takes.Handle ∷
-    entries.Begin (cpu 0) (dev 1) ∷
-    entries.Return (cpu 0) (dev 1) answers.Nothing 0 ∷
-    entries.End (cpu 0) false true notes.Counted ∷
-    entries.Take (cpu 0) ways.Line takes.Handle ∷
-    entries.Begin (cpu 0) (dev 1) ∷
-    entries.Return (cpu 0) (dev 1) answers.Nothing 0 ∷
-    entries.End (cpu 0) false false notes.Killed ∷ []
+    by.Driver (driver 1) (drivers.Request no_flags links.Linked (opens.Started resends.No) (dev 1)) ∷
+    by.Driver (driver 1) (drivers.Ask true (dev 1)) ∷
+    by.Cpu (cpu 0) (cpus.Take ways.Line takes.Handle) ∷
+    by.Cpu (cpu 0) (cpus.Begin (dev 1)) ∷
+    by.Cpu (cpu 0) (cpus.Return answers.Nothing (dev 1) 0) ∷
+    by.Cpu (cpu 0) (cpus.End false true notes.Counted) ∷
+    by.Cpu (cpu 0) (cpus.Take ways.Line takes.Handle) ∷
+    by.Cpu (cpu 0) (cpus.Begin (dev 1)) ∷
+    by.Cpu (cpu 0) (cpus.Return answers.Nothing (dev 1) 0) ∷
+    by.Cpu (cpu 0) (cpus.End false true notes.Counted) ∷
+    by.Driver (driver 1) (drivers.Moment 101) ∷
+    by.Cpu (cpu 0) (cpus.Take ways.Line takes.Handle) ∷
+    by.Cpu (cpu 0) (cpus.Begin (dev 1)) ∷
+    by.Cpu (cpu 0) (cpus.Return answers.Nothing (dev 1) 0) ∷
+    by.Cpu (cpu 0) (cpus.End false true notes.Counted) ∷
+    by.Cpu (cpu 0) (cpus.Take ways.Line takes.Handle) ∷
+    by.Cpu (cpu 0) (cpus.Begin (dev 1)) ∷
+    by.Cpu (cpu 0) (cpus.Return answers.Nothing (dev 1) 0) ∷
+    by.Cpu (cpu 0) (cpus.End false true notes.Counted) ∷
+    by.Cpu (cpu 0) (cpus.Take ways.Line takes.Handle) ∷
+    by.Cpu (cpu 0) (cpus.Begin (dev 1)) ∷
+    by.Cpu (cpu 0) (cpus.Return answers.Nothing (dev 1) 0) ∷
+    by.Cpu (cpu 0) (cpus.End false true notes.Counted) ∷
+    by.Cpu (cpu 0) (cpus.Take ways.Line takes.Handle) ∷
+    by.Cpu (cpu 0) (cpus.Begin (dev 1)) ∷
+    by.Cpu (cpu 0) (cpus.Return answers.Nothing (dev 1) 0) ∷
+    by.Cpu (cpu 0) (cpus.End false true notes.Counted) ∷
+    by.Cpu (cpu 0) (cpus.Take ways.Line takes.Handle) ∷
+    by.Cpu (cpu 0) (cpus.Begin (dev 1)) ∷
+    by.Cpu (cpu 0) (cpus.Return answers.Nothing (dev 1) 0) ∷
+    by.Cpu (cpu 0) (cpus.End false true notes.Counted) ∷
+    by.Cpu (cpu 0) (cpus.Take ways.Line takes.Handle) ∷
+    by.Cpu (cpu 0) (cpus.Begin (dev 1)) ∷
+    by.Cpu (cpu 0) (cpus.Return answers.Nothing (dev 1) 0) ∷
+    by.Cpu (cpu 0) (cpus.End false false notes.Killed) ∷ []
 
 pub moment_late_is_legal : IsLegal moment_late_line moment_late_log
 moment_late_is_legal = (
@@ -382,25 +385,25 @@ moment_soon_line = record level {
 
 abbrev pub moment_soon_log : List Entry
 moment_soon_log =
-    entries.Request (driver 1) (dev 1) no_flags links.Linked (opens.Started resends.No) ∷
-    entries.Ask (driver 1) (dev 1) ∷
-    entries.Take (cpu 0) ways.Line takes.Handle ∷
-    entries.Begin (cpu 0) (dev 1) ∷
-    entries.Return (cpu 0) (dev 1) answers.Nothing 0 ∷
-    entries.End (cpu 0) false true notes.Counted ∷
-    entries.Take (cpu 0) ways.Line takes.Handle ∷
-    entries.Begin (cpu 0) (dev 1) ∷
-    entries.Return (cpu 0) (dev 1) answers.Nothing 0 ∷
-    entries.End (cpu 0) false true notes.Counted ∷
-    entries.Moment (driver 1) 100 ∷
-    entries.Take (cpu 0) ways.Line takes.Handle ∷
-    entries.Begin (cpu 0) (dev 1) ∷
-    entries.Return (cpu 0) (dev 1) answers.Nothing 0 ∷
-    entries.End (cpu 0) false true notes.Counted ∷
-    entries.Take (cpu 0) ways.Line takes.Handle ∷
-    entries.Begin (cpu 0) (dev 1) ∷
-    entries.Return (cpu 0) (dev 1) answers.Nothing 0 ∷
-    entries.End (cpu 0) false false notes.Killed ∷ []
+    by.Driver (driver 1) (drivers.Request no_flags links.Linked (opens.Started resends.No) (dev 1)) ∷
+    by.Driver (driver 1) (drivers.Ask true (dev 1)) ∷
+    by.Cpu (cpu 0) (cpus.Take ways.Line takes.Handle) ∷
+    by.Cpu (cpu 0) (cpus.Begin (dev 1)) ∷
+    by.Cpu (cpu 0) (cpus.Return answers.Nothing (dev 1) 0) ∷
+    by.Cpu (cpu 0) (cpus.End false true notes.Counted) ∷
+    by.Cpu (cpu 0) (cpus.Take ways.Line takes.Handle) ∷
+    by.Cpu (cpu 0) (cpus.Begin (dev 1)) ∷
+    by.Cpu (cpu 0) (cpus.Return answers.Nothing (dev 1) 0) ∷
+    by.Cpu (cpu 0) (cpus.End false true notes.Counted) ∷
+    by.Driver (driver 1) (drivers.Moment 100) ∷
+    by.Cpu (cpu 0) (cpus.Take ways.Line takes.Handle) ∷
+    by.Cpu (cpu 0) (cpus.Begin (dev 1)) ∷
+    by.Cpu (cpu 0) (cpus.Return answers.Nothing (dev 1) 0) ∷
+    by.Cpu (cpu 0) (cpus.End false true notes.Counted) ∷
+    by.Cpu (cpu 0) (cpus.Take ways.Line takes.Handle) ∷
+    by.Cpu (cpu 0) (cpus.Begin (dev 1)) ∷
+    by.Cpu (cpu 0) (cpus.Return answers.Nothing (dev 1) 0) ∷
+    by.Cpu (cpu 0) (cpus.End false false notes.Killed) ∷ []
 
 pub moment_soon_is_legal : IsLegal moment_soon_line moment_soon_log
 moment_soon_is_legal = (

@@ -6,7 +6,11 @@ use Rattle.irq_base.specs.declared.devices.Answer.TheVariants as answers
 use Rattle.irq_base.specs.declared.lines.LineDef.{LineDef}
 use Rattle.irq_base.specs.declared.entries.Actor.TheVariants as actors
 use Rattle.irq_base.specs.declared.entries.Entry.{Entry}
-use Rattle.irq_base.specs.declared.entries.Entry.TheVariants as entries
+use Rattle.irq_base.specs.declared.entries.Entry.TheVariants as by
+use Rattle.irq_base.specs.declared.entries.CpuEntry.TheVariants as cpus
+use Rattle.irq_base.specs.declared.entries.ThreadEntry.TheVariants as threads
+use Rattle.irq_base.specs.declared.entries.DriverEntry.TheVariants as drivers
+use Rattle.irq_base.specs.declared.entries.CallEntry.TheVariants as called
 use Rattle.irq_base.specs.declared.entries.Way.TheVariants as ways
 use Rattle.irq_base.specs.declared.entries.TakeAnswer.TheVariants as takes
 use Rattle.irq_base.specs.declared.entries.Note.TheVariants as notes
@@ -30,23 +34,23 @@ two_threads_line = record level {
 
 abbrev pub two_threads_log : List Entry
 two_threads_log =
-    entries.Request (driver 1) (dev 1) shared_oneshot links.Linked (opens.Started resends.No) ∷
-    entries.Request (driver 1) (dev 2) shared_oneshot links.Linked opens.No ∷
-    entries.Ask (driver 1) (dev 1) ∷
-    entries.Take (cpu 0) ways.Line takes.Handle ∷
-    entries.Begin (cpu 0) (dev 1) ∷
-    entries.Return (cpu 0) (dev 1) answers.Wake 0 ∷
-    entries.ThreadBegin (dev 1) ∷
-    entries.ThreadReturn (dev 1) 1 ∷
-    entries.Begin (cpu 0) (dev 2) ∷
-    entries.Return (cpu 0) (dev 2) answers.Wake 0 ∷
-    entries.ThreadBegin (dev 2) ∷
-    entries.ThreadReturn (dev 2) 0 ∷
-    entries.End (cpu 0) false false notes.Quiet ∷
-    entries.Finish (dev 1) false false ∷
-    entries.Done (dev 1) ∷
-    entries.Finish (dev 2) false true ∷
-    entries.Done (dev 2) ∷ []
+    by.Driver (driver 1) (drivers.Request shared_oneshot links.Linked (opens.Started resends.No) (dev 1)) ∷
+    by.Driver (driver 1) (drivers.Request shared_oneshot links.Linked opens.No (dev 2)) ∷
+    by.Driver (driver 1) (drivers.Ask true (dev 1)) ∷
+    by.Cpu (cpu 0) (cpus.Take ways.Line takes.Handle) ∷
+    by.Cpu (cpu 0) (cpus.Begin (dev 1)) ∷
+    by.Cpu (cpu 0) (cpus.Return answers.Wake (dev 1) 0) ∷
+    by.Thread (dev 1) threads.Begin ∷
+    by.Thread (dev 1) (threads.Return true 1) ∷
+    by.Cpu (cpu 0) (cpus.Begin (dev 2)) ∷
+    by.Cpu (cpu 0) (cpus.Return answers.Wake (dev 2) 0) ∷
+    by.Thread (dev 2) threads.Begin ∷
+    by.Thread (dev 2) (threads.Return false 0) ∷
+    by.Cpu (cpu 0) (cpus.End false false notes.Quiet) ∷
+    by.Thread (dev 1) (threads.Finish false false) ∷
+    by.Thread (dev 1) threads.Done ∷
+    by.Thread (dev 2) (threads.Finish false true) ∷
+    by.Thread (dev 2) threads.Done ∷ []
 
 pub two_threads_is_legal : IsLegal two_threads_line two_threads_log
 two_threads_is_legal = (
@@ -70,26 +74,26 @@ two_threads_is_legal = (
 pub two_threads_is_still :
     (next two_threads_line two_threads_log (actors.Cpu (cpu 0)) ≡ None)
     × (next two_threads_line two_threads_log (actors.Driver (driver 1)) ≡ None)
-    × (next two_threads_line two_threads_log (actors.Thread line (dev 1)) ≡ None)
-    × (next two_threads_line two_threads_log (actors.Thread line (dev 2)) ≡ None)
+    × (next two_threads_line two_threads_log (actors.Thread (dev 1)) ≡ None)
+    × (next two_threads_line two_threads_log (actors.Thread (dev 2)) ≡ None)
 two_threads_is_still = (refl, refl, refl, refl)
 
 -- a finish waits for the flow: after the thread's return nothing is due for it
 abbrev pub waiting_log : List Entry
 waiting_log =
-    entries.Request (driver 1) (dev 1) shared_oneshot links.Linked (opens.Started resends.No) ∷
-    entries.Request (driver 1) (dev 2) shared_oneshot links.Linked opens.No ∷
-    entries.Ask (driver 1) (dev 1) ∷
-    entries.Take (cpu 0) ways.Line takes.Handle ∷
-    entries.Begin (cpu 0) (dev 1) ∷
-    entries.Return (cpu 0) (dev 1) answers.Wake 0 ∷
-    entries.ThreadBegin (dev 1) ∷
-    entries.ThreadReturn (dev 1) 1 ∷ []
+    by.Driver (driver 1) (drivers.Request shared_oneshot links.Linked (opens.Started resends.No) (dev 1)) ∷
+    by.Driver (driver 1) (drivers.Request shared_oneshot links.Linked opens.No (dev 2)) ∷
+    by.Driver (driver 1) (drivers.Ask true (dev 1)) ∷
+    by.Cpu (cpu 0) (cpus.Take ways.Line takes.Handle) ∷
+    by.Cpu (cpu 0) (cpus.Begin (dev 1)) ∷
+    by.Cpu (cpu 0) (cpus.Return answers.Wake (dev 1) 0) ∷
+    by.Thread (dev 1) threads.Begin ∷
+    by.Thread (dev 1) (threads.Return true 1) ∷ []
 
 pub waiting_is_legal : IsLegal two_threads_line waiting_log
 waiting_is_legal = (refl, (refl, (refl, (refl, (refl, (refl, (refl, (refl, tt))))))))
 
-pub finish_waits : next two_threads_line waiting_log (actors.Thread line (dev 1)) ≡ None
+pub finish_waits : next two_threads_line waiting_log (actors.Thread (dev 1)) ≡ None
 finish_waits = refl
 
 -- A thread that is woken while it runs keeps its bit, and runs once more.
@@ -104,25 +108,25 @@ woken_again_line = record latch {
 
 abbrev pub woken_again_log : List Entry
 woken_again_log =
-    entries.Request (driver 1) (dev 1) oneshot links.Linked (opens.Started resends.No) ∷
-    entries.Ask (driver 1) (dev 1) ∷
-    entries.Take (cpu 0) ways.Line takes.Handle ∷
-    entries.Begin (cpu 0) (dev 1) ∷
-    entries.Return (cpu 0) (dev 1) answers.Wake 0 ∷
-    entries.End (cpu 0) false false notes.Quiet ∷
-    entries.ThreadBegin (dev 1) ∷
-    entries.Ask (driver 1) (dev 1) ∷
-    entries.Take (cpu 0) ways.Line takes.Handle ∷
-    entries.Begin (cpu 0) (dev 1) ∷
-    entries.Return (cpu 0) (dev 1) answers.Wake 0 ∷
-    entries.End (cpu 0) false false notes.Counted ∷
-    entries.ThreadReturn (dev 1) 1 ∷
-    entries.Finish (dev 1) true false ∷
-    entries.Done (dev 1) ∷
-    entries.ThreadBegin (dev 1) ∷
-    entries.ThreadReturn (dev 1) 1 ∷
-    entries.Finish (dev 1) false false ∷
-    entries.Done (dev 1) ∷ []
+    by.Driver (driver 1) (drivers.Request oneshot links.Linked (opens.Started resends.No) (dev 1)) ∷
+    by.Driver (driver 1) (drivers.Ask true (dev 1)) ∷
+    by.Cpu (cpu 0) (cpus.Take ways.Line takes.Handle) ∷
+    by.Cpu (cpu 0) (cpus.Begin (dev 1)) ∷
+    by.Cpu (cpu 0) (cpus.Return answers.Wake (dev 1) 0) ∷
+    by.Cpu (cpu 0) (cpus.End false false notes.Quiet) ∷
+    by.Thread (dev 1) threads.Begin ∷
+    by.Driver (driver 1) (drivers.Ask true (dev 1)) ∷
+    by.Cpu (cpu 0) (cpus.Take ways.Line takes.Handle) ∷
+    by.Cpu (cpu 0) (cpus.Begin (dev 1)) ∷
+    by.Cpu (cpu 0) (cpus.Return answers.Wake (dev 1) 0) ∷
+    by.Cpu (cpu 0) (cpus.End false false notes.Counted) ∷
+    by.Thread (dev 1) (threads.Return true 1) ∷
+    by.Thread (dev 1) (threads.Finish true false) ∷
+    by.Thread (dev 1) threads.Done ∷
+    by.Thread (dev 1) threads.Begin ∷
+    by.Thread (dev 1) (threads.Return true 1) ∷
+    by.Thread (dev 1) (threads.Finish false false) ∷
+    by.Thread (dev 1) threads.Done ∷ []
 
 pub woken_again_is_legal : IsLegal woken_again_line woken_again_log
 woken_again_is_legal = (
@@ -170,7 +174,7 @@ woken_again_is_legal = (
 pub woken_again_is_still :
     (next woken_again_line woken_again_log (actors.Cpu (cpu 0)) ≡ None)
     × (next woken_again_line woken_again_log (actors.Driver (driver 1)) ≡ None)
-    × (next woken_again_line woken_again_log (actors.Thread line (dev 1)) ≡ None)
+    × (next woken_again_line woken_again_log (actors.Thread (dev 1)) ≡ None)
 woken_again_is_still = (refl, refl, refl)
 
 -- An enable opens a level line over a one-shot thread that runs.
@@ -186,26 +190,26 @@ enabled_thread_line = record level {
 
 abbrev pub enabled_thread_log : List Entry
 enabled_thread_log =
-    entries.Request (driver 1) (dev 1) oneshot links.Linked (opens.Started resends.No) ∷
-    entries.Ask (driver 1) (dev 1) ∷
-    entries.Take (cpu 0) ways.Line takes.Handle ∷
-    entries.Begin (cpu 0) (dev 1) ∷
-    entries.Return (cpu 0) (dev 1) answers.Wake 0 ∷
-    entries.End (cpu 0) false false notes.Quiet ∷
-    entries.ThreadBegin (dev 1) ∷
-    entries.Disable (driver 1) ∷
-    entries.Enable (driver 1) (enables.Started resends.No) ∷
-    entries.Take (cpu 0) ways.Line takes.Handle ∷
-    entries.Begin (cpu 0) (dev 1) ∷
-    entries.Return (cpu 0) (dev 1) answers.Wake 0 ∷
-    entries.End (cpu 0) false false notes.Counted ∷
-    entries.ThreadReturn (dev 1) 1 ∷
-    entries.Finish (dev 1) true false ∷
-    entries.Done (dev 1) ∷
-    entries.ThreadBegin (dev 1) ∷
-    entries.ThreadReturn (dev 1) 0 ∷
-    entries.Finish (dev 1) false true ∷
-    entries.Done (dev 1) ∷ []
+    by.Driver (driver 1) (drivers.Request oneshot links.Linked (opens.Started resends.No) (dev 1)) ∷
+    by.Driver (driver 1) (drivers.Ask true (dev 1)) ∷
+    by.Cpu (cpu 0) (cpus.Take ways.Line takes.Handle) ∷
+    by.Cpu (cpu 0) (cpus.Begin (dev 1)) ∷
+    by.Cpu (cpu 0) (cpus.Return answers.Wake (dev 1) 0) ∷
+    by.Cpu (cpu 0) (cpus.End false false notes.Quiet) ∷
+    by.Thread (dev 1) threads.Begin ∷
+    by.DriverCall (driver 1) called.Disable ∷
+    by.DriverCall (driver 1) (called.Enable (enables.Started resends.No)) ∷
+    by.Cpu (cpu 0) (cpus.Take ways.Line takes.Handle) ∷
+    by.Cpu (cpu 0) (cpus.Begin (dev 1)) ∷
+    by.Cpu (cpu 0) (cpus.Return answers.Wake (dev 1) 0) ∷
+    by.Cpu (cpu 0) (cpus.End false false notes.Counted) ∷
+    by.Thread (dev 1) (threads.Return true 1) ∷
+    by.Thread (dev 1) (threads.Finish true false) ∷
+    by.Thread (dev 1) threads.Done ∷
+    by.Thread (dev 1) threads.Begin ∷
+    by.Thread (dev 1) (threads.Return false 0) ∷
+    by.Thread (dev 1) (threads.Finish false true) ∷
+    by.Thread (dev 1) threads.Done ∷ []
 
 pub enabled_thread_is_legal : IsLegal enabled_thread_line enabled_thread_log
 enabled_thread_is_legal = (
@@ -253,7 +257,7 @@ enabled_thread_is_legal = (
 pub enabled_thread_is_still :
     (next enabled_thread_line enabled_thread_log (actors.Cpu (cpu 0)) ≡ None)
     × (next enabled_thread_line enabled_thread_log (actors.Driver (driver 1)) ≡ None)
-    × (next enabled_thread_line enabled_thread_log (actors.Thread line (dev 1)) ≡ None)
+    × (next enabled_thread_line enabled_thread_log (actors.Thread (dev 1)) ≡ None)
 enabled_thread_is_still = (refl, refl, refl)
 
 -- One-shot with the fast-EOI flow: the take masks the line, and the thread's finish opens it. An
@@ -269,25 +273,25 @@ eoi_thread_line = record eoi {
 
 abbrev pub eoi_thread_log : List Entry
 eoi_thread_log =
-    entries.Request (driver 1) (dev 1) oneshot links.Linked (opens.Started resends.No) ∷
-    entries.Ask (driver 1) (dev 1) ∷
-    entries.Take (cpu 0) ways.Line takes.Handle ∷
-    entries.Begin (cpu 0) (dev 1) ∷
-    entries.Return (cpu 0) (dev 1) answers.Wake 0 ∷
-    entries.End (cpu 0) false false notes.Quiet ∷
-    entries.ThreadBegin (dev 1) ∷
-    entries.Ask (driver 1) (dev 1) ∷
-    entries.ThreadReturn (dev 1) 1 ∷
-    entries.Finish (dev 1) false true ∷
-    entries.Done (dev 1) ∷
-    entries.Take (cpu 0) ways.Line takes.Handle ∷
-    entries.Begin (cpu 0) (dev 1) ∷
-    entries.Return (cpu 0) (dev 1) answers.Wake 0 ∷
-    entries.End (cpu 0) false false notes.Quiet ∷
-    entries.ThreadBegin (dev 1) ∷
-    entries.ThreadReturn (dev 1) 1 ∷
-    entries.Finish (dev 1) false true ∷
-    entries.Done (dev 1) ∷ []
+    by.Driver (driver 1) (drivers.Request oneshot links.Linked (opens.Started resends.No) (dev 1)) ∷
+    by.Driver (driver 1) (drivers.Ask true (dev 1)) ∷
+    by.Cpu (cpu 0) (cpus.Take ways.Line takes.Handle) ∷
+    by.Cpu (cpu 0) (cpus.Begin (dev 1)) ∷
+    by.Cpu (cpu 0) (cpus.Return answers.Wake (dev 1) 0) ∷
+    by.Cpu (cpu 0) (cpus.End false false notes.Quiet) ∷
+    by.Thread (dev 1) threads.Begin ∷
+    by.Driver (driver 1) (drivers.Ask true (dev 1)) ∷
+    by.Thread (dev 1) (threads.Return true 1) ∷
+    by.Thread (dev 1) (threads.Finish false true) ∷
+    by.Thread (dev 1) threads.Done ∷
+    by.Cpu (cpu 0) (cpus.Take ways.Line takes.Handle) ∷
+    by.Cpu (cpu 0) (cpus.Begin (dev 1)) ∷
+    by.Cpu (cpu 0) (cpus.Return answers.Wake (dev 1) 0) ∷
+    by.Cpu (cpu 0) (cpus.End false false notes.Quiet) ∷
+    by.Thread (dev 1) threads.Begin ∷
+    by.Thread (dev 1) (threads.Return true 1) ∷
+    by.Thread (dev 1) (threads.Finish false true) ∷
+    by.Thread (dev 1) threads.Done ∷ []
 
 pub eoi_thread_is_legal : IsLegal eoi_thread_line eoi_thread_log
 eoi_thread_is_legal = (
@@ -335,5 +339,5 @@ eoi_thread_is_legal = (
 pub eoi_thread_is_still :
     (next eoi_thread_line eoi_thread_log (actors.Cpu (cpu 0)) ≡ None)
     × (next eoi_thread_line eoi_thread_log (actors.Driver (driver 1)) ≡ None)
-    × (next eoi_thread_line eoi_thread_log (actors.Thread line (dev 1)) ≡ None)
+    × (next eoi_thread_line eoi_thread_log (actors.Thread (dev 1)) ≡ None)
 eoi_thread_is_still = (refl, refl, refl)

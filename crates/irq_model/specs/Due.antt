@@ -1,17 +1,20 @@
 -- A driver's entries, laid beside its calls on the line in order, and the request mutex
 -- (`desc->request_mutex`).
 use Rattle.std.specs.Prelude.{ℕ, Bool, true, false, not, if◌then◌else◌, Option, Some, None, List}
-use Rattle.std.specs.Prelude.{[], ◌∷◌, nat_lt, length, drop, filter, reverse}
+use Rattle.std.specs.Prelude.{[], ◌∷◌, ◌&&◌, nat_lt, length, drop, filter, reverse}
 use Rattle.std.specs.List.{list_any}
 use Rattle.irq_base.specs.declared.numbers.DriverNo.{DriverNo}
 use Rattle.irq_base.specs.declared.calls.Call.{Call}
 use Rattle.irq_base.specs.declared.calls.Call.TheVariants as calls
 use Rattle.irq_base.specs.declared.lines.LineDef.{LineDef}
 use Rattle.irq_base.specs.declared.entries.Entry.{Entry}
-use Rattle.irq_base.specs.declared.entries.Entry.TheVariants as entries
+use Rattle.irq_base.specs.declared.entries.Entry.TheVariants as by
+use Rattle.irq_base.specs.declared.entries.CallEntry.{CallEntry}
+use Rattle.irq_base.specs.declared.entries.CallEntry.TheVariants as called
 use Rattle.irq_base.specs.declared.entries.UnlinkAnswer.TheVariants as unlinks
+use Rattle.irq_base.specs.Who.{actor_of}
 use Rattle.irq_model.specs.Places.{some_place}
-use Rattle.irq_model.specs.Kinds.{same_driver, is_by_driver, is_freed_by}
+use Rattle.irq_model.specs.Kinds.{is_call, is_unlink, same_driver, is_by_driver, is_freed_by}
 
 abbrev pub calls_by : DriverNo → List (DriverNo × Call) → List Call
 calls_by r [] = []
@@ -21,10 +24,14 @@ calls_by r (c ∷ cs) = if same_driver r c.0 then (c.1 ∷ calls_by r cs) else c
 abbrev pub entries_by : DriverNo → List Entry → List Entry
 entries_by r past = reverse (filter (is_by_driver r) past)
 
+abbrev pub finds_nothing : CallEntry → Bool
+finds_nothing (called.Unlink unlinks.NotThere dev) = true
+finds_nothing _ = false
+
 -- the first entry of a free that found nothing to free
 abbrev pub begins_not_there : List Entry → Bool
-begins_not_there (entries.Unlink driver dev unlinks.NotThere ∷ es) = true
-begins_not_there _ = false
+begins_not_there [] = false
+begins_not_there (e ∷ es) = is_call finds_nothing e
 
 -- how many entries a call makes, given the driver's entries from the call's first one on
 abbrev pub entries_of_call : Call → List Entry → ℕ
@@ -48,13 +55,13 @@ due_of (c ∷ cs) es =
 abbrev pub due_call : LineDef → DriverNo → List Entry → Option (Call × ℕ)
 due_call def r past = due_of (calls_by r def.calls) (entries_by r past)
 
--- the newest entry of `upto` unlinked a device, and its driver's free isn't complete
+-- the newest entry of `upto` unlinked a device, and the free that it began isn't complete
 abbrev pub is_being_freed_at : List Entry → List Entry → Bool
-is_being_freed_at after (entries.Unlink driver dev (unlinks.Unlinked last) ∷ past) =
-    not (list_any (is_freed_by driver) after)
-is_being_freed_at after _ = false
+is_being_freed_at after [] = false
+is_being_freed_at after (e ∷ past) =
+    is_unlink e && not (list_any (is_freed_by (actor_of e)) after)
 
--- the request mutex is held from an unlink until the same driver has completed the free: until then
+-- the request mutex is held from an unlink until its maker has completed the free: until then
 -- the device's thread may run, and no request may be given the thread's bit
 abbrev pub holds_mutex : List Entry → Bool
 holds_mutex past = some_place is_being_freed_at past

@@ -9,7 +9,12 @@ use Rattle.irq_base.specs.declared.devices.Answer.TheVariants as answers
 use Rattle.irq_base.specs.declared.entries.Actor.{Actor}
 use Rattle.irq_base.specs.declared.entries.Actor.TheVariants as actors
 use Rattle.irq_base.specs.declared.entries.Entry.{Entry}
-use Rattle.irq_base.specs.declared.entries.Entry.TheVariants as entries
+use Rattle.irq_base.specs.declared.entries.Entry.TheVariants as by
+use Rattle.irq_base.specs.declared.entries.CpuEntry.TheVariants as cpus
+use Rattle.irq_base.specs.declared.entries.ThreadEntry.TheVariants as threads
+use Rattle.irq_base.specs.declared.entries.DriverEntry.TheVariants as drivers
+use Rattle.irq_base.specs.declared.entries.CallEntry.{CallEntry}
+use Rattle.irq_base.specs.declared.entries.CallEntry.TheVariants as called
 use Rattle.irq_base.specs.declared.entries.Way.TheVariants as ways
 use Rattle.irq_base.specs.declared.entries.TakeAnswer.TheVariants as takes
 use Rattle.irq_base.specs.declared.entries.Note.TheVariants as notes
@@ -36,28 +41,42 @@ same_dev a b = a.0 == b.0
 abbrev pub same_driver : DriverNo → DriverNo → Bool
 same_driver a b = a.0 == b.0
 
+-- ---- calls, whoever makes them
+
+-- the step of a call passes the test
+abbrev pub is_call : (CallEntry → Bool) → Entry → Bool
+is_call test (by.CpuCall cpu call) = test call
+is_call test (by.ThreadCall dev call) = test call
+is_call test (by.DriverCall driver call) = test call
+is_call test _ = false
+
 -- ---- asks and runs
 
 abbrev pub is_any_ask : Entry → Bool
-is_any_ask (entries.Ask driver dev) = true
+is_any_ask (by.Driver driver (drivers.Ask edge dev)) = true
 is_any_ask _ = false
 
+-- the device makes an edge, if the line is an edge line
+abbrev pub is_device_edge : Entry → Bool
+is_device_edge (by.Driver driver (drivers.Ask edge dev)) = edge
+is_device_edge _ = false
+
 abbrev pub is_ask : DevNo → Entry → Bool
-is_ask d (entries.Ask driver dev) = same_dev d dev
+is_ask d (by.Driver driver (drivers.Ask edge dev)) = same_dev d dev
 is_ask d _ = false
 
 abbrev pub is_begin : DevNo → Entry → Bool
-is_begin d (entries.Begin cpu dev) = same_dev d dev
+is_begin d (by.Cpu cpu (cpus.Begin dev)) = same_dev d dev
 is_begin d _ = false
 
 abbrev pub is_return : DevNo → Entry → Bool
-is_return d (entries.Return cpu dev answer served) = same_dev d dev
+is_return d (by.Cpu cpu (cpus.Return answer dev served)) = same_dev d dev
 is_return d _ = false
 
 -- a handler begins, or returns
 abbrev pub is_begin_or_return : Entry → Bool
-is_begin_or_return (entries.Begin cpu dev) = true
-is_begin_or_return (entries.Return cpu dev answer served) = true
+is_begin_or_return (by.Cpu cpu (cpus.Begin dev)) = true
+is_begin_or_return (by.Cpu cpu (cpus.Return answer dev served)) = true
 is_begin_or_return _ = false
 
 abbrev pub is_wake : Answer → Bool
@@ -70,83 +89,83 @@ is_handled _ = false
 
 -- a return that answers Wake, or Handled, of any device
 abbrev pub returns_wake : Entry → Bool
-returns_wake (entries.Return cpu dev answer served) = is_wake answer
+returns_wake (by.Cpu cpu (cpus.Return answer dev served)) = is_wake answer
 returns_wake _ = false
 
 abbrev pub returns_handled : Entry → Bool
-returns_handled (entries.Return cpu dev answer served) = is_handled answer
+returns_handled (by.Cpu cpu (cpus.Return answer dev served)) = is_handled answer
 returns_handled _ = false
 
 -- the return of d wakes its thread
 abbrev pub wakes : DevNo → Entry → Bool
-wakes d (entries.Return cpu dev answer served) = same_dev d dev && is_wake answer
+wakes d (by.Cpu cpu (cpus.Return answer dev served)) = same_dev d dev && is_wake answer
 wakes d _ = false
 
 abbrev pub is_thread_begin : DevNo → Entry → Bool
-is_thread_begin d (entries.ThreadBegin dev) = same_dev d dev
+is_thread_begin d (by.Thread dev threads.Begin) = same_dev d dev
 is_thread_begin d _ = false
 
 abbrev pub is_thread_return : DevNo → Entry → Bool
-is_thread_return d (entries.ThreadReturn dev served) = same_dev d dev
+is_thread_return d (by.Thread dev (threads.Return handled served)) = same_dev d dev
 is_thread_return d _ = false
 
 abbrev pub is_finish : DevNo → Entry → Bool
-is_finish d (entries.Finish dev kept unmask) = same_dev d dev
+is_finish d (by.Thread dev (threads.Finish kept unmask)) = same_dev d dev
 is_finish d _ = false
 
 -- a finish that gives the thread's bit up
 abbrev pub is_cleared_finish : DevNo → Entry → Bool
-is_cleared_finish d (entries.Finish dev false unmask) = same_dev d dev
+is_cleared_finish d (by.Thread dev (threads.Finish false unmask)) = same_dev d dev
 is_cleared_finish d _ = false
 
 abbrev pub is_done : DevNo → Entry → Bool
-is_done d (entries.Done dev) = same_dev d dev
+is_done d (by.Thread dev threads.Done) = same_dev d dev
 is_done d _ = false
 
 -- ---- takes and ends
 
 abbrev pub is_take : Entry → Bool
-is_take (entries.Take cpu way answer) = true
+is_take (by.Cpu cpu (cpus.Take way answer)) = true
 is_take _ = false
 
 abbrev pub is_line_take : Entry → Bool
-is_line_take (entries.Take cpu ways.Line answer) = true
+is_line_take (by.Cpu cpu (cpus.Take ways.Line answer)) = true
 is_line_take _ = false
 
 abbrev pub is_resend_take : Entry → Bool
-is_resend_take (entries.Take cpu ways.Resend answer) = true
+is_resend_take (by.Cpu cpu (cpus.Take ways.Resend answer)) = true
 is_resend_take _ = false
 
 abbrev pub is_handle : Entry → Bool
-is_handle (entries.Take cpu way takes.Handle) = true
+is_handle (by.Cpu cpu (cpus.Take way takes.Handle)) = true
 is_handle _ = false
 
 abbrev pub is_busy : Entry → Bool
-is_busy (entries.Take cpu way takes.Busy) = true
+is_busy (by.Cpu cpu (cpus.Take way takes.Busy)) = true
 is_busy _ = false
 
 abbrev pub is_off : Entry → Bool
-is_off (entries.Take cpu way takes.Off) = true
+is_off (by.Cpu cpu (cpus.Take way takes.Off)) = true
 is_off _ = false
 
 -- an end that says `again`: an interrupt that came meanwhile is handled too
 abbrev pub is_again : Entry → Bool
-is_again (entries.End cpu again unmask note) = again
+is_again (by.Cpu cpu (cpus.End again unmask note)) = again
 is_again _ = false
 
 abbrev pub is_leave : Entry → Bool
-is_leave (entries.End cpu false unmask note) = true
+is_leave (by.Cpu cpu (cpus.End false unmask note)) = true
 is_leave _ = false
 
 -- an end whose note disables the line
 abbrev pub is_kill : Entry → Bool
-is_kill (entries.End cpu again unmask notes.Killed) = true
+is_kill (by.Cpu cpu (cpus.End again unmask notes.Killed)) = true
 is_kill _ = false
 
 -- an end or a finish that unmasks
 abbrev pub is_reopening : Entry → Bool
-is_reopening (entries.End cpu again unmask note) = unmask
-is_reopening (entries.Finish dev kept unmask) = unmask
+is_reopening (by.Cpu cpu (cpus.End again unmask note)) = unmask
+is_reopening (by.Thread dev (threads.Finish kept unmask)) = unmask
 is_reopening _ = false
 
 -- ---- links
@@ -157,12 +176,12 @@ is_linked_answer _ = false
 
 -- a request that was linked
 abbrev pub is_linked_request : Entry → Bool
-is_linked_request (entries.Request driver dev flags answer opened) = is_linked_answer answer
+is_linked_request (by.Driver driver (drivers.Request flags answer opened dev)) = is_linked_answer answer
 is_linked_request _ = false
 
 -- the request of d was linked
 abbrev pub links_dev : DevNo → Entry → Bool
-links_dev d (entries.Request driver dev flags answer opened) =
+links_dev d (by.Driver driver (drivers.Request flags answer opened dev)) =
     same_dev d dev && is_linked_answer answer
 links_dev d _ = false
 
@@ -170,18 +189,36 @@ abbrev pub is_unlinked_answer : UnlinkAnswer → Bool
 is_unlinked_answer (unlinks.Unlinked last) = true
 is_unlinked_answer _ = false
 
+-- the first step of a free, of whatever device, that found it linked
+abbrev pub unlinks_one : CallEntry → Bool
+unlinks_one (called.Unlink answer dev) = is_unlinked_answer answer
+unlinks_one _ = false
+
+abbrev pub is_unlink : Entry → Bool
+is_unlink e = is_call unlinks_one e
+
+abbrev pub unlinks_this : DevNo → CallEntry → Bool
+unlinks_this d (called.Unlink answer dev) = same_dev d dev && is_unlinked_answer answer
+unlinks_this d _ = false
+
 abbrev pub unlinks_dev : DevNo → Entry → Bool
-unlinks_dev d (entries.Unlink driver dev answer) = same_dev d dev && is_unlinked_answer answer
-unlinks_dev d _ = false
+unlinks_dev d e = is_call (unlinks_this d) e
+
+abbrev pub unlinks_last : CallEntry → Bool
+unlinks_last (called.Unlink (unlinks.Unlinked last) dev) = last
+unlinks_last _ = false
 
 -- an unlink that left nothing linked
 abbrev pub is_last_unlink : Entry → Bool
-is_last_unlink (entries.Unlink driver dev (unlinks.Unlinked last)) = last
-is_last_unlink _ = false
+is_last_unlink e = is_call unlinks_last e
 
+abbrev pub frees : DevNo → CallEntry → Bool
+frees d (called.Freed dev) = same_dev d dev
+frees d _ = false
+
+-- the last step of a free of d
 abbrev pub is_freed : DevNo → Entry → Bool
-is_freed d (entries.Freed driver dev) = same_dev d dev
-is_freed d _ = false
+is_freed d e = is_call (frees d) e
 
 -- ---- starts
 
@@ -190,10 +227,16 @@ opened_by_enable enables.Unbalanced = opens.Unbalanced
 opened_by_enable enables.Lowered = opens.Lowered
 opened_by_enable (enables.Started resend) = opens.Started resend
 
+abbrev pub opened_by_call : CallEntry → Opened
+opened_by_call (called.Enable answer) = opened_by_enable answer
+opened_by_call _ = opens.No
+
 -- what an enable, or the enable within a request, made of the depth
 abbrev pub opened_of : Entry → Opened
-opened_of (entries.Enable driver answer) = opened_by_enable answer
-opened_of (entries.Request driver dev flags answer opened) = opened
+opened_of (by.CpuCall cpu call) = opened_by_call call
+opened_of (by.ThreadCall dev call) = opened_by_call call
+opened_of (by.DriverCall driver call) = opened_by_call call
+opened_of (by.Driver driver (drivers.Request flags answer opened dev)) = opened
 opened_of _ = opens.No
 
 abbrev pub is_started_opened : Opened → Bool
@@ -225,19 +268,39 @@ is_chip_start e = is_chip_opened (opened_of e)
 abbrev pub is_soft_start : Entry → Bool
 is_soft_start e = is_soft_opened (opened_of e)
 
--- ---- drivers
+-- ---- disables and waits
+
+abbrev pub disables : CallEntry → Bool
+disables called.Disable = true
+disables _ = false
 
 abbrev pub is_disable : Entry → Bool
-is_disable (entries.Disable driver) = true
-is_disable _ = false
+is_disable e = is_call disables e
+
+abbrev pub clears : CallEntry → Bool
+clears called.HardClear = true
+clears _ = false
 
 abbrev pub is_hard_clear : Entry → Bool
-is_hard_clear (entries.HardClear driver) = true
-is_hard_clear _ = false
+is_hard_clear e = is_call clears e
+
+abbrev pub syncs : CallEntry → Bool
+syncs called.Synced = true
+syncs _ = false
 
 abbrev pub is_synced : Entry → Bool
-is_synced (entries.Synced driver) = true
-is_synced _ = false
+is_synced e = is_call syncs e
+
+-- ---- makers
+
+abbrev pub same_actor : Actor → Actor → Bool
+same_actor (actors.Thread d) (actors.Thread e) = same_dev d e
+same_actor (actors.Cpu c) (actors.Cpu e) = same_cpu c e
+same_actor (actors.Driver r) (actors.Driver s) = same_driver r s
+same_actor _ _ = false
+
+abbrev pub is_by : Actor → Entry → Bool
+is_by a e = same_actor a (actor_of e)
 
 abbrev pub is_driver : DriverNo → Actor → Bool
 is_driver r (actors.Driver s) = same_driver r s
@@ -245,12 +308,15 @@ is_driver r _ = false
 
 -- the driver made the entry
 abbrev pub is_by_driver : DriverNo → Entry → Bool
-is_by_driver r e = is_driver r (actor_of (record { 0 = 0 }) e)
+is_by_driver r e = is_driver r (actor_of e)
 
-abbrev pub unlinks_by : DriverNo → Entry → Bool
-unlinks_by r (entries.Unlink driver dev answer) = same_driver r driver && is_unlinked_answer answer
-unlinks_by r _ = false
+abbrev pub unlinks_by : Actor → Entry → Bool
+unlinks_by a e = is_by a e && is_unlink e
 
-abbrev pub is_freed_by : DriverNo → Entry → Bool
-is_freed_by r (entries.Freed driver dev) = same_driver r driver
-is_freed_by r _ = false
+abbrev pub ends_free : CallEntry → Bool
+ends_free (called.Freed dev) = true
+ends_free _ = false
+
+-- the last step of a free, of whatever device, by that actor
+abbrev pub is_freed_by : Actor → Entry → Bool
+is_freed_by a e = is_by a e && is_call ends_free e

@@ -6,11 +6,12 @@ use Rattle.irq_base.specs.declared.numbers.DevNo.{DevNo}
 use Rattle.irq_base.specs.declared.lines.LineDef.{LineDef}
 use Rattle.irq_base.specs.declared.entries.Actor.TheVariants as actors
 use Rattle.irq_base.specs.declared.entries.Entry.{Entry}
-use Rattle.irq_base.specs.declared.entries.Entry.TheVariants as entries
+use Rattle.irq_base.specs.declared.entries.Entry.TheVariants as by
+use Rattle.irq_base.specs.declared.entries.CpuEntry.TheVariants as cpus
 use Rattle.irq_base.specs.declared.entries.TakeAnswer.TheVariants as takes
 use Rattle.irq_base.specs.declared.entries.Way.{Way}
 use Rattle.irq_model.specs.Places.{EachEntry, stands, count_of}
-use Rattle.irq_model.specs.Kinds.{is_any_ask, is_begin, is_return, is_thread_begin}
+use Rattle.irq_model.specs.Kinds.{is_device_edge, is_begin, is_return, is_thread_begin}
 use Rattle.irq_model.specs.Kinds.{is_thread_return, is_finish, is_done, is_freed, links_dev}
 use Rattle.irq_model.specs.Kinds.{is_reopening, is_line_take, is_resend_take, is_chip_start}
 use Rattle.irq_model.specs.Kinds.{is_soft_start, is_again, is_hard_clear, is_synced}
@@ -54,7 +55,7 @@ KeepsOneshot def h =
 -- takes are counted: an edge line takes no more interrupts than came
 pub record TakesAreCounted (def : LineDef) (h : List Entry) : Type 0 where
   pub line : is_edge_line def ≡ true → count_of is_line_take (reverse h)
-      ≤ count_of is_any_ask (reverse h) + count_of is_chip_start (reverse h) + count_of
+      ≤ count_of is_device_edge (reverse h) + count_of is_chip_start (reverse h) + count_of
       (λ e. is_eoi_flow def.flow && is_again e) (reverse h)
   pub resend : is_edge_line def ≡ true
       → count_of is_resend_take (reverse h) ≤ count_of is_soft_start (reverse h)
@@ -70,7 +71,7 @@ IsSynchronised def h =
 -- the entry that is due of the target is a take that is handled
 abbrev pub IsHandledNext : LineDef → List Entry → Type 0
 IsHandledNext def h = (c : CpuNo) × (way : Way) × (target def (reverse h) ≡ Some c)
-    × (next def h (actors.Cpu c) ≡ Some (entries.Take c way takes.Handle))
+    × (next def h (actors.Cpu c) ≡ Some (by.Cpu c (cpus.Take way takes.Handle)))
 
 -- served when idle: on an enabled line without a flow, what is owed, or high with no thread
 -- unfinished, is handled next

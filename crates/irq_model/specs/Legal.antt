@@ -8,7 +8,7 @@ use Rattle.irq_model.specs.Next.{next_past}
 
 -- the entry is due of its actor after the entries before it
 abbrev pub IsDue : LineDef → Entry → List Entry → Type 0
-IsDue def e past = next_past def past (actor_of def.line e) ≡ Some e
+IsDue def e past = next_past def past (actor_of e) ≡ Some e
 
 abbrev pub IsLegalPast : LineDef → List Entry → Type 0
 IsLegalPast def past = EachEntry (IsDue def) past

@@ -1,5 +1,6 @@
 -- What is fixed of a line, read off its definition.
 use Rattle.std.specs.Prelude.{ℕ, Bool, true, false, ◌&&◌, ◌==◌, if◌then◌else◌, not, List, [], ◌∷◌}
+use Rattle.std.specs.List.{list_any}
 use Rattle.std.specs.Int.{bit_at}
 use Rattle.irq_base.specs.declared.numbers.DevNo.{DevNo}
 use Rattle.irq_base.specs.declared.devices.Kind.{Kind}
@@ -35,6 +36,9 @@ serves def = is_level_line def && is_eoi_flow def.flow
 
 abbrev pub is_device : DevNo → DeviceDef → Bool
 is_device d x = same_dev d x.dev
+
+abbrev pub has_device : LineDef → DevNo → Bool
+has_device def d = list_any (is_device d) def.devices
 
 -- the kind of a device; a device that the line doesn't have counts as stuck, so it never serves
 abbrev pub kind_in : List DeviceDef → DevNo → Kind

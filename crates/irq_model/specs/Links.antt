@@ -5,7 +5,8 @@ use Rattle.std.specs.Prelude.{Option, Some, List, [], ◌∷◌, ◌++◌, filte
 use Rattle.irq_base.specs.declared.numbers.DevNo.{DevNo}
 use Rattle.irq_base.specs.declared.calls.Flags.{Flags}
 use Rattle.irq_base.specs.declared.entries.Entry.{Entry}
-use Rattle.irq_base.specs.declared.entries.Entry.TheVariants as entries
+use Rattle.irq_base.specs.declared.entries.Entry.TheVariants as by
+use Rattle.irq_base.specs.declared.entries.DriverEntry.TheVariants as drivers
 use Rattle.irq_base.specs.declared.entries.LinkAnswer.TheVariants as links
 use Rattle.irq_model.specs.Places.{stands, since_place, upto_place, count_of, last_of}
 use Rattle.irq_model.specs.Kinds.{same_dev, links_dev, unlinks_dev, is_linked_request}
@@ -19,7 +20,7 @@ is_linked past d = stands (links_dev d) (unlinks_dev d) past
 -- the devices that were ever linked, in the order of their last requests that were linked
 abbrev pub requested : List Entry → List DevNo
 requested [] = []
-requested (entries.Request driver dev flags links.Linked opened ∷ past) =
+requested (by.Driver driver (drivers.Request flags links.Linked opened dev) ∷ past) =
     filter (λ d. not (same_dev d dev)) (requested past) ++ dev ∷ []
 requested (_ ∷ past) = requested past
 
@@ -70,7 +71,7 @@ is_started past = stands is_start is_last_unlink past
 
 -- the flags of a request
 abbrev pub flags_in : Option Entry → Flags
-flags_in (Some (entries.Request driver dev flags answer opened)) = flags
+flags_in (Some (by.Driver driver (drivers.Request flags answer opened dev))) = flags
 flags_in _ = record { shared = false; oneshot = false; noauto = false }
 
 -- the flags with which d was last linked

@@ -1,6 +1,6 @@
 -- The table of steps: the one entry that an actor may add. Each row is a definition.
 use Rattle.std.specs.Prelude.{ℕ, Bool, true, false, not, ◌||◌, ◌&&◌, ◌==◌, if◌then◌else◌, Option}
-use Rattle.std.specs.Prelude.{Some, None, is_some, List, [], ◌∷◌, nat_lt, length, reverse}
+use Rattle.std.specs.Prelude.{Some, None, is_some, List, [], ◌∷◌, nat_lt, length, reverse, option_map}
 use Rattle.std.specs.List.{list_any}
 use Rattle.irq_base.specs.declared.numbers.CpuNo.{CpuNo}
 use Rattle.irq_base.specs.declared.numbers.DevNo.{DevNo}
@@ -17,7 +17,12 @@ use Rattle.irq_base.specs.declared.lines.LineDef.{LineDef}
 use Rattle.irq_base.specs.declared.entries.Actor.{Actor}
 use Rattle.irq_base.specs.declared.entries.Actor.TheVariants as actors
 use Rattle.irq_base.specs.declared.entries.Entry.{Entry}
-use Rattle.irq_base.specs.declared.entries.Entry.TheVariants as entries
+use Rattle.irq_base.specs.declared.entries.Entry.TheVariants as by
+use Rattle.irq_base.specs.declared.entries.CpuEntry.TheVariants as cpus
+use Rattle.irq_base.specs.declared.entries.ThreadEntry.TheVariants as threads
+use Rattle.irq_base.specs.declared.entries.DriverEntry.TheVariants as drivers
+use Rattle.irq_base.specs.declared.entries.CallEntry.{CallEntry}
+use Rattle.irq_base.specs.declared.entries.CallEntry.TheVariants as called
 use Rattle.irq_base.specs.declared.entries.Errno.TheVariants as errors
 use Rattle.irq_base.specs.declared.entries.Way.TheVariants as ways
 use Rattle.irq_base.specs.declared.entries.TakeAnswer.{TakeAnswer}
@@ -37,9 +42,9 @@ use Rattle.irq_base.specs.declared.entries.AffinityAnswer.{AffinityAnswer}
 use Rattle.irq_base.specs.declared.entries.AffinityAnswer.TheVariants as moves
 use Rattle.irq_base.specs.Handlers.{answer_of}
 use Rattle.irq_model.specs.Places.{since, before}
-use Rattle.irq_model.specs.Kinds.{same_line, same_dev, is_begin, is_thread_begin}
+use Rattle.irq_model.specs.Kinds.{same_dev, is_begin, is_thread_begin}
 use Rattle.irq_model.specs.Kinds.{is_thread_return, is_finish, is_kill, opened_by_enable}
-use Rattle.irq_model.specs.Lines.{is_edge_line, kind_of}
+use Rattle.irq_model.specs.Lines.{is_edge_line, has_device, kind_of}
 use Rattle.irq_model.specs.Links.{linked, is_linked, is_empty, is_none_linked, depth, is_disabled}
 use Rattle.irq_model.specs.Links.{is_oneshot, linking_flags, has_spurious_mark}
 use Rattle.irq_model.specs.Asks.{unserved_asks}
@@ -58,6 +63,10 @@ use Rattle.irq_model.specs.Spurious.{note_of}
 abbrev pub asks_of_thread : LineDef → DevNo → List Entry → ℕ
 asks_of_thread def d past = unserved_asks def d (before (is_thread_begin d) past)
 
+-- the answer is IRQ_HANDLED if the run served
+abbrev pub thread_return : DevNo → ℕ → Entry
+thread_return d served = by.Thread d (threads.Return (nat_lt 0 served) served)
+
 abbrev pub finish_unmasks : LineDef → DevNo → List Entry → Bool
 finish_unmasks def d past =
     not (is_woken past d)
@@ -71,14 +80,14 @@ abbrev pub finish_or_done : LineDef → DevNo → List Entry → Option Entry
 finish_or_done def d past =
     if is_oneshot past && not (list_any (is_finish d) (since (is_thread_return d) past))
     then (if has_flow def past then None
-    else Some (entries.Finish d (is_woken past d) (finish_unmasks def d past)))
-    else Some (entries.Done d)
+    else Some (by.Thread d (threads.Finish (is_woken past d) (finish_unmasks def d past))))
+    else Some (by.Thread d threads.Done)
 
 abbrev pub next_of_thread : LineDef → DevNo → List Entry → Option Entry
 next_of_thread def d past =
-    if not (is_running past d) then (if is_woken past d then Some (entries.ThreadBegin d) else None)
+    if not (is_running past d) then (if is_woken past d then Some (by.Thread d threads.Begin) else None)
     else (if not (list_any (is_thread_return d) (since (is_thread_begin d) past))
-    then Some (entries.ThreadReturn d (asks_of_thread def d past))
+    then Some (thread_return d (asks_of_thread def d past))
     else finish_or_done def d past)
 
 -- ---- processors: in the flow (`handle_irq_event`, and the ends of the flow handlers)
@@ -94,19 +103,19 @@ served_by_handler _ unserved = 0
 
 abbrev pub return_of : LineDef → CpuNo → DevNo → List Entry → Entry
 return_of def c d past =
-    entries.Return c d (answer_of (kind_of def d) parts.Primary (asks_of_handler def d past))
-    (served_by_handler (kind_of def d) (asks_of_handler def d past))
+    by.Cpu c (cpus.Return (answer_of (kind_of def d) parts.Primary (asks_of_handler def d past)) d
+    (served_by_handler (kind_of def d) (asks_of_handler def d past)))
 
 -- disabled already, or by this very note
 abbrev pub is_off_now : List Entry → Note → Bool
-is_off_now past note = is_disabled past || is_kill (entries.End (record { 0 = 0 }) false false note)
+is_off_now past note = is_disabled past || is_kill (by.Cpu (record { 0 = 0 }) (cpus.End false false note))
 
 abbrev pub end_edge : LineDef → CpuNo → List Entry → Note → Bool → Entry
-end_edge def c past note again = entries.End c again (again && is_masked def past) note
+end_edge def c past note again = by.Cpu c (cpus.End again (again && is_masked def past) note)
 
 abbrev pub end_level : LineDef → CpuNo → List Entry → Note → Bool → Entry
 end_level def c past note may_open =
-    entries.End c false (may_open && (is_masked def past && not (is_some_unfinished def past))) note
+    by.Cpu c (cpus.End false (may_open && (is_masked def past && not (is_some_unfinished def past))) note)
 
 -- the flow's end: the edge flow goes on with what is pending; the level flow opens the line unless
 -- a thread still holds it; the fast-EOI flow does so on a one-shot level line, and on an edge line
@@ -118,7 +127,7 @@ end_by_flow def flows.Edge c past note =
 end_by_flow def flows.Level c past note = end_level def c past note (not (is_off_now past note))
 end_by_flow def flows.Eoi c past note =
     if is_edge_line def
-    then entries.End c (is_pending def past && not (is_off_now past note)) false note
+    then by.Cpu c (cpus.End (is_pending def past && not (is_off_now past note)) false note)
     else end_level def c past note (not (is_off_now past note) && is_oneshot past)
 
 abbrev pub end_of : LineDef → CpuNo → List Entry → Entry
@@ -126,7 +135,7 @@ end_of def c past = end_by_flow def def.flow c past (note_of def past)
 
 abbrev pub begin_or_end : LineDef → CpuNo → List Entry → Option DevNo → Entry
 begin_or_end def c past None = end_of def c past
-begin_or_end def c past (Some d) = entries.Begin c d
+begin_or_end def c past (Some d) = by.Cpu c (cpus.Begin d)
 
 -- a handler that is at work returns; else the first handler that is left is called; else the round
 -- ends
@@ -149,8 +158,8 @@ take_answer def past =
 abbrev pub next_take : LineDef → CpuNo → List Entry → Option Entry
 next_take def c past =
     if not (is_cpu c (target def past)) then None
-    else (if signals def past then Some (entries.Take c ways.Line (take_answer def past))
-    else (if is_soft past then Some (entries.Take c ways.Resend (take_answer def past)) else None))
+    else (if signals def past then Some (by.Cpu c (cpus.Take ways.Line (take_answer def past)))
+    else (if is_soft past then Some (by.Cpu c (cpus.Take ways.Resend (take_answer def past))) else None))
 
 abbrev pub next_of_cpu : LineDef → CpuNo → List Entry → Option Entry
 next_of_cpu def c past =
@@ -204,9 +213,9 @@ opened_by_request def flags past =
 
 abbrev pub request_with : LineDef → DriverNo → DevNo → Flags → List Entry → LinkAnswer → Entry
 request_with def r d flags past links.Linked =
-    entries.Request r d flags links.Linked (opened_by_request def flags past)
+    by.Driver r (drivers.Request flags links.Linked (opened_by_request def flags past) d)
 request_with def r d flags past (links.Refused error) =
-    entries.Request r d flags (links.Refused error) opens.No
+    by.Driver r (drivers.Request flags (links.Refused error) opens.No d)
 
 abbrev pub request_of : LineDef → DriverNo → DevNo → Flags → List Entry → Entry
 request_of def r d flags past = request_with def r d flags past (link_answer def d flags past)
@@ -226,34 +235,34 @@ affinity_answer def mask =
     else moves.Refused errors.Inval
 
 -- `__synchronize_hardirq`: once no flow is in progress
-abbrev pub hard_clear_of : LineDef → DriverNo → List Entry → Option Entry
-hard_clear_of def r past = if has_flow def past then None else Some (entries.HardClear r)
+abbrev pub hard_clear_of : LineDef → List Entry → Option CallEntry
+hard_clear_of def past = if has_flow def past then None else Some called.HardClear
 
 -- `synchronize_irq`: once no thread is woken or in a run
-abbrev pub synced_of : LineDef → DriverNo → List Entry → Option Entry
-synced_of def r past = if active_count def past == 0 then Some (entries.Synced r) else None
+abbrev pub synced_of : LineDef → List Entry → Option CallEntry
+synced_of def past = if active_count def past == 0 then Some called.Synced else None
 
 -- the end of `__free_irq`: once the device's thread is at rest
-abbrev pub freed_of : DriverNo → DevNo → List Entry → Option Entry
-freed_of r d past = if is_woken past d || is_running past d then None else Some (entries.Freed r d)
+abbrev pub freed_of : DevNo → List Entry → Option CallEntry
+freed_of d past = if is_woken past d || is_running past d then None else Some (called.Freed d)
 
 -- `synchronize_irq`; n: how many entries it has made
-abbrev pub next_of_sync : LineDef → DriverNo → ℕ → List Entry → Option Entry
-next_of_sync def r n past = if n == 0 then hard_clear_of def r past else synced_of def r past
+abbrev pub next_of_sync : LineDef → ℕ → List Entry → Option CallEntry
+next_of_sync def n past = if n == 0 then hard_clear_of def past else synced_of def past
 
 -- `disable_irq`
-abbrev pub next_of_disable : LineDef → DriverNo → ℕ → List Entry → Option Entry
-next_of_disable def r n past =
-    if n == 0 then Some (entries.Disable r)
-    else (if n == 1 then hard_clear_of def r past else synced_of def r past)
+abbrev pub next_of_disable : LineDef → ℕ → List Entry → Option CallEntry
+next_of_disable def n past =
+    if n == 0 then Some called.Disable
+    else (if n == 1 then hard_clear_of def past else synced_of def past)
 
 -- `free_irq`. The hard clear stands before the thread's end, since a handler that is still at work
 -- may wake the thread once more.
-abbrev pub next_of_free : LineDef → DriverNo → DevNo → ℕ → List Entry → Option Entry
-next_of_free def r d n past =
+abbrev pub next_of_free : LineDef → DevNo → ℕ → List Entry → Option CallEntry
+next_of_free def d n past =
     if n == 0
-    then (if holds_mutex past then None else Some (entries.Unlink r d (unlink_answer d past)))
-    else (if n == 1 then hard_clear_of def r past else freed_of r d past)
+    then (if holds_mutex past then None else Some (called.Unlink (unlink_answer d past) d))
+    else (if n == 1 then hard_clear_of def past else freed_of d past)
 
 -- `request_threaded_irq`
 abbrev pub next_of_request : LineDef → DriverNo → DevNo → Flags → List Entry → Option Entry
@@ -263,24 +272,28 @@ next_of_request def r d flags past =
 -- what a driver adds next, by its due call and how many entries the call has made
 abbrev pub next_of_call : LineDef → DriverNo → List Entry → Option (Call × ℕ) → Option Entry
 next_of_call def r past None = None
-next_of_call def r past (Some (calls.Ask d, n)) = Some (entries.Ask r d)
+next_of_call def r past (Some (calls.Ask d, n)) = Some (by.Driver r (drivers.Ask true d))
 next_of_call def r past (Some (calls.Request d flags, n)) = next_of_request def r d flags past
-next_of_call def r past (Some (calls.Free d, n)) = next_of_free def r d n past
-next_of_call def r past (Some (calls.Disable, n)) = next_of_disable def r n past
-next_of_call def r past (Some (calls.DisableNosync, n)) = Some (entries.Disable r)
-next_of_call def r past (Some (calls.Enable, n)) = Some (entries.Enable r (enable_answer def past))
-next_of_call def r past (Some (calls.Sync, n)) = next_of_sync def r n past
+next_of_call def r past (Some (calls.Free d, n)) =
+    option_map (by.DriverCall r) (next_of_free def d n past)
+next_of_call def r past (Some (calls.Disable, n)) =
+    option_map (by.DriverCall r) (next_of_disable def n past)
+next_of_call def r past (Some (calls.DisableNosync, n)) = Some (by.DriverCall r called.Disable)
+next_of_call def r past (Some (calls.Enable, n)) =
+    Some (by.DriverCall r (called.Enable (enable_answer def past)))
+next_of_call def r past (Some (calls.Sync, n)) =
+    option_map (by.DriverCall r) (next_of_sync def n past)
 next_of_call def r past (Some (calls.Affinity mask, n)) =
-    Some (entries.Affinity r mask (affinity_answer def mask))
-next_of_call def r past (Some (calls.Moment at, n)) = Some (entries.Moment r at)
+    Some (by.Driver r (drivers.Affinity (affinity_answer def mask) mask))
+next_of_call def r past (Some (calls.Moment at, n)) = Some (by.Driver r (drivers.Moment at))
 
 -- ---- the table
 
--- the entry that is due for the actor, after a past whose newest entry comes first; none for a
--- thread of another line
+-- the entry that is due for the actor, after a past whose newest entry comes first; none for the
+-- thread of a device that the line lacks
 abbrev pub next_past : LineDef → List Entry → Actor → Option Entry
-next_past def past (actors.Thread line d) =
-    if same_line line def.line then next_of_thread def d past else None
+next_past def past (actors.Thread d) =
+    if has_device def d then next_of_thread def d past else None
 next_past def past (actors.Cpu c) = next_of_cpu def c past
 next_past def past (actors.Driver r) = next_of_call def r past (due_call def r past)
 

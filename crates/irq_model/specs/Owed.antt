@@ -8,7 +8,7 @@ use Rattle.irq_base.specs.declared.devices.Kind.TheVariants as kinds
 use Rattle.irq_base.specs.declared.lines.LineDef.{LineDef}
 use Rattle.irq_base.specs.declared.entries.Entry.{Entry}
 use Rattle.irq_model.specs.Places.{some_place}
-use Rattle.irq_model.specs.Kinds.{is_any_ask, is_begin, unlinks_dev}
+use Rattle.irq_model.specs.Kinds.{is_device_edge, is_begin, unlinks_dev}
 use Rattle.irq_model.specs.Lines.{is_edge_line, is_level_line, kind_of}
 use Rattle.irq_model.specs.Links.{is_started, is_linked, depth}
 use Rattle.irq_model.specs.Asks.{unserved_asks}
@@ -16,13 +16,13 @@ use Rattle.irq_model.specs.Rounds.{is_ahead}
 use Rattle.irq_model.specs.Waiting.{is_pending, is_soft}
 use Rattle.irq_model.specs.Edges.{is_sent, is_stored}
 
--- the newest entry of `upto` is an ask, of any device, that came while the line was started and d
+-- the newest entry of `upto` is an edge, of any device, that came while the line was started and d
 -- was linked
 abbrev pub comes_to : DevNo → List Entry → Bool
 comes_to d [] = false
-comes_to d (e ∷ past) = is_any_ask e && (is_started past && is_linked past d)
+comes_to d (e ∷ past) = is_device_edge e && (is_started past && is_linked past d)
 
--- an edge is owed to d: since an ask that came to d, d has stayed linked, and its handler wasn't
+-- an edge is owed to d: since an edge that came to d, d has stayed linked, and its handler wasn't
 -- called
 abbrev pub is_owed : LineDef → DevNo → List Entry → Bool
 is_owed def d past =

@@ -1,14 +1,16 @@
 -- Why a started line is masked, and what each entry keeps so that there is a reason. Each part is a
 -- fact of the past, whose newest entry comes first.
-use Rattle.std.specs.Prelude.{◌≡◌, Bool, true, false, not, ◌||◌, ◌&&◌, List, ◌∷◌, reverse}
+use Rattle.std.specs.Prelude.{◌≡◌, Bool, true, false, not, ◌||◌, ◌&&◌, List, [], ◌∷◌, reverse}
 use Rattle.std.specs.List.{list_any}
 use Rattle.irq_base.specs.declared.numbers.DevNo.{DevNo}
 use Rattle.irq_base.specs.declared.lines.LineDef.{LineDef}
 use Rattle.irq_base.specs.declared.entries.Entry.{Entry}
-use Rattle.irq_base.specs.declared.entries.Entry.TheVariants as entries
+use Rattle.irq_base.specs.declared.entries.Entry.TheVariants as by
+use Rattle.irq_base.specs.declared.entries.CallEntry.TheVariants as called
 use Rattle.irq_base.specs.declared.entries.UnlinkAnswer.TheVariants as unlinks
+use Rattle.irq_base.specs.Who.{actor_of}
 use Rattle.irq_model.specs.Places.{stands, since, some_place}
-use Rattle.irq_model.specs.Kinds.{same_dev, is_begin, is_return, is_hard_clear, is_by_driver}
+use Rattle.irq_model.specs.Kinds.{same_dev, is_begin, is_return, is_hard_clear, is_by}
 use Rattle.irq_model.specs.Kinds.{is_freed, is_freed_by, is_finish, is_thread_begin, unlinks_dev}
 use Rattle.irq_model.specs.Lines.{is_edge_line, is_level_line, is_edge_flow, is_eoi_flow}
 use Rattle.irq_model.specs.Links.{is_linked, is_none_linked, depth, is_disabled, is_started}
@@ -27,14 +29,13 @@ is_called past d = stands (is_begin d) (is_return d) past
 abbrev pub is_being_freed : List Entry → DevNo → Bool
 is_being_freed past d = stands (unlinks_dev d) (is_freed d) past
 
--- the newest entry of `upto` unlinked d; its driver made a hard clear after it, and hasn't freed d
+-- the newest entry of `upto` unlinked d; its maker made a hard clear after it, and hasn't freed d
 -- yet
 abbrev pub is_cleared_at : DevNo → List Entry → List Entry → Bool
-is_cleared_at d after (entries.Unlink driver dev (unlinks.Unlinked last) ∷ past) =
-    same_dev d dev
-    && (list_any (λ e. is_by_driver driver e && is_hard_clear e) after
-    && not (list_any (is_freed_by driver) after))
-is_cleared_at d after _ = false
+is_cleared_at d after [] = false
+is_cleared_at d after (e ∷ past) = unlinks_dev d e
+    && (list_any (λ x. is_by (actor_of e) x && is_hard_clear x) after
+    && not (list_any (is_freed_by (actor_of e)) after))
 
 -- d's free has its hard clear, and isn't complete
 abbrev pub is_cleared : List Entry → DevNo → Bool

@@ -7,7 +7,8 @@ use Rattle.irq_base.specs.declared.numbers.CpuNo.{CpuNo}
 use Rattle.irq_base.specs.declared.numbers.DevNo.{DevNo}
 use Rattle.irq_base.specs.declared.lines.LineDef.{LineDef}
 use Rattle.irq_base.specs.declared.entries.Entry.{Entry}
-use Rattle.irq_base.specs.declared.entries.Entry.TheVariants as entries
+use Rattle.irq_base.specs.declared.entries.Entry.TheVariants as by
+use Rattle.irq_base.specs.declared.entries.CpuEntry.TheVariants as cpus
 use Rattle.irq_model.specs.Places.{since, last_of}
 use Rattle.irq_model.specs.Kinds.{same_cpu, is_handle, is_again, is_leave, is_begin}
 use Rattle.irq_model.specs.Kinds.{is_begin_or_return}
@@ -20,7 +21,7 @@ abbrev pub closes : LineDef → Entry → Bool
 closes def e = is_leave e || (is_eoi_flow def.flow && is_again e)
 
 abbrev pub cpu_of_handle : Option Entry → Option CpuNo
-cpu_of_handle (Some (entries.Take cpu way answer)) = Some cpu
+cpu_of_handle (Some (by.Cpu cpu (cpus.Take way answer))) = Some cpu
 cpu_of_handle _ = None
 
 -- the processor of the last take that is handled, unless an end that closes follows it
@@ -57,7 +58,7 @@ first_left def past [] = None
 first_left def past (d ∷ ds) = if has_begun def past d then first_left def past ds else Some d
 
 abbrev pub dev_of_begin : Option Entry → Option DevNo
-dev_of_begin (Some (entries.Begin cpu dev)) = Some dev
+dev_of_begin (Some (by.Cpu cpu (cpus.Begin dev))) = Some dev
 dev_of_begin _ = None
 
 -- the device whose handler is at work: the device of the last begin, unless a return, of any

@@ -6,7 +6,8 @@ use Rattle.std.specs.List.{list_any}
 use Rattle.irq_base.specs.declared.numbers.CpuNo.{CpuNo}
 use Rattle.irq_base.specs.declared.lines.LineDef.{LineDef}
 use Rattle.irq_base.specs.declared.entries.Entry.{Entry}
-use Rattle.irq_base.specs.declared.entries.Entry.TheVariants as entries
+use Rattle.irq_base.specs.declared.entries.Entry.TheVariants as by
+use Rattle.irq_base.specs.declared.entries.DriverEntry.TheVariants as drivers
 use Rattle.irq_base.specs.declared.entries.AffinityAnswer.TheVariants as moves
 use Rattle.irq_model.specs.Places.{last_place}
 use Rattle.irq_model.specs.Kinds.{is_take}
@@ -25,12 +26,12 @@ signals def past =
 -- the newest entry of `upto` put a mask in force: a change that took effect at once, or a change
 -- that waited, if a take stands after it
 abbrev pub puts_in_force : List Entry → List Entry → Bool
-puts_in_force after (entries.Affinity driver mask moves.Now ∷ past) = true
-puts_in_force after (entries.Affinity driver mask moves.Later ∷ past) = list_any is_take after
+puts_in_force after (by.Driver driver (drivers.Affinity moves.Now mask) ∷ past) = true
+puts_in_force after (by.Driver driver (drivers.Affinity moves.Later mask) ∷ past) = list_any is_take after
 puts_in_force after _ = false
 
 abbrev pub mask_of : ℕ → List Entry → ℕ
-mask_of mask (entries.Affinity driver new answer ∷ past) = new
+mask_of mask (by.Driver driver (drivers.Affinity answer new) ∷ past) = new
 mask_of mask _ = mask
 
 -- the mask in force: the last that was put in force, or the line's own

@@ -6,7 +6,10 @@ use Rattle.std.specs.Prelude.{List, [], ◌∷◌, nat_lt}
 use Rattle.std.specs.List.{list_any}
 use Rattle.irq_base.specs.declared.lines.LineDef.{LineDef}
 use Rattle.irq_base.specs.declared.entries.Entry.{Entry}
-use Rattle.irq_base.specs.declared.entries.Entry.TheVariants as entries
+use Rattle.irq_base.specs.declared.entries.Entry.TheVariants as by
+use Rattle.irq_base.specs.declared.entries.CpuEntry.TheVariants as cpus
+use Rattle.irq_base.specs.declared.entries.ThreadEntry.TheVariants as threads
+use Rattle.irq_base.specs.declared.entries.DriverEntry.TheVariants as drivers
 use Rattle.irq_base.specs.declared.entries.Note.{Note}
 use Rattle.irq_base.specs.declared.entries.Note.TheVariants as notes
 use Rattle.irq_base.specs.declared.entries.LinkAnswer.TheVariants as links
@@ -19,7 +22,7 @@ pub record Counts : Type 0 where
   pub irq_count : ℕ
   -- the ends of the open window that were unhandled
   pub irqs_unhandled : ℕ
-  -- the runs of threads that served
+  -- the runs of threads that answered IRQ_HANDLED
   pub threads_handled : ℕ
   -- an end woke a thread and waits to be judged by what the threads did
   pub deferred : Bool
@@ -82,7 +85,7 @@ noted window limit now wake handled c =
 -- the greatest moment handed in
 abbrev pub now : List Entry → ℕ
 now [] = 0
-now (entries.Moment driver at ∷ past) = max at (now past)
+now (by.Driver driver (drivers.Moment at) ∷ past) = max at (now past)
 now (_ ∷ past) = now past
 
 -- some handler of the round woke its thread, or handled
@@ -99,12 +102,12 @@ noted_end def past c =
 
 abbrev pub counts_of : LineDef → List Entry → Counts
 counts_of def [] = no_counts
-counts_of def (entries.ThreadReturn dev served ∷ past) =
-    let c = counts_of def past in (if nat_lt 0 served
+counts_of def (by.Thread dev (threads.Return handled served) ∷ past) =
+    let c = counts_of def past in (if handled
     then record c { threads_handled = c.threads_handled + 1 } else c)
-counts_of def (entries.Request driver dev flags links.Linked opened ∷ past) =
+counts_of def (by.Driver driver (drivers.Request flags links.Linked opened dev) ∷ past) =
     record (counts_of def past) { irq_count = 0; irqs_unhandled = 0 }
-counts_of def (entries.End cpu again unmask note ∷ past) =
+counts_of def (by.Cpu cpu (cpus.End again unmask note) ∷ past) =
     (noted_end def past (counts_of def past)).counts
 counts_of def (_ ∷ past) = counts_of def past
 

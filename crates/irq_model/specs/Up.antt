@@ -3,17 +3,18 @@
 use Rattle.std.specs.Prelude.{Bool, true, false, not, ◌&&◌, List, [], ◌∷◌}
 use Rattle.std.specs.List.{list_any}
 use Rattle.irq_base.specs.declared.entries.Entry.{Entry}
-use Rattle.irq_base.specs.declared.entries.Entry.TheVariants as entries
+use Rattle.irq_base.specs.declared.entries.Entry.TheVariants as by
+use Rattle.irq_base.specs.declared.entries.CallEntry.TheVariants as called
 use Rattle.irq_base.specs.declared.entries.UnlinkAnswer.TheVariants as unlinks
+use Rattle.irq_base.specs.Who.{actor_of}
 use Rattle.irq_model.specs.Places.{some_place, since_place, upto_place}
-use Rattle.irq_model.specs.Kinds.{is_freed_by}
+use Rattle.irq_model.specs.Kinds.{is_freed_by, is_last_unlink}
 use Rattle.irq_model.specs.Links.{is_first_request}
 
--- the newest entry of `upto` is a last unlink, and its driver's free was completed after it
+-- the newest entry of `upto` is a last unlink, and the free that it began was completed after it
 abbrev pub is_freed_last : List Entry → List Entry → Bool
-is_freed_last after (entries.Unlink driver dev (unlinks.Unlinked true) ∷ past) =
-    list_any (is_freed_by driver) after
-is_freed_last after _ = false
+is_freed_last after [] = false
+is_freed_last after (e ∷ past) = is_last_unlink e && list_any (is_freed_by (actor_of e)) after
 
 abbrev pub is_some_entry : List Entry → Bool
 is_some_entry [] = false

@@ -7,7 +7,8 @@ use Rattle.std.proofs.lemmas.List.{drop-append-le, drop_all, reverse-append}
 use Rattle.irq_base.specs.declared.calls.Call.{Call}
 use Rattle.irq_base.specs.declared.calls.Call.TheVariants as calls
 use Rattle.irq_base.specs.declared.entries.Entry.{Entry}
-use Rattle.irq_base.specs.declared.entries.Entry.TheVariants as entries
+use Rattle.irq_base.specs.declared.entries.Entry.TheVariants as by
+use Rattle.irq_base.specs.declared.entries.CallEntry.TheVariants as called
 use Rattle.irq_base.specs.declared.entries.UnlinkAnswer.TheVariants as unlinks
 use Rattle.irq_base.specs.declared.numbers.DriverNo.{DriverNo}
 use Rattle.irq_model.specs.Due.{begins_not_there, entries_of_call, due_of, calls_by, entries_by}
@@ -43,9 +44,7 @@ each_makes_some (calls.Affinity mask) es = omega arith
 each_makes_some (calls.Moment at) es = omega arith
 
 first_only : (x : Entry) (xs ys : List Entry) → begins_not_there (x ∷ xs) ≡ begins_not_there (x ∷ ys)
-first_only (entries.Unlink driver dev unlinks.NotThere) xs ys = refl
-first_only (entries.Unlink driver dev (unlinks.Unlinked last)) xs ys = refl
-first_only _ xs ys = refl
+first_only x xs ys = refl
 
 -- its first entry says how many entries a call makes
 by_first : (c : Call) (x : Entry) (xs ys : List Entry) → entries_of_call c (x ∷ xs) ≡ entries_of_call c (x ∷ ys)

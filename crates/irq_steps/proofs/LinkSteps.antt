@@ -5,7 +5,9 @@ use Rattle.irq_base.specs.declared.numbers.DevNo.{DevNo}
 use Rattle.irq_base.specs.declared.numbers.DriverNo.{DriverNo}
 use Rattle.irq_base.specs.declared.calls.Flags.{Flags}
 use Rattle.irq_base.specs.declared.entries.Entry.{Entry}
-use Rattle.irq_base.specs.declared.entries.Entry.TheVariants as entries
+use Rattle.irq_base.specs.declared.entries.Entry.TheVariants as by
+use Rattle.irq_base.specs.declared.entries.DriverEntry.TheVariants as drivers
+use Rattle.irq_base.specs.declared.entries.CallEntry.TheVariants as called
 use Rattle.irq_base.specs.declared.entries.LinkAnswer.TheVariants as links
 use Rattle.irq_base.specs.declared.entries.UnlinkAnswer.TheVariants as unlinks
 use Rattle.irq_base.specs.declared.entries.Opened.{Opened}
@@ -36,9 +38,9 @@ without s l = grind arith
 
 -- a request that is linked makes its device the last of the list
 pub linked_request : (r : DriverNo) (d : DevNo) (flags : Flags) (o : Opened) (past : List Entry)
-    → linked (entries.Request r d flags links.Linked o ∷ past) ≡ filter (λ x. not (same_dev x d)) (linked past) ++ d ∷ []
+    → linked (by.Driver r (drivers.Request flags links.Linked o d) ∷ past) ≡ filter (λ x. not (same_dev x d)) (linked past) ++ d ∷ []
 linked_request r d flags o past =
-    let e = entries.Request r d flags links.Linked o in
+    let e = by.Driver r (drivers.Request flags links.Linked o d) in
     filter-append (is_linked (e ∷ past)) (filter (λ x. not (same_dev x d)) (requested past)) (d ∷ [])
     ∙ ap (λ xs. xs ++ filter (is_linked (e ∷ past)) (d ∷ [])) (filter_both (is_linked (e ∷ past)) (λ x. not (same_dev x d)) (requested past)
     ∙ filter_same _ _ (requested past) (λ x. others (same_dev x d) (is_linked past x))
@@ -47,12 +49,12 @@ linked_request r d flags o past =
 
 -- an unlink takes its device out
 pub linked_unlink : (r : DriverNo) (d : DevNo) (last : Bool) (past : List Entry)
-    → linked (entries.Unlink r d (unlinks.Unlinked last) ∷ past) ≡ filter (λ x. not (same_dev x d)) (linked past)
+    → linked (by.DriverCall r (called.Unlink (unlinks.Unlinked last) d) ∷ past) ≡ filter (λ x. not (same_dev x d)) (linked past)
 linked_unlink r d last past =
     filter_same _ _ (requested past) (λ x. without (same_dev x d) (is_linked past x))
     ∙ sym (filter_both (λ x. not (same_dev x d)) (is_linked past) (requested past))
 
 -- a first request that starts the line makes the depth 0
 pub depth_first : (r : DriverNo) (d : DevNo) (flags : Flags) (resend : Resend) (past : List Entry) → linked past ≡ []
-    → depth (entries.Request r d flags links.Linked (opens.Started resend) ∷ past) ≡ 0
+    → depth (by.Driver r (drivers.Request flags links.Linked (opens.Started resend) d) ∷ past) ≡ 0
 depth_first r d flags resend past none = rw none refl

@@ -5,7 +5,9 @@ use Rattle.irq_base.specs.declared.numbers.DevNo.{DevNo}
 use Rattle.irq_base.specs.declared.numbers.DriverNo.{DriverNo}
 use Rattle.irq_base.specs.declared.calls.Flags.{Flags}
 use Rattle.irq_base.specs.declared.entries.Entry.{Entry}
-use Rattle.irq_base.specs.declared.entries.Entry.TheVariants as entries
+use Rattle.irq_base.specs.declared.entries.Entry.TheVariants as by
+use Rattle.irq_base.specs.declared.entries.DriverEntry.TheVariants as drivers
+use Rattle.irq_base.specs.declared.entries.CallEntry.TheVariants as called
 use Rattle.irq_base.specs.declared.entries.Errno.{Errno}
 use Rattle.irq_base.specs.declared.entries.LinkAnswer.TheVariants as links
 use Rattle.irq_base.specs.declared.entries.Opened.{Opened}
@@ -23,10 +25,10 @@ not_there : (s l : Bool) → (false || (not (s && false) && l)) ≡ l
 not_there s l = grind arith
 
 pub linked_refused : (r : DriverNo) (d : DevNo) (flags : Flags) (error : Errno) (o : Opened) (past : List Entry)
-    → linked (entries.Request r d flags (links.Refused error) o ∷ past) ≡ linked past
+    → linked (by.Driver r (drivers.Request flags (links.Refused error) o d) ∷ past) ≡ linked past
 linked_refused r d flags error o past = filter_same _ _ (requested past) (λ x. refused (same_dev x d) (is_linked past x))
 
-pub linked_not_there : (r : DriverNo) (d : DevNo) (past : List Entry) → linked (entries.Unlink r d unlinks.NotThere ∷ past) ≡ linked past
+pub linked_not_there : (r : DriverNo) (d : DevNo) (past : List Entry) → linked (by.DriverCall r (called.Unlink unlinks.NotThere d) ∷ past) ≡ linked past
 linked_not_there r d past = filter_same _ _ (requested past) (λ x. not_there (same_dev x d) (is_linked past x))
 
 -- ---- each device once
@@ -75,7 +77,7 @@ count_last p (y ∷ ys) x = at_head (p y) (count_of p ys) (cond (p x) 1 0) (coun
 
 pub requested_once : (d : DevNo) (past : List Entry) → count_of (same_dev d) (requested past) ≤ 1
 requested_once d [] = omega arith
-requested_once d (entries.Request r x flags links.Linked o ∷ past) = by_test (same_dev d x) refl (requested_once d past)
+requested_once d (by.Driver r (drivers.Request flags links.Linked o x) ∷ past) = by_test (same_dev d x) refl (requested_once d past)
   where
     last : count_of (same_dev d) (filter (λ y. not (same_dev y x)) (requested past) ++ x ∷ [])
         ≡ count_of (same_dev d) (filter (λ y. not (same_dev y x)) (requested past)) + cond (same_dev d x) 1 0

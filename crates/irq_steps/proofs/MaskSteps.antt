@@ -5,7 +5,8 @@ use Rattle.irq_base.specs.declared.lines.FlowKind.{FlowKind}
 use Rattle.irq_base.specs.declared.lines.FlowKind.TheVariants as flows
 use Rattle.irq_base.specs.declared.lines.LineDef.{LineDef}
 use Rattle.irq_base.specs.declared.entries.Entry.{Entry}
-use Rattle.irq_base.specs.declared.entries.Entry.TheVariants as entries
+use Rattle.irq_base.specs.declared.entries.Entry.TheVariants as by
+use Rattle.irq_base.specs.declared.entries.CpuEntry.TheVariants as cpus
 use Rattle.irq_model.specs.Places.{since_place}
 use Rattle.irq_model.specs.Kinds.{is_take, is_disable, is_kill, is_last_unlink}
 use Rattle.irq_model.specs.Masks.{take_masks, masks, unmasks, is_masked}
@@ -25,9 +26,9 @@ masked_more def e past =
 
 pub no_take_masks : (def : LineDef) (f : FlowKind) (e : Entry) (past : List Entry) → is_take e ≡ false → take_masks def f e past ≡ false
 no_take_masks def flows.Level e past h = h
-no_take_masks def flows.Edge (entries.Take cpu way answer) past h = cc
+no_take_masks def flows.Edge (by.Cpu cpu (cpus.Take way answer)) past h = cc
 no_take_masks def flows.Edge e past h = refl
-no_take_masks def flows.Eoi (entries.Take cpu way answer) past h = cc
+no_take_masks def flows.Eoi (by.Cpu cpu (cpus.Take way answer)) past h = cc
 no_take_masks def flows.Eoi e past h = refl
 
 all_off : (t y d k u : Bool) → t ≡ false → (d || k) ≡ false → u ≡ false → (t || ((y && (d || k)) || u)) ≡ false

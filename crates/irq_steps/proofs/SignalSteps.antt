@@ -3,17 +3,18 @@ use Rattle.std.proofs.Common.{◌≡◌, ℕ, ◌%◌, ◌||◌, Bool, true, fal
 use Rattle.std.specs.List.{list_any}
 use Rattle.std.proofs.lemmas.Nat.Bits.{bit_at_lowest}
 use Rattle.irq_base.specs.declared.entries.Entry.{Entry}
-use Rattle.irq_base.specs.declared.entries.Entry.TheVariants as entries
+use Rattle.irq_base.specs.declared.entries.Entry.TheVariants as by
+use Rattle.irq_base.specs.declared.entries.DriverEntry.TheVariants as drivers
 use Rattle.irq_base.specs.declared.lines.LineDef.{LineDef}
 use Rattle.irq_model.specs.Places.{last_place}
 use Rattle.irq_model.specs.Signal.{puts_in_force, mask_of, mask_in_force, lowest_in}
 
 abbrev pub is_affinity : Entry → Bool
-is_affinity (entries.Affinity driver mask answer) = true
+is_affinity (by.Driver driver (drivers.Affinity answer mask)) = true
 is_affinity _ = false
 
 no_change : (e : Entry) (after past : List Entry) → is_affinity e ≡ false → puts_in_force after (e ∷ past) ≡ false
-no_change (entries.Affinity driver mask answer) after past h = cc
+no_change (by.Driver driver (drivers.Affinity answer mask)) after past h = cc
 no_change _ after past h = refl
 
 rest_none : (b c : Bool) → (b || c) ≡ false → c ≡ false

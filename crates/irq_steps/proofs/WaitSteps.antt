@@ -2,7 +2,8 @@
 use Rattle.std.proofs.Common.{◌≡◌, Bool, false, not, ◌||◌, ◌&&◌, List, ◌∷◌, ap, arith}
 use Rattle.irq_base.specs.declared.lines.LineDef.{LineDef}
 use Rattle.irq_base.specs.declared.entries.Entry.{Entry}
-use Rattle.irq_base.specs.declared.entries.Entry.TheVariants as entries
+use Rattle.irq_base.specs.declared.entries.Entry.TheVariants as by
+use Rattle.irq_base.specs.declared.entries.CpuEntry.TheVariants as cpus
 use Rattle.irq_model.specs.Kinds.{is_take}
 use Rattle.irq_model.specs.Lines.{is_edge_line}
 use Rattle.irq_model.specs.Waiting.{sets_pending, clears_pending, is_pending}
@@ -11,7 +12,7 @@ no_busy : (b : Bool) → (false || (b && false)) ≡ false
 no_busy b = grind arith
 
 sets_not : (def : LineDef) (e : Entry) → is_take e ≡ false → sets_pending def e ≡ false
-sets_not def (entries.Take cpu way answer) h = cc
+sets_not def (by.Cpu cpu (cpus.Take way answer)) h = cc
 sets_not def e h = no_busy (is_edge_line def)
 
 -- an entry that is no take: pending is what was pending and isn't cleared

@@ -1,24 +1,28 @@
 -- What drivers add to a history: each driver adds the entries of its calls, so all drivers together
 -- add no more entries than the calls of the line make.
 use Rattle.std.proofs.Common.{◌≡◌, ℕ, ◌+◌, ◌*◌, ◌≤◌, ◌==◌, inl, inr, Bool, true, false, not, ◌&&◌, cond, List, [], ◌∷◌, ◌++◌, filter, reverse, refl, ap, arith}
+use Rattle.std.proofs.lemmas.Bool.{and_parts}
 use Rattle.std.proofs.lemmas.Grind.{reverse_onto}
 use Rattle.irq_base.specs.declared.numbers.DriverNo.{DriverNo}
 use Rattle.irq_base.specs.declared.calls.Call.{Call}
 use Rattle.irq_base.specs.declared.calls.Call.TheVariants as calls
 use Rattle.irq_base.specs.declared.lines.LineDef.{LineDef}
 use Rattle.irq_base.specs.declared.entries.Entry.{Entry}
-use Rattle.irq_base.specs.declared.entries.Entry.TheVariants as entries
+use Rattle.irq_base.specs.declared.entries.Entry.TheVariants as by
+use Rattle.irq_base.specs.declared.entries.DriverEntry.TheVariants as drivers
+use Rattle.irq_base.specs.declared.entries.CallEntry.TheVariants as called
 use Rattle.irq_base.specs.declared.entries.UnlinkAnswer.TheVariants as unlinks
 use Rattle.irq_model.specs.Places.{count_of}
 use Rattle.irq_model.specs.Kinds.{same_driver, is_by_driver, is_any_ask}
 use Rattle.irq_model.specs.Due.{calls_by, entries_by}
 use Rattle.irq_model.specs.Bounds.{is_ask_call, ask_calls, other_calls}
 use Rattle.irq_model.specs.Scripts.{MakesAll, AreMadeBy, FollowsScriptsPast}
-use Rattle.irq_model.specs.Legal.{IsLegalPast}
+use Rattle.irq_model.specs.Legal.{IsDue, IsLegalPast}
+use Rattle.irq_laws.proofs.OwnLaws.{no_cpu_call, no_thread_call}
 use Rattle.irq_laws.proofs.ScriptLaws.{follows_past}
 use Rattle.irq_storms.specs.Judged.{one_if}
 use Rattle.irq_storms.specs.Tests.{total, is_by_any_driver, is_renewal}
-use Rattle.irq_storms.proofs.Counting.{count_more, count_total, total_ext, total_at, totals_by_key}
+use Rattle.irq_storms.proofs.Counting.{count_more, count_imply, count_total, total_ext, total_at, totals_by_key}
 
 -- ---- counts of joined, reversed and filtered lists
 
@@ -51,16 +55,8 @@ module _ {A : Type 0} (p : A → Bool) where
 -- ---- one driver
 
 abbrev driver_key : Entry → ℕ
-driver_key (entries.Ask driver dev) = driver.0
-driver_key (entries.Disable driver) = driver.0
-driver_key (entries.HardClear driver) = driver.0
-driver_key (entries.Synced driver) = driver.0
-driver_key (entries.Enable driver answer) = driver.0
-driver_key (entries.Request driver dev flags answer opened) = driver.0
-driver_key (entries.Unlink driver dev answer) = driver.0
-driver_key (entries.Freed driver dev) = driver.0
-driver_key (entries.Affinity driver mask answer) = driver.0
-driver_key (entries.Moment driver at) = driver.0
+driver_key (by.Driver driver e) = driver.0
+driver_key (by.DriverCall driver call) = driver.0
 driver_key _ = 0
 
 -- a test of drivers' entries, and how often a call meets it at most
@@ -101,15 +97,9 @@ module _ (p : Entry → Bool) (w : Call → ℕ) (by_driver : (e : Entry) → p 
   one_driver false false = refl
 
   at_driver : (k : ℕ) (e : Entry) → one_if (p e && is_by_driver (record { 0 = k }) e) ≡ cond (k == driver_key e) (one_if (p e)) 0
-  at_driver k (entries.Take cpu way answer) = no_driver _ _ _ (by_driver (entries.Take cpu way answer))
-  at_driver k (entries.Begin cpu dev) = no_driver _ _ _ (by_driver (entries.Begin cpu dev))
-  at_driver k (entries.Return cpu dev answer served) = no_driver _ _ _ (by_driver (entries.Return cpu dev answer served))
-  at_driver k (entries.End cpu again unmask note) = no_driver _ _ _ (by_driver (entries.End cpu again unmask note))
-  at_driver k (entries.ThreadBegin dev) = no_driver _ _ _ (by_driver (entries.ThreadBegin dev))
-  at_driver k (entries.ThreadReturn dev served) = no_driver _ _ _ (by_driver (entries.ThreadReturn dev served))
-  at_driver k (entries.Finish dev kept unmask) = no_driver _ _ _ (by_driver (entries.Finish dev kept unmask))
-  at_driver k (entries.Done dev) = no_driver _ _ _ (by_driver (entries.Done dev))
-  at_driver k e = one_driver (p e) (k == driver_key e)
+  at_driver k (by.Driver driver e) = one_driver (p (by.Driver driver e)) (k == driver.0)
+  at_driver k (by.DriverCall driver call) = one_driver (p (by.DriverCall driver call)) (k == driver.0)
+  at_driver k e = no_driver _ _ _ (by_driver e)
 
   of_driver : (def : LineDef) (past : List Entry) → FollowsScriptsPast def past → (k : ℕ)
       → total_at driver_key (λ e. one_if (p e)) k past ≤ total_at (λ c. c.0.0) (λ c. w c.1) k def.calls
@@ -142,53 +132,80 @@ most_entries (calls.Ask dev) = 1
 most_entries _ = 3
 
 most_made : (c : Call) (es : List Entry) → MakesAll c es → count_of is_by_any_driver es ≤ most_entries c
-most_made (calls.Ask d) (entries.Ask r dev ∷ []) h = omega arith
-most_made (calls.Request d flags) (entries.Request r dev given answer opened ∷ []) h = omega arith
-most_made (calls.Free d) (entries.Unlink r dev unlinks.NotThere ∷ []) h = omega arith
-most_made (calls.Free d) (entries.Unlink r dev (unlinks.Unlinked last) ∷ entries.HardClear s ∷ entries.Freed t freed ∷ []) h = omega arith
-most_made calls.Disable (entries.Disable r ∷ entries.HardClear s ∷ entries.Synced t ∷ []) h = omega arith
-most_made calls.DisableNosync (entries.Disable r ∷ []) h = omega arith
-most_made calls.Enable (entries.Enable r answer ∷ []) h = omega arith
-most_made calls.Sync (entries.HardClear r ∷ entries.Synced s ∷ []) h = omega arith
-most_made (calls.Affinity mask) (entries.Affinity r given answer ∷ []) h = omega arith
-most_made (calls.Moment at) (entries.Moment r given ∷ []) h = omega arith
+most_made (calls.Ask d) (by.Driver r (drivers.Ask makes dev) ∷ []) h = omega arith
+most_made (calls.Request d flags) (by.Driver r (drivers.Request given answer opened dev) ∷ []) h = omega arith
+most_made (calls.Free d) (by.DriverCall r (called.Unlink unlinks.NotThere dev) ∷ []) h = omega arith
+most_made (calls.Free d) (by.DriverCall r (called.Unlink (unlinks.Unlinked last) dev) ∷ by.DriverCall s called.HardClear
+    ∷ by.DriverCall t (called.Freed freed) ∷ []) h = omega arith
+most_made calls.Disable (by.DriverCall r called.Disable ∷ by.DriverCall s called.HardClear ∷ by.DriverCall t called.Synced ∷ []) h = omega arith
+most_made calls.DisableNosync (by.DriverCall r called.Disable ∷ []) h = omega arith
+most_made calls.Enable (by.DriverCall r (called.Enable answer) ∷ []) h = omega arith
+most_made calls.Sync (by.DriverCall r called.HardClear ∷ by.DriverCall s called.Synced ∷ []) h = omega arith
+most_made (calls.Affinity mask) (by.Driver r (drivers.Affinity answer given) ∷ []) h = omega arith
+most_made (calls.Moment at) (by.Driver r (drivers.Moment given) ∷ []) h = omega arith
 most_made c es h = absurd h
 
 asks_made : (c : Call) (es : List Entry) → MakesAll c es → count_of is_any_ask es ≤ one_if (is_ask_call c)
-asks_made (calls.Ask d) (entries.Ask r dev ∷ []) h = omega arith
-asks_made (calls.Request d flags) (entries.Request r dev given answer opened ∷ []) h = omega arith
-asks_made (calls.Free d) (entries.Unlink r dev unlinks.NotThere ∷ []) h = omega arith
-asks_made (calls.Free d) (entries.Unlink r dev (unlinks.Unlinked last) ∷ entries.HardClear s ∷ entries.Freed t freed ∷ []) h = omega arith
-asks_made calls.Disable (entries.Disable r ∷ entries.HardClear s ∷ entries.Synced t ∷ []) h = omega arith
-asks_made calls.DisableNosync (entries.Disable r ∷ []) h = omega arith
-asks_made calls.Enable (entries.Enable r answer ∷ []) h = omega arith
-asks_made calls.Sync (entries.HardClear r ∷ entries.Synced s ∷ []) h = omega arith
-asks_made (calls.Affinity mask) (entries.Affinity r given answer ∷ []) h = omega arith
-asks_made (calls.Moment at) (entries.Moment r given ∷ []) h = omega arith
+asks_made (calls.Ask d) (by.Driver r (drivers.Ask makes dev) ∷ []) h = omega arith
+asks_made (calls.Request d flags) (by.Driver r (drivers.Request given answer opened dev) ∷ []) h = omega arith
+asks_made (calls.Free d) (by.DriverCall r (called.Unlink unlinks.NotThere dev) ∷ []) h = omega arith
+asks_made (calls.Free d) (by.DriverCall r (called.Unlink (unlinks.Unlinked last) dev) ∷ by.DriverCall s called.HardClear
+    ∷ by.DriverCall t (called.Freed freed) ∷ []) h = omega arith
+asks_made calls.Disable (by.DriverCall r called.Disable ∷ by.DriverCall s called.HardClear ∷ by.DriverCall t called.Synced ∷ []) h = omega arith
+asks_made calls.DisableNosync (by.DriverCall r called.Disable ∷ []) h = omega arith
+asks_made calls.Enable (by.DriverCall r (called.Enable answer) ∷ []) h = omega arith
+asks_made calls.Sync (by.DriverCall r called.HardClear ∷ by.DriverCall s called.Synced ∷ []) h = omega arith
+asks_made (calls.Affinity mask) (by.Driver r (drivers.Affinity answer given) ∷ []) h = omega arith
+asks_made (calls.Moment at) (by.Driver r (drivers.Moment given) ∷ []) h = omega arith
 asks_made c es h = absurd h
 
 renewals_made : (c : Call) (es : List Entry) → MakesAll c es → count_of is_renewal es ≤ one_if (not (is_ask_call c))
-renewals_made (calls.Ask d) (entries.Ask r dev ∷ []) h = omega arith
-renewals_made (calls.Request d flags) (entries.Request r dev given answer opened ∷ []) h = at_most_one (is_renewal (entries.Request r dev given answer opened))
-renewals_made (calls.Free d) (entries.Unlink r dev unlinks.NotThere ∷ []) h = omega arith
-renewals_made (calls.Free d) (entries.Unlink r dev (unlinks.Unlinked last) ∷ entries.HardClear s ∷ entries.Freed t freed ∷ []) h = omega arith
-renewals_made calls.Disable (entries.Disable r ∷ entries.HardClear s ∷ entries.Synced t ∷ []) h = omega arith
-renewals_made calls.DisableNosync (entries.Disable r ∷ []) h = omega arith
-renewals_made calls.Enable (entries.Enable r answer ∷ []) h = at_most_one (is_renewal (entries.Enable r answer))
-renewals_made calls.Sync (entries.HardClear r ∷ entries.Synced s ∷ []) h = omega arith
-renewals_made (calls.Affinity mask) (entries.Affinity r given answer ∷ []) h = omega arith
-renewals_made (calls.Moment at) (entries.Moment r given ∷ []) h = omega arith
+renewals_made (calls.Ask d) (by.Driver r (drivers.Ask makes dev) ∷ []) h = omega arith
+renewals_made (calls.Request d flags) (by.Driver r (drivers.Request given answer opened dev) ∷ []) h
+    = at_most_one (is_renewal (by.Driver r (drivers.Request given answer opened dev)))
+renewals_made (calls.Free d) (by.DriverCall r (called.Unlink unlinks.NotThere dev) ∷ []) h = omega arith
+renewals_made (calls.Free d) (by.DriverCall r (called.Unlink (unlinks.Unlinked last) dev)
+    ∷ by.DriverCall s called.HardClear ∷ by.DriverCall t (called.Freed freed) ∷ []) h = omega arith
+renewals_made calls.Disable (by.DriverCall r called.Disable ∷ by.DriverCall s called.HardClear ∷ by.DriverCall t called.Synced ∷ []) h = omega arith
+renewals_made calls.DisableNosync (by.DriverCall r called.Disable ∷ []) h = omega arith
+renewals_made calls.Enable (by.DriverCall r (called.Enable answer) ∷ []) h = at_most_one (is_renewal (by.DriverCall r (called.Enable answer)))
+renewals_made calls.Sync (by.DriverCall r called.HardClear ∷ by.DriverCall s called.Synced ∷ []) h = omega arith
+renewals_made (calls.Affinity mask) (by.Driver r (drivers.Affinity answer given) ∷ []) h = omega arith
+renewals_made (calls.Moment at) (by.Driver r (drivers.Moment given) ∷ []) h = omega arith
 renewals_made c es h = absurd h
 
 ask_by_driver : (e : Entry) → is_any_ask e ≡ true → is_by_any_driver e ≡ true
-ask_by_driver (entries.Ask driver dev) h = refl
+ask_by_driver (by.Driver driver (drivers.Ask makes dev)) h = refl
 ask_by_driver e h = cc
 
-renewal_by_driver : (e : Entry) → is_renewal e ≡ true → is_by_any_driver e ≡ true
-renewal_by_driver (entries.Enable driver answer) h = refl
-renewal_by_driver (entries.Request driver dev flags answer opened) h = refl
-renewal_by_driver (entries.Moment driver at) h = refl
-renewal_by_driver e h = cc
+-- of a legal history each renewal is a driver's
+renewal_by_driver : (def : LineDef) (e : Entry) (past : List Entry) → IsDue def e past → is_renewal e ≡ true → is_by_any_driver e ≡ true
+renewal_by_driver def (by.Driver driver e) past due h = refl
+renewal_by_driver def (by.DriverCall driver call) past due h = refl
+renewal_by_driver def (by.CpuCall c call) past due h = no_cpu_call def c call past due
+renewal_by_driver def (by.ThreadCall x call) past due h = no_thread_call def x call past due
+renewal_by_driver def e past due h = cc
+
+abbrev is_own_renewal : Entry → Bool
+is_own_renewal e = is_by_any_driver e && is_renewal e
+
+own_renewals : (def : LineDef) (past : List Entry) → IsLegalPast def past → count_of is_renewal past ≤ count_of is_own_renewal past
+own_renewals def [] legal = omega arith
+own_renewals def (e ∷ past) legal =
+    let a = count_more is_renewal e past in
+    let b = count_more is_own_renewal e past in
+    let r = own_renewals def past legal.1 in
+    let m = mark (is_by_any_driver e) (is_renewal e) (renewal_by_driver def e past legal.0) in
+    omega (arith, a, b, r, m)
+  where
+    mark : (d r : Bool) → (r ≡ true → d ≡ true) → one_if r ≤ one_if (d && r)
+    mark d r h = grind arith
+
+own_renewals_made : (c : Call) (es : List Entry) → MakesAll c es → count_of is_own_renewal es ≤ one_if (not (is_ask_call c))
+own_renewals_made c es h =
+    let all = renewals_made c es h in
+    let some = count_imply is_own_renewal is_renewal es (λ e own. (and_parts (is_by_any_driver e) (is_renewal e) own).1) in
+    omega (arith, all, some)
 
 -- ---- the weights of all calls
 
@@ -234,6 +251,8 @@ asks_of_drivers def past legal =
 
 pub renewals_of_drivers : (def : LineDef) (past : List Entry) → IsLegalPast def past → count_of is_renewal past ≤ other_calls def
 renewals_of_drivers def past legal =
-    let all = of_drivers is_renewal (λ c. one_if (not (is_ask_call c))) renewal_by_driver renewals_made def past (follows_past def past legal) in
+    let all = of_drivers is_own_renewal (λ c. one_if (not (is_ask_call c)))
+    (λ e own. (and_parts (is_by_any_driver e) (is_renewal e) own).0) own_renewals_made def past (follows_past def past legal) in
+    let own = own_renewals def past legal in
     let weights = count_total (λ (c : DriverNo × Call). not (is_ask_call c.1)) def.calls in
-    omega (arith, all, weights)
+    omega (arith, all, own, weights)

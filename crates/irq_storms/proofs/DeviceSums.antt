@@ -7,7 +7,10 @@ use Rattle.irq_base.specs.declared.devices.DeviceDef.{DeviceDef}
 use Rattle.irq_base.specs.declared.calls.Call.TheVariants as calls
 use Rattle.irq_base.specs.declared.lines.LineDef.{LineDef}
 use Rattle.irq_base.specs.declared.entries.Entry.{Entry}
-use Rattle.irq_base.specs.declared.entries.Entry.TheVariants as entries
+use Rattle.irq_base.specs.declared.entries.Entry.TheVariants as by
+use Rattle.irq_base.specs.declared.entries.CpuEntry.TheVariants as cpus
+use Rattle.irq_base.specs.declared.entries.ThreadEntry.TheVariants as threads
+use Rattle.irq_base.specs.declared.entries.DriverEntry.TheVariants as drivers
 use Rattle.irq_model.specs.Places.{count_of}
 use Rattle.irq_model.specs.Kinds.{is_any_ask, is_ask}
 use Rattle.irq_model.specs.Lines.{is_device}
@@ -88,8 +91,8 @@ present f d (x ∷ xs) apart h = by_test (is_device d x) refl h (λ t. present f
 
 ask_named : (def : LineDef) (d : DevNo) (e : Entry) (past : List Entry) → IsValid def → IsDue def e past
     → is_ask d e ≡ true → list_any (is_device d) def.devices ≡ true
-ask_named def d (entries.Ask r x) past valid due h =
-    let u = ask_due def r x past due in
+ask_named def d (by.Driver r (drivers.Ask makes x)) past valid due h =
+    let u = ask_due _ def r x past due in
     subst (λ (y : DevNo). list_any (is_device y) def.devices ≡ true) (sym (dev_from_same d x h))
     (due_passes (names_one_of def.devices) r def.calls (entries_by r past) (calls.Ask x) u.count valid.calls u.call)
 ask_named def d e past valid due h = cc
@@ -123,8 +126,8 @@ no_weight true = refl
 no_weight false = refl
 
 key_served : (k : ℕ) (e : Entry) → cond (k == dev_key e) (all_served e) 0 ≡ asks_served (record { 0 = k }) e
-key_served k (entries.Return cpu dev answer served) = refl
-key_served k (entries.ThreadReturn dev served) = refl
+key_served k (by.Cpu cpu (cpus.Return answer dev served)) = refl
+key_served k (by.Thread dev (threads.Return handled served)) = refl
 key_served k e = no_weight (k == dev_key e)
 
 pub served_of_all : (def : LineDef) (past : List Entry) → IsValid def → IsLegalPast def past

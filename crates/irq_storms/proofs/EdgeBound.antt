@@ -4,7 +4,9 @@ use Rattle.std.proofs.lemmas.List.{reverse-reverse}
 use Rattle.std.proofs.Math.Nat.{mul-add, add-mul, mul-le-mul_left, mul-one, mul_assoc}
 use Rattle.irq_base.specs.declared.lines.LineDef.{LineDef}
 use Rattle.irq_base.specs.declared.entries.Entry.{Entry}
-use Rattle.irq_base.specs.declared.entries.Entry.TheVariants as entries
+use Rattle.irq_base.specs.declared.entries.Entry.TheVariants as by
+use Rattle.irq_base.specs.declared.entries.CpuEntry.TheVariants as cpus
+use Rattle.irq_base.specs.declared.entries.ThreadEntry.TheVariants as threads
 use Rattle.irq_model.specs.Places.{count_of}
 use Rattle.irq_model.specs.Kinds.{is_take}
 use Rattle.irq_model.specs.Lines.{is_edge_line}
@@ -12,6 +14,7 @@ use Rattle.irq_model.specs.Rounds.{begins_round}
 use Rattle.irq_model.specs.Bounds.{ask_calls, other_calls, edge_bound}
 use Rattle.irq_model.specs.Legal.{IsLegal, IsLegalPast}
 use Rattle.irq_model.specs.Valid.{IsValid}
+use Rattle.irq_laws.proofs.OwnLaws.{no_cpu_call, no_thread_call}
 use Rattle.irq_laws.proofs.TakeLaws.{takes_are_counted}
 use Rattle.irq_storms.specs.Tests.{is_any_begin, is_any_return, is_end, is_by_any_driver}
 use Rattle.irq_storms.proofs.RunCounts.{begins_past, returns_past, rounds_past}
@@ -28,24 +31,27 @@ abbrev pub of_threads : List Entry → ℕ
 of_threads past = count_of is_any_thread_begin past + count_of is_any_thread_return past + count_of is_any_finish past + count_of is_any_done past
 
 -- each entry is of one kind
-all_kinds : (past : List Entry) → length past ≡ of_cpus past + of_threads past + count_of is_by_any_driver past
-all_kinds [] = refl
-all_kinds (entries.Take cpu way answer ∷ past) = let r = all_kinds past in omega (arith, r)
-all_kinds (entries.Begin cpu dev ∷ past) = let r = all_kinds past in omega (arith, r)
-all_kinds (entries.Return cpu dev answer served ∷ past) = let r = all_kinds past in omega (arith, r)
-all_kinds (entries.End cpu again unmask note ∷ past) = let r = all_kinds past in omega (arith, r)
-all_kinds (entries.ThreadBegin dev ∷ past) = let r = all_kinds past in omega (arith, r)
-all_kinds (entries.ThreadReturn dev served ∷ past) = let r = all_kinds past in omega (arith, r)
-all_kinds (entries.Finish dev kept unmask ∷ past) = let r = all_kinds past in omega (arith, r)
-all_kinds (entries.Done dev ∷ past) = let r = all_kinds past in omega (arith, r)
-all_kinds (e ∷ past) = let r = all_kinds past in omega (arith, r)
+all_kinds : (def : LineDef) (past : List Entry) → IsLegalPast def past → length past ≡ of_cpus past + of_threads past + count_of is_by_any_driver past
+all_kinds def [] legal = refl
+all_kinds def (by.Cpu cpu (cpus.Take way answer) ∷ past) legal = let r = all_kinds def past legal.1 in omega (arith, r)
+all_kinds def (by.Cpu cpu (cpus.Begin dev) ∷ past) legal = let r = all_kinds def past legal.1 in omega (arith, r)
+all_kinds def (by.Cpu cpu (cpus.Return answer dev served) ∷ past) legal = let r = all_kinds def past legal.1 in omega (arith, r)
+all_kinds def (by.Cpu cpu (cpus.End again unmask note) ∷ past) legal = let r = all_kinds def past legal.1 in omega (arith, r)
+all_kinds def (by.Thread dev threads.Begin ∷ past) legal = let r = all_kinds def past legal.1 in omega (arith, r)
+all_kinds def (by.Thread dev (threads.Return handled served) ∷ past) legal = let r = all_kinds def past legal.1 in omega (arith, r)
+all_kinds def (by.Thread dev (threads.Finish kept unmask) ∷ past) legal = let r = all_kinds def past legal.1 in omega (arith, r)
+all_kinds def (by.Thread dev threads.Done ∷ past) legal = let r = all_kinds def past legal.1 in omega (arith, r)
+all_kinds def (by.Driver driver e ∷ past) legal = let r = all_kinds def past legal.1 in omega (arith, r)
+all_kinds def (by.DriverCall driver call ∷ past) legal = let r = all_kinds def past legal.1 in omega (arith, r)
+all_kinds def (by.CpuCall c call ∷ past) legal = no_cpu_call def c call past legal.0
+all_kinds def (by.ThreadCall x call ∷ past) legal = no_thread_call def x call past legal.0
 
 -- by the takes, the rounds, and what the drivers add
 pub by_rounds : (def : LineDef) (past : List Entry) → IsValid def → IsLegalPast def past
     → length past ≤ count_of is_take past + count_of (begins_round def) past + 6 *
     (length def.devices * count_of (begins_round def) past) + (ask_calls def + 3 * other_calls def)
 by_rounds def past valid legal =
-    plain _ _ _ _ _ _ _ _ _ _ _ _ _ _ (all_kinds past) (begins_past def past valid legal) (returns_past def past legal)
+    plain _ _ _ _ _ _ _ _ _ _ _ _ _ _ (all_kinds def past legal) (begins_past def past valid legal) (returns_past def past legal)
     (rounds_past def past legal) (thread_begins_past def past legal) (thread_returns_past def past legal)
     (finishes_past def past legal)
     (dones_past def past legal) (driver_entries def past legal)

@@ -5,7 +5,9 @@ use Rattle.irq_base.specs.declared.lines.FlowKind.{FlowKind}
 use Rattle.irq_base.specs.declared.lines.FlowKind.TheVariants as flows
 use Rattle.irq_base.specs.declared.lines.LineDef.{LineDef}
 use Rattle.irq_base.specs.declared.entries.Entry.{Entry}
-use Rattle.irq_base.specs.declared.entries.Entry.TheVariants as entries
+use Rattle.irq_base.specs.declared.entries.Entry.TheVariants as by
+use Rattle.irq_base.specs.declared.entries.CpuEntry.TheVariants as cpus
+use Rattle.irq_base.specs.declared.entries.DriverEntry.TheVariants as drivers
 use Rattle.irq_base.specs.declared.entries.Way.TheVariants as ways
 use Rattle.irq_base.specs.declared.entries.TakeAnswer.TheVariants as takes
 use Rattle.irq_base.specs.declared.entries.Note.{Note}
@@ -14,7 +16,7 @@ use Rattle.irq_base.specs.declared.entries.Opened.{Opened}
 use Rattle.irq_base.specs.declared.entries.Opened.TheVariants as opens
 use Rattle.irq_model.specs.Places.{count_of, last_of}
 use Rattle.irq_model.specs.Kinds.{opened_of, is_started_opened, is_chip_opened, is_soft_opened, is_take, is_line_take}
-use Rattle.irq_model.specs.Kinds.{is_resend_take, is_handle, is_busy, is_off, is_again, is_any_ask, is_start}
+use Rattle.irq_model.specs.Kinds.{is_resend_take, is_handle, is_busy, is_off, is_again, is_any_ask, is_device_edge, is_start}
 use Rattle.irq_model.specs.Kinds.{is_chip_start, is_soft_start}
 use Rattle.irq_model.specs.Lines.{is_edge_line, is_eoi_flow}
 use Rattle.irq_model.specs.Links.{is_disabled, is_none_linked}
@@ -37,15 +39,15 @@ use Rattle.irq_storms.proofs.CallCounts.{asks_of_drivers, renewals_of_drivers}
 
 pub takes_by_answer : (past : List Entry) → count_of is_take past ≡ count_of is_handle past + count_of is_busy past + count_of is_off past
 takes_by_answer [] = refl
-takes_by_answer (entries.Take c way takes.Handle ∷ past) = let r = takes_by_answer past in omega (arith, r)
-takes_by_answer (entries.Take c way takes.Busy ∷ past) = let r = takes_by_answer past in omega (arith, r)
-takes_by_answer (entries.Take c way takes.Off ∷ past) = let r = takes_by_answer past in omega (arith, r)
+takes_by_answer (by.Cpu c (cpus.Take way takes.Handle) ∷ past) = let r = takes_by_answer past in omega (arith, r)
+takes_by_answer (by.Cpu c (cpus.Take way takes.Busy) ∷ past) = let r = takes_by_answer past in omega (arith, r)
+takes_by_answer (by.Cpu c (cpus.Take way takes.Off) ∷ past) = let r = takes_by_answer past in omega (arith, r)
 takes_by_answer (e ∷ past) = takes_by_answer past
 
 takes_by_way : (past : List Entry) → count_of is_take past ≡ count_of is_line_take past + count_of is_resend_take past
 takes_by_way [] = refl
-takes_by_way (entries.Take c ways.Line answer ∷ past) = let r = takes_by_way past in omega (arith, r)
-takes_by_way (entries.Take c ways.Resend answer ∷ past) = let r = takes_by_way past in omega (arith, r)
+takes_by_way (by.Cpu c (cpus.Take ways.Line answer) ∷ past) = let r = takes_by_way past in omega (arith, r)
+takes_by_way (by.Cpu c (cpus.Take ways.Resend answer) ∷ past) = let r = takes_by_way past in omega (arith, r)
 takes_by_way (e ∷ past) = takes_by_way past
 
 -- an end that goes on within the flow, or one that makes an edge
@@ -62,7 +64,7 @@ round_marks false true k = refl
 round_marks false false k = refl
 
 no_end : (def : LineDef) (e : Entry) → is_handle e ≡ true → goes_on def e ≡ false
-no_end def (entries.End c again unmask note) h = cc
+no_end def (by.Cpu c (cpus.End again unmask note)) h = cc
 no_end def e h = refl
 
 pub rounds_by_entry : (def : LineDef) (past : List Entry) → count_of (begins_round def) past ≡ count_of is_handle past + count_of (goes_on def) past
@@ -117,7 +119,7 @@ agains_end : (past : List Entry) → count_of is_again past ≤ count_of is_end 
 agains_end past = count_imply is_again is_end past ends
   where
     ends : (e : Entry) → is_again e ≡ true → is_end e ≡ true
-    ends (entries.End c again unmask note) h = refl
+    ends (by.Cpu c (cpus.End again unmask note)) h = refl
     ends e h = cc
 
 -- ---- the ends with again are at most the takes that were answered busy
@@ -146,30 +148,31 @@ off_idle true o h = cc
 off_idle false o h = refl
 
 pend_more : (def : LineDef) (e : Entry) (past : List Entry) → IsDue def e past → StaysBelow is_again is_busy (λ past. one_if (goes_on_later def past)) e past
-pend_more def (entries.Take c way takes.Handle) past due =
-    let m = cleared_mark (has_flow def (entries.Take c way takes.Handle ∷ past)) false (is_edge_line def) (is_pending def past) in omega (arith, m)
-pend_more def (entries.Take c way takes.Busy) past due = let m = mark_most (goes_on_later def (entries.Take c way takes.Busy ∷ past)) in omega (arith, m)
-pend_more def (entries.Take c way takes.Off) past due =
-    let e = entries.Take c way takes.Off in
+pend_more def (by.Cpu c (cpus.Take way takes.Handle)) past due =
+    let m = cleared_mark (has_flow def (by.Cpu c (cpus.Take way takes.Handle) ∷ past)) false (is_edge_line def) (is_pending def past) in omega (arith, m)
+pend_more def (by.Cpu c (cpus.Take way takes.Busy)) past due = let m
+    = mark_most (goes_on_later def (by.Cpu c (cpus.Take way takes.Busy) ∷ past)) in omega (arith, m)
+pend_more def (by.Cpu c (cpus.Take way takes.Off)) past due =
+    let e = by.Cpu c (cpus.Take way takes.Off) in
     let same : has_flow def (e ∷ past) ≡ has_flow def past = ap is_some (flow_quiet def e past refl refl refl) in
     let idle = off_idle (has_flow def past) (is_disabled past || is_none_linked past) (take_due def c way takes.Off past due).answer_is in
     let m = no_flow_mark (has_flow def (e ∷ past)) (is_pending def (e ∷ past)) (same ∙ idle) in
     omega (arith, m)
-pend_more def (entries.End c true unmask note) past due =
+pend_more def (by.Cpu c (cpus.End true unmask note)) past due =
     let u = end_due def c true unmask note past due in
     let f = has_a_flow c (flow def past) u.of_flow in
     let p = again_pends def def.flow past (note_of def past) (sym u.again_is) in
     let was : one_if (goes_on_later def past) ≡ 1 = both (has_flow def past) (is_pending def past) f p in
-    let m = cleared_mark (has_flow def (entries.End c true unmask note ∷ past)) false (is_edge_line def) (is_pending def past) in
+    let m = cleared_mark (has_flow def (by.Cpu c (cpus.End true unmask note) ∷ past)) false (is_edge_line def) (is_pending def past) in
     omega (arith, m, was)
   where
     both : (a b : Bool) → a ≡ true → b ≡ true → one_if (a && b) ≡ 1
     both a b h i = grind arith
-pend_more def (entries.End c false unmask note) past due = let m = closed (is_eoi_flow def.flow) in omega (arith, m)
+pend_more def (by.Cpu c (cpus.End false unmask note)) past due = let m = closed (is_eoi_flow def.flow) in omega (arith, m)
   where
     closed : (b : Bool) → one_if (is_some (cpu_of_handle
-        (cond (false || (true || (b && false))) (Some (entries.End c false unmask note))
-        (last_of (λ e. is_handle e || closes def e) past))) && is_pending def (entries.End c false unmask note ∷ past))
+        (cond (false || (true || (b && false))) (Some (by.Cpu c (cpus.End false unmask note)))
+        (last_of (λ e. is_handle e || closes def e) past))) && is_pending def (by.Cpu c (cpus.End false unmask note) ∷ past))
         ≡ 0
     closed b = refl
 pend_more def e past due =
@@ -189,11 +192,22 @@ pub record EdgeCounts (def : LineDef) (past : List Entry) : Type 0 where
   pub rounds : count_of (begins_round def) past ≤ ask_calls def + other_calls def
   pub takes : count_of is_take past ≤ 2 * (ask_calls def + other_calls def)
 
+-- no more edges come from the devices than they ask
+edge_asks : (e : Entry) → is_device_edge e ≡ true → is_any_ask e ≡ true
+edge_asks (by.Driver s (drivers.Ask makes x)) h = refl
+edge_asks e h = cc
+
+pub edges_are_asks : (past : List Entry) → count_of is_device_edge past ≤ count_of is_any_ask past
+edges_are_asks past = count_imply is_device_edge is_any_ask past edge_asks
+
 -- from the counts that were kept
 pub edge_counts : (def : LineDef) (past : List Entry) → IsLegalPast def past
-    → count_of is_line_take past ≤ count_of is_any_ask past + count_of is_chip_start past + count_of (retriggers def) past
+    → count_of is_line_take past ≤ count_of is_device_edge past + count_of is_chip_start past + count_of (retriggers def) past
     → count_of is_resend_take past ≤ count_of is_soft_start past → EdgeCounts def past
-edge_counts def past legal by_line by_resend =
+edge_counts def past legal by_edges by_resend =
+    let edges = edges_are_asks past in
+    let by_line : count_of is_line_take past ≤ count_of is_any_ask past + count_of is_chip_start past + count_of (retriggers def) past
+    = omega (arith, by_edges, edges) in
     let answers = takes_by_answer past in
     let ways = takes_by_way past in
     let rounds = rounds_by_entry def past in

@@ -1,11 +1,14 @@
 -- The ends of a level line that were judged handled, deferred, or nothing.
-use Rattle.std.proofs.Common.{◌≡◌, ℕ, ◌+◌, ◌*◌, ◌<◌, ◌≤◌, ◌==◌, Bool, true, false, not, ◌||◌, ◌&&◌, cond, nat_lt, List, [], ◌∷◌, refl, ap, ◌∙◌, arith}
+use Rattle.std.proofs.Common.{◌≡◌, ℕ, ◌+◌, ◌*◌, ◌<◌, ◌≤◌, ◌==◌, Bool, true, false, not, ◌||◌, ◌&&◌, cond, nat_lt, List, [], ◌∷◌, refl, sym, ap, ◌∙◌, arith}
 use Rattle.std.proofs.Math.Nat.{mul-add, mul-one}
 use Rattle.std.proofs.lemmas.Bool.{or_parts, false_from_ne_true}
 use Rattle.irq_base.specs.declared.numbers.CpuNo.{CpuNo}
 use Rattle.irq_base.specs.declared.lines.LineDef.{LineDef}
 use Rattle.irq_base.specs.declared.entries.Entry.{Entry}
-use Rattle.irq_base.specs.declared.entries.Entry.TheVariants as entries
+use Rattle.irq_base.specs.declared.entries.Entry.TheVariants as by
+use Rattle.irq_base.specs.declared.entries.CpuEntry.TheVariants as cpus
+use Rattle.irq_base.specs.declared.entries.ThreadEntry.TheVariants as threads
+use Rattle.irq_base.specs.declared.entries.DriverEntry.TheVariants as drivers
 use Rattle.irq_base.specs.declared.entries.TakeAnswer.TheVariants as takes
 use Rattle.irq_base.specs.declared.entries.LinkAnswer.TheVariants as links
 use Rattle.irq_base.specs.declared.entries.Note.{Note}
@@ -19,6 +22,7 @@ use Rattle.irq_model.specs.Legal.{IsDue, IsLegalPast}
 use Rattle.irq_model.specs.Valid.{IsValid}
 use Rattle.irq_laws.proofs.Lists.{both_ways}
 use Rattle.irq_laws.proofs.ImpliesFlow.{end_due, has_a_flow}
+use Rattle.irq_laws.proofs.ImpliesThread.{thread_return_answer}
 use Rattle.irq_storms.specs.Tests.{is_end, is_any_serving, is_moment, is_renewal}
 use Rattle.irq_storms.specs.Judged.{one_if, count_where, judgement, is_handled_judgement, is_nothing_judgement}
 use Rattle.irq_storms.specs.Judged.{ends_handled, ends_nothing, ends_deferred, ends_clearing, handled_ends}
@@ -70,6 +74,9 @@ HandledMore def e past = StaysWithin (ends_handled def) (λ e past. is_any_servi
 quiet_marks : (f f' r : Bool) (t : ℕ) → f' ≡ f → 0 + (one_if (f' && r) + t) + 0 ≤ (one_if (f && r) + t) + 0 + 0
 quiet_marks f f' r t same = rw same (omega arith)
 
+idle_marks : (f f' r : Bool) (t n : ℕ) → f' ≡ f → 0 + (one_if (f' && r) + t) + 0 ≤ (one_if (f && r) + t) + 0 + n
+idle_marks f f' r t n same = rw same (omega arith)
+
 return_marks : (f f' r a : Bool) (t : ℕ) → f' ≡ f → 0 + (one_if (f' && (a || r)) + t) + 0 ≤ (one_if (f && r) + t) + 0 + one_if a
 return_marks f f' r a t same = rw same (by_tests f a)
   where
@@ -79,8 +86,8 @@ return_marks f f' r a t same = rw same (by_tests f a)
     by_tests false a = omega arith
 
 handled_more : (def : LineDef) (e : Entry) (past : List Entry) → IsValid def → is_level_line def ≡ true → IsDue def e past → HandledMore def e past
-handled_more def (entries.End c again unmask note) past valid level due =
-    let e = entries.End c again unmask note in
+handled_more def (by.Cpu c (cpus.End again unmask note)) past valid level due =
+    let e = by.Cpu c (cpus.End again unmask note) in
     let f = facts_of def past in
     let m = f.marks in
     let after : one_if (has_flow def (e ∷ past) && round_handles def (e ∷ past)) ≡ 0 = none _ _ (no_flow_after def c again unmask note past valid level due) in
@@ -94,33 +101,37 @@ handled_more def (entries.End c again unmask note) past valid level due =
 
     some : (a b : Bool) → a ≡ true → one_if (a && b) ≡ one_if b
     some a b h = grind arith
-handled_more def (entries.ThreadReturn x served) past valid level due
-    = by_served (nat_lt 0 served) (flow_stays def (entries.ThreadReturn x served) past refl refl refl)
+handled_more def (by.Thread x (threads.Return handled served)) past valid level due
+    = by_answer handled (flow_stays def (by.Thread x (threads.Return handled served)) past refl refl refl)
+    (thread_return_answer def x handled served past due)
   where
-    by_served : (b : Bool) → has_flow def (entries.ThreadReturn x served ∷ past) ≡ has_flow def past
-        → 0 + (one_if (has_flow def (entries.ThreadReturn x served ∷ past) && round_handles def past) + one_if
+    by_answer : (b : Bool) → has_flow def (by.Thread x (threads.Return handled served) ∷ past) ≡ has_flow def past → b ≡ nat_lt 0 served
+        → 0 + (one_if (has_flow def (by.Thread x (threads.Return handled served) ∷ past) && round_handles def past) + one_if
         (not ((cond b (record (counts_of def past) { threads_handled = (counts_of def past).threads_handled + 1 })
         (counts_of def past)).threads_handled == (cond b
         (record (counts_of def past) { threads_handled = (counts_of def past).threads_handled + 1 })
         (counts_of def past)).last))) + 0
-        ≤ serving_marks def past + 0 + one_if b
-    by_served true same =
+        ≤ serving_marks def past + 0 + one_if (nat_lt 0 served)
+    by_answer true same is =
         let m = mark_most (not ((counts_of def past).threads_handled + 1 == (counts_of def past).last)) in
-        let s : one_if (has_flow def (entries.ThreadReturn x served ∷ past) && round_handles def past)
+        let s : one_if (has_flow def (by.Thread x (threads.Return handled served) ∷ past) && round_handles def past)
         ≡ one_if (has_flow def past && round_handles def past)
         = ap (λ (f : Bool). one_if (f && round_handles def past)) same in
-        omega (arith, m, s)
-    by_served false same = quiet_marks _ _ _ _ same
-handled_more def (entries.Return c x answer served) past valid level due =
-    return_marks (has_flow def past) (has_flow def (entries.Return c x answer served ∷ past)) (round_handles def past)
-    (is_handled answer) _ (flow_stays def (entries.Return c x answer served) past refl refl refl)
-handled_more def (entries.Take c way takes.Handle) past valid level due = omega arith
-handled_more def (entries.Take c way takes.Busy) past valid level due = quiet_marks _ _ _ _ (flow_stays def (entries.Take c way takes.Busy) past refl refl refl)
-handled_more def (entries.Take c way takes.Off) past valid level due = quiet_marks _ _ _ _ (flow_stays def (entries.Take c way takes.Off) past refl refl refl)
-handled_more def (entries.Request s x flags links.Linked opened) past valid level due
-    = quiet_marks _ _ _ _ (flow_stays def (entries.Request s x flags links.Linked opened) past refl refl refl)
-handled_more def (entries.Request s x flags (links.Refused error) opened) past valid level due
-    = quiet_marks _ _ _ _ (flow_stays def (entries.Request s x flags (links.Refused error) opened) past refl refl refl)
+        let one : one_if (nat_lt 0 served) ≡ 1 = ap one_if (sym is) in
+        omega (arith, m, s, one)
+    by_answer false same is = idle_marks _ _ _ _ _ same
+handled_more def (by.Cpu c (cpus.Return answer x served)) past valid level due =
+    return_marks (has_flow def past) (has_flow def (by.Cpu c (cpus.Return answer x served) ∷ past)) (round_handles def past)
+    (is_handled answer) _ (flow_stays def (by.Cpu c (cpus.Return answer x served)) past refl refl refl)
+handled_more def (by.Cpu c (cpus.Take way takes.Handle)) past valid level due = omega arith
+handled_more def (by.Cpu c (cpus.Take way takes.Busy)) past valid level due
+    = quiet_marks _ _ _ _ (flow_stays def (by.Cpu c (cpus.Take way takes.Busy)) past refl refl refl)
+handled_more def (by.Cpu c (cpus.Take way takes.Off)) past valid level due
+    = quiet_marks _ _ _ _ (flow_stays def (by.Cpu c (cpus.Take way takes.Off)) past refl refl refl)
+handled_more def (by.Driver s (drivers.Request flags links.Linked opened x)) past valid level due
+    = quiet_marks _ _ _ _ (flow_stays def (by.Driver s (drivers.Request flags links.Linked opened x)) past refl refl refl)
+handled_more def (by.Driver s (drivers.Request flags (links.Refused error) opened x)) past valid level due
+    = quiet_marks _ _ _ _ (flow_stays def (by.Driver s (drivers.Request flags (links.Refused error) opened x)) past refl refl refl)
 handled_more def e past valid level due = quiet_marks _ _ _ _ (flow_stays def e past refl refl refl)
 
 pub handled_past : (def : LineDef) (past : List Entry) → IsValid def → IsLegalPast def past → is_level_line def ≡ true
@@ -137,16 +148,16 @@ abbrev DeferredMore : LineDef → Entry → List Entry → Type 0
 DeferredMore def e past = StaysWithin (ends_deferred def) (ends_clearing def) (λ past. 0) (λ past. one_if (counts_of def past).deferred) e past
 
 deferred_more : (def : LineDef) (e : Entry) (past : List Entry) → DeferredMore def e past
-deferred_more def (entries.End c again unmask note) past = let d = (facts_of def past).deferred in omega (arith, d)
-deferred_more def (entries.ThreadReturn x served) past = by_served (nat_lt 0 served)
+deferred_more def (by.Cpu c (cpus.End again unmask note)) past = let d = (facts_of def past).deferred in omega (arith, d)
+deferred_more def (by.Thread x (threads.Return handled served)) past = by_answer handled
   where
-    by_served : (b : Bool) → 0 + 0 + one_if (counts_of def past).deferred ≤ 0 + one_if
+    by_answer : (b : Bool) → 0 + 0 + one_if (counts_of def past).deferred ≤ 0 + one_if
         (cond b (record (counts_of def past) { threads_handled = (counts_of def past).threads_handled + 1 })
         (counts_of def past)).deferred + 0
-    by_served true = omega arith
-    by_served false = omega arith
-deferred_more def (entries.Request s x flags links.Linked opened) past = omega arith
-deferred_more def (entries.Request s x flags (links.Refused error) opened) past = omega arith
+    by_answer true = omega arith
+    by_answer false = omega arith
+deferred_more def (by.Driver s (drivers.Request flags links.Linked opened x)) past = omega arith
+deferred_more def (by.Driver s (drivers.Request flags (links.Refused error) opened x)) past = omega arith
 deferred_more def e past = omega arith
 
 pub deferred_past : (def : LineDef) (past : List Entry) → IsLegalPast def past
@@ -175,15 +186,15 @@ clearing_past def (e ∷ past) =
 -- the count of the window is below it
 small_more : (def : LineDef) (e : Entry) (past : List Entry) → 0 < def.window
     → (counts_of def past).irq_count < def.window → (counts_of def (e ∷ past)).irq_count < def.window
-small_more def (entries.End c again unmask note) past some small = (facts_of def past).small small
-small_more def (entries.ThreadReturn x served) past some small = by_served (nat_lt 0 served)
+small_more def (by.Cpu c (cpus.End again unmask note)) past some small = (facts_of def past).small small
+small_more def (by.Thread x (threads.Return handled served)) past some small = by_answer handled
   where
-    by_served : (b : Bool) → (cond b (record (counts_of def past)
+    by_answer : (b : Bool) → (cond b (record (counts_of def past)
         { threads_handled = (counts_of def past).threads_handled + 1 }) (counts_of def past)).irq_count < def.window
-    by_served true = small
-    by_served false = small
-small_more def (entries.Request s x flags links.Linked opened) past some small = some
-small_more def (entries.Request s x flags (links.Refused error) opened) past some small = small
+    by_answer true = small
+    by_answer false = small
+small_more def (by.Driver s (drivers.Request flags links.Linked opened x)) past some small = some
+small_more def (by.Driver s (drivers.Request flags (links.Refused error) opened x)) past some small = small
 small_more def e past some small = small
 
 small_past : (def : LineDef) (past : List Entry) → 0 < def.window → (counts_of def past).irq_count < def.window
@@ -198,25 +209,25 @@ no_renewal false m h = cc
 same_window : (def : LineDef) (e : Entry) (past : List Entry) → is_end e ≡ false → is_renewal e ≡ false
     → allowance def.window (now (e ∷ past)) (counts_of def (e ∷ past))
     ≡ allowance def.window (now past) (counts_of def past)
-same_window def (entries.End c again unmask note) past no_end old = cc
-same_window def (entries.Moment s at) past no_end old = cc
-same_window def (entries.Request s x flags links.Linked opened) past no_end old
-    = no_renewal (is_start (entries.Request s x flags links.Linked opened)) false old
-same_window def (entries.Request s x flags (links.Refused error) opened) past no_end old = refl
-same_window def (entries.ThreadReturn x served) past no_end old = by_served (nat_lt 0 served)
+same_window def (by.Cpu c (cpus.End again unmask note)) past no_end old = cc
+same_window def (by.Driver s (drivers.Moment at)) past no_end old = cc
+same_window def (by.Driver s (drivers.Request flags links.Linked opened x)) past no_end old
+    = no_renewal (is_start (by.Driver s (drivers.Request flags links.Linked opened x))) false old
+same_window def (by.Driver s (drivers.Request flags (links.Refused error) opened x)) past no_end old = refl
+same_window def (by.Thread x (threads.Return handled served)) past no_end old = by_answer handled
   where
-    by_served : (b : Bool) → allowance def.window (now past)
+    by_answer : (b : Bool) → allowance def.window (now past)
         (cond b (record (counts_of def past) { threads_handled = (counts_of def past).threads_handled + 1 })
         (counts_of def past)) ≡ allowance def.window (now past) (counts_of def past)
-    by_served true = refl
-    by_served false = refl
+    by_answer true = refl
+    by_answer false = refl
 same_window def e past no_end old = refl
 
 abbrev NothingMore : LineDef → Entry → List Entry → Type 0
 NothingMore def e past = one_if (ends_nothing def e past) + allowed def (e ∷ past) ≤ allowed def past +
     (cond (ends_handled def e past) (2 * def.window) 0 + cond (is_renewal e) (2 * def.window) 0)
 
-kill_note : (c : CpuNo) (again unmask : Bool) (note : Note) → is_kill (entries.End c again unmask note) ≡ is_killed note
+kill_note : (c : CpuNo) (again unmask : Bool) (note : Note) → is_kill (by.Cpu c (cpus.End again unmask note)) ≡ is_killed note
 kill_note c again unmask notes.Killed = refl
 kill_note c again unmask notes.Quiet = refl
 kill_note c again unmask notes.Counted = refl
@@ -228,11 +239,11 @@ in_flow_open def past valid legal level f = false_from_ne_true (stands is_kill i
     (λ shut. both_ways (has_flow def past) f (shut_past def past valid legal level shut).no_flow)
 
 end_more : (def : LineDef) (c : CpuNo) (again unmask : Bool) (note : Note) (past : List Entry) → IsValid def
-    → IsLegalPast def past → is_level_line def ≡ true → IsDue def (entries.End c again unmask note) past
-    → NothingMore def (entries.End c again unmask note) past
+    → IsLegalPast def past → is_level_line def ≡ true → IsDue def (by.Cpu c (cpus.End again unmask note)) past
+    → NothingMore def (by.Cpu c (cpus.End again unmask note)) past
 end_more def c again unmask note past valid legal level due =
     let u = end_due def c again unmask note past due in
-    let e = entries.End c again unmask note in
+    let e = by.Cpu c (cpus.End again unmask note) in
     let f = facts_of def past in
     let small = small_past def past (let w = valid.some_window in omega (arith, w)) in
     let a = f.allows valid.limit small in
@@ -274,7 +285,7 @@ other_more def e past no_end no_kill = by_renewal (is_renewal e) refl
 
 nothing_more : (def : LineDef) (e : Entry) (past : List Entry) → IsValid def → IsLegalPast def past
     → is_level_line def ≡ true → IsDue def e past → NothingMore def e past
-nothing_more def (entries.End c again unmask note) past valid legal level due = end_more def c again unmask note past valid legal level due
+nothing_more def (by.Cpu c (cpus.End again unmask note)) past valid legal level due = end_more def c again unmask note past valid legal level due
 nothing_more def e past valid legal level due = other_more def e past refl refl
 
 -- the ends judged nothing, plus the ends that the open window allows, are at most two windows for

@@ -7,7 +7,11 @@ use Rattle.irq_base.specs.declared.lines.FlowKind.{FlowKind}
 use Rattle.irq_base.specs.declared.lines.FlowKind.TheVariants as flows
 use Rattle.irq_base.specs.declared.lines.LineDef.{LineDef}
 use Rattle.irq_base.specs.declared.entries.Entry.{Entry}
-use Rattle.irq_base.specs.declared.entries.Entry.TheVariants as entries
+use Rattle.irq_base.specs.declared.entries.Entry.TheVariants as by
+use Rattle.irq_base.specs.declared.entries.CpuEntry.TheVariants as cpus
+use Rattle.irq_base.specs.declared.entries.ThreadEntry.TheVariants as threads
+use Rattle.irq_base.specs.declared.entries.DriverEntry.TheVariants as drivers
+use Rattle.irq_base.specs.declared.entries.CallEntry.TheVariants as called
 use Rattle.irq_base.specs.declared.entries.Way.{Way}
 use Rattle.irq_base.specs.declared.entries.Way.TheVariants as ways
 use Rattle.irq_base.specs.declared.entries.TakeAnswer.{TakeAnswer}
@@ -55,16 +59,16 @@ again_level def flows.Eoi past note valid level is = none (is_edge_line def) _ l
     none a b h = grind arith
 
 pub leaves : (def : LineDef) (c : CpuNo) (again unmask : Bool) (note : Note) (past : List Entry) → IsValid def
-    → is_level_line def ≡ true → IsDue def (entries.End c again unmask note) past → again ≡ false
+    → is_level_line def ≡ true → IsDue def (by.Cpu c (cpus.End again unmask note)) past → again ≡ false
 leaves def c again unmask note past valid level due = (end_due def c again unmask note past due).again_is
     ∙ again_level def def.flow past (note_of def past) valid level refl
 
 -- no flow after an end
 pub no_flow_after : (def : LineDef) (c : CpuNo) (again unmask : Bool) (note : Note) (past : List Entry) → IsValid def
-    → is_level_line def ≡ true → IsDue def (entries.End c again unmask note) past
-    → has_flow def (entries.End c again unmask note ∷ past) ≡ false
+    → is_level_line def ≡ true → IsDue def (by.Cpu c (cpus.End again unmask note)) past
+    → has_flow def (by.Cpu c (cpus.End again unmask note) ∷ past) ≡ false
 no_flow_after def c again unmask note past valid level due =
-    subst (λ (a : Bool). has_flow def (entries.End c a unmask note ∷ past) ≡ false)
+    subst (λ (a : Bool). has_flow def (by.Cpu c (cpus.End a unmask note) ∷ past) ≡ false)
     (sym (leaves def c again unmask note past valid level due)) (flow_closed def c unmask note past)
 
 -- ---- disabled stays disabled until a start
@@ -91,22 +95,22 @@ disabled_by_kill def e past due k no_start kills = disabled_from (e ∷ past) (�
 -- ---- after a kill
 
 kill_alone : (e : Entry) → is_kill e ≡ true → is_start e ≡ false
-kill_alone (entries.End c again unmask note) h = refl
-kill_alone (entries.Enable s answer) h = cc
-kill_alone (entries.Request s x flags answer opened) h = cc
+kill_alone (by.Cpu c (cpus.End again unmask note)) h = refl
+kill_alone (by.DriverCall s (called.Enable answer)) h = cc
+kill_alone (by.Driver s (drivers.Request flags answer opened x)) h = cc
 kill_alone e h = cc
 
 kill_closes : (def : LineDef) (e : Entry) (past : List Entry) → IsValid def → is_level_line def ≡ true
     → IsDue def e past → is_kill e ≡ true → has_flow def (e ∷ past) ≡ false
-kill_closes def (entries.End c again unmask note) past valid level due h = no_flow_after def c again unmask note past valid level due
+kill_closes def (by.Cpu c (cpus.End again unmask note)) past valid level due h = no_flow_after def c again unmask note past valid level due
 kill_closes def e past valid level due h = cc
 
 no_handle : (def : LineDef) (e : Entry) (past : List Entry) → IsDue def e past → is_disabled past ≡ true → is_handle e ≡ false
-no_handle def (entries.Take c way takes.Handle) past due off =
+no_handle def (by.Cpu c (cpus.Take way takes.Handle)) past due off =
     both_ways (is_disabled past) off (or_parts (is_disabled past) (is_none_linked past)
     (handle_idle def past (take_due def c way takes.Handle past due).answer_is).1).0
-no_handle def (entries.Take c way takes.Busy) past due off = refl
-no_handle def (entries.Take c way takes.Off) past due off = refl
+no_handle def (by.Cpu c (cpus.Take way takes.Busy)) past due off = refl
+no_handle def (by.Cpu c (cpus.Take way takes.Off)) past due off = refl
 no_handle def e past due off = refl
 
 pub shut_past : (def : LineDef) (past : List Entry) → IsValid def → IsLegalPast def past → is_level_line def ≡ true
@@ -135,23 +139,23 @@ shut_past def (e ∷ past) valid legal level h = by_case
 
 -- ---- after a take that was answered Off
 
-off_masks : (def : LineDef) (f : FlowKind) (c : CpuNo) (way : Way) (past : List Entry) → take_masks def f (entries.Take c way takes.Off) past ≡ true
+off_masks : (def : LineDef) (f : FlowKind) (c : CpuNo) (way : Way) (past : List Entry) → take_masks def f (by.Cpu c (cpus.Take way takes.Off)) past ≡ true
 off_masks def flows.Edge c way past = refl
 off_masks def flows.Level c way past = refl
 off_masks def flows.Eoi c way past = refl
 
 masked_at_off : (def : LineDef) (e : Entry) (past : List Entry) → is_off e ≡ true → is_masked def (e ∷ past) ≡ true
-masked_at_off def (entries.Take c way takes.Off) past h =
+masked_at_off def (by.Cpu c (cpus.Take way takes.Off)) past h =
     take_masked def def.flow c way takes.Off past refl ∙ or_left _ (is_masked def past) (off_masks def def.flow c way past)
-masked_at_off def (entries.Take c way takes.Busy) past h = cc
-masked_at_off def (entries.Take c way takes.Handle) past h = cc
+masked_at_off def (by.Cpu c (cpus.Take way takes.Busy)) past h = cc
+masked_at_off def (by.Cpu c (cpus.Take way takes.Handle)) past h = cc
 masked_at_off def e past h = cc
 
 disabled_at_off : (def : LineDef) (e : Entry) (past : List Entry) → IsDue def e past → KeepsDepth def past → is_off e ≡ true → is_disabled (e ∷ past) ≡ true
-disabled_at_off def (entries.Take c way takes.Off) past due k h =
-    stays_disabled def (entries.Take c way takes.Off) past due k refl (disabled_from past (λ zero. never_off def c way past due k zero))
-disabled_at_off def (entries.Take c way takes.Busy) past due k h = cc
-disabled_at_off def (entries.Take c way takes.Handle) past due k h = cc
+disabled_at_off def (by.Cpu c (cpus.Take way takes.Off)) past due k h =
+    stays_disabled def (by.Cpu c (cpus.Take way takes.Off)) past due k refl (disabled_from past (λ zero. never_off def c way past due k zero))
+disabled_at_off def (by.Cpu c (cpus.Take way takes.Busy)) past due k h = cc
+disabled_at_off def (by.Cpu c (cpus.Take way takes.Handle)) past due k h = cc
 disabled_at_off def e past due k h = cc
 
 off_by_flow : (def : LineDef) (f : FlowKind) (past : List Entry) (note : Note) → is_disabled past ≡ true → unmask_by def f past note ≡ false
@@ -169,9 +173,9 @@ off_by_flow def flows.Eoi past note off = none (is_edge_line def) (is_disabled p
     none g d k o m h = grind arith
 
 not_reopened : (def : LineDef) (e : Entry) (past : List Entry) → IsDue def e past → is_disabled past ≡ true → is_reopening e ≡ false
-not_reopened def (entries.End c again unmask note) past due off = (end_due def c again unmask note past due).unmask_is
+not_reopened def (by.Cpu c (cpus.End again unmask note)) past due off = (end_due def c again unmask note past due).unmask_is
     ∙ off_by_flow def def.flow past (note_of def past) off
-not_reopened def (entries.Finish x kept unmask) past due off =
+not_reopened def (by.Thread x (threads.Finish kept unmask)) past due off =
     (finish_due def x kept unmask past due).unmask_is ∙ none (is_woken past x) (is_disabled past) (is_masked def past) (is_other_unfinished def past x) off
   where
     none : (w d m o : Bool) → d ≡ true → (not w && (not d && (m && not o))) ≡ false
@@ -227,7 +231,7 @@ signals_open def past level h = by_line (is_edge_line def) level h
     by_line false level h = open_by (is_high def past) (is_masked def past) (serves def && has_flow def past) h
 
 level_take : (def : LineDef) (c : CpuNo) (way : Way) (answer : TakeAnswer) (past : List Entry) → IsLegalPast def past
-    → is_level_line def ≡ true → IsDue def (entries.Take c way answer) past
+    → is_level_line def ≡ true → IsDue def (by.Cpu c (cpus.Take way answer)) past
     → (is_masked def past ≡ false) × ((serves def && has_flow def past) ≡ false)
 level_take def c ways.Line answer past legal level due = signals_open def past level ((take_due def c ways.Line answer past due).by_line refl)
 level_take def c ways.Resend answer past legal level due
@@ -240,7 +244,7 @@ off_marks o s k h = grind arith
 
 off_started : (def : LineDef) (e : Entry) (past : List Entry) → IsValid def → IsLegalPast def past
     → is_level_line def ≡ true → IsDue def e past → is_off e ≡ true → stands is_start is_off past ≡ true
-off_started def (entries.Take c way answer) past valid legal level due h =
+off_started def (by.Cpu c (cpus.Take way answer)) past valid legal level due h =
     true_from_ne_false (stands is_start is_off past) (λ none. both_ways (is_masked def past)
     (closed_past def past valid legal none).masked (level_take def c way answer past legal level due).0)
 off_started def e past valid legal level due h = cc
@@ -267,10 +271,10 @@ level_masks def flows.Level e past valid level is h = h
 level_masks def flows.Eoi e past valid level is h = refl
 
 busy_at_take : (def : LineDef) (c : CpuNo) (way : Way) (answer : TakeAnswer) (past : List Entry) → IsValid def
-    → IsLegalPast def past → is_level_line def ≡ true → IsDue def (entries.Take c way answer) past
-    → may_be_busy def (entries.Take c way answer ∷ past) ≡ false
+    → IsLegalPast def past → is_level_line def ≡ true → IsDue def (by.Cpu c (cpus.Take way answer)) past
+    → may_be_busy def (by.Cpu c (cpus.Take way answer) ∷ past) ≡ false
 busy_at_take def c way answer past valid legal level due =
-    let e = entries.Take c way answer in
+    let e = by.Cpu c (cpus.Take way answer) in
     none (is_eoi_flow def.flow) (take_masks def def.flow e past) (has_flow def (e ∷ past)) (is_masked def (e ∷ past))
     (is_masked def past) (level_masks def def.flow e past valid level refl refl)
     (take_masked def def.flow c way answer past refl)
@@ -279,7 +283,7 @@ busy_at_take def c way answer past valid legal level due =
     none g t f m k h i = grind arith
 
 busy_before : (def : LineDef) (c : CpuNo) (way : Way) (past : List Entry) → IsLegalPast def past
-    → is_level_line def ≡ true → IsDue def (entries.Take c way takes.Busy) past → may_be_busy def past ≡ true
+    → is_level_line def ≡ true → IsDue def (by.Cpu c (cpus.Take way takes.Busy)) past → may_be_busy def past ≡ true
 busy_before def c way past legal level due =
     let shown = level_take def c way takes.Busy past legal level due in
     all (is_level_line def) (is_eoi_flow def.flow) (has_flow def past) (is_masked def past) level shown.0 shown.1 (busy_has_flow def c way past due)
@@ -306,24 +310,24 @@ no_flow_marks g f m h = grind arith
 busy_more : (def : LineDef) (e : Entry) (past : List Entry) → IsValid def → is_level_line def ≡ true
     → IsLegalPast def past → IsDue def e past → StaysBelow is_busy is_start (λ past. one_if (may_be_busy def past)) e
     past
-busy_more def (entries.Take c way takes.Busy) past valid level legal due =
-    let after : one_if (may_be_busy def (entries.Take c way takes.Busy ∷ past))
+busy_more def (by.Cpu c (cpus.Take way takes.Busy)) past valid level legal due =
+    let after : one_if (may_be_busy def (by.Cpu c (cpus.Take way takes.Busy) ∷ past))
     ≡ 0 = ap one_if (busy_at_take def c way takes.Busy past valid legal level due) in
     let was : one_if (may_be_busy def past) ≡ 1 = ap one_if (busy_before def c way past legal level due) in
     omega (arith, after, was)
-busy_more def (entries.Take c way takes.Handle) past valid level legal due =
-    let after : one_if (may_be_busy def (entries.Take c way takes.Handle ∷ past))
+busy_more def (by.Cpu c (cpus.Take way takes.Handle)) past valid level legal due =
+    let after : one_if (may_be_busy def (by.Cpu c (cpus.Take way takes.Handle) ∷ past))
     ≡ 0 = ap one_if (busy_at_take def c way takes.Handle past valid legal level due) in omega (arith, after)
-busy_more def (entries.Take c way takes.Off) past valid level legal due =
-    let after : one_if (may_be_busy def (entries.Take c way takes.Off ∷ past))
+busy_more def (by.Cpu c (cpus.Take way takes.Off)) past valid level legal due =
+    let after : one_if (may_be_busy def (by.Cpu c (cpus.Take way takes.Off) ∷ past))
     ≡ 0 = ap one_if (busy_at_take def c way takes.Off past valid legal level due) in omega (arith, after)
-busy_more def (entries.End c again unmask note) past valid level legal due =
-    let e = entries.End c again unmask note in
+busy_more def (by.Cpu c (cpus.End again unmask note)) past valid level legal due =
+    let e = by.Cpu c (cpus.End again unmask note) in
     let after = no_flow_marks (is_eoi_flow def.flow) (has_flow def (e ∷ past)) (is_masked def (e ∷ past))
     (no_flow_after def c again unmask note past valid level due) in
     omega (arith, after)
-busy_more def (entries.Finish x kept unmask) past valid level legal due =
-    let e = entries.Finish x kept unmask in
+busy_more def (by.Thread x (threads.Finish kept unmask)) past valid level legal due =
+    let e = by.Thread x (threads.Finish kept unmask) in
     let after = no_flow_marks (is_eoi_flow def.flow) (has_flow def (e ∷ past)) (is_masked def (e ∷ past))
     (flow_stays def e past refl refl refl ∙ (finish_due def x kept unmask past due).no_flow) in
     omega (arith, after)
@@ -343,12 +347,12 @@ not_serving l g f a b c = grind arith
 
 not_busy : (def : LineDef) (e : Entry) (past : List Entry) → IsLegalPast def past → is_level_line def ≡ true
     → is_eoi_flow def.flow ≡ true → IsDue def e past → is_busy e ≡ false
-not_busy def (entries.Take c way takes.Busy) past legal level eoi due =
+not_busy def (by.Cpu c (cpus.Take way takes.Busy)) past legal level eoi due =
     both_ways (has_flow def past) (busy_has_flow def c way past due)
     (not_serving (is_level_line def) (is_eoi_flow def.flow) (has_flow def past) level eoi
     (level_take def c way takes.Busy past legal level due).1)
-not_busy def (entries.Take c way takes.Handle) past legal level eoi due = refl
-not_busy def (entries.Take c way takes.Off) past legal level eoi due = refl
+not_busy def (by.Cpu c (cpus.Take way takes.Handle)) past legal level eoi due = refl
+not_busy def (by.Cpu c (cpus.Take way takes.Off)) past legal level eoi due = refl
 not_busy def e past legal level eoi due = refl
 
 pub none_busy : (def : LineDef) (past : List Entry) → IsLegalPast def past → is_level_line def ≡ true → is_eoi_flow def.flow ≡ true → count_of is_busy past ≡ 0

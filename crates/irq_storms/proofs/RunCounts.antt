@@ -9,7 +9,8 @@ use Rattle.irq_base.specs.declared.numbers.DevNo.{DevNo}
 use Rattle.irq_base.specs.declared.devices.DeviceDef.{DeviceDef}
 use Rattle.irq_base.specs.declared.lines.LineDef.{LineDef}
 use Rattle.irq_base.specs.declared.entries.Entry.{Entry}
-use Rattle.irq_base.specs.declared.entries.Entry.TheVariants as entries
+use Rattle.irq_base.specs.declared.entries.Entry.TheVariants as by
+use Rattle.irq_base.specs.declared.entries.CpuEntry.TheVariants as cpus
 use Rattle.irq_base.specs.declared.entries.Note.{Note}
 use Rattle.irq_base.specs.declared.entries.TakeAnswer.TheVariants as takes
 use Rattle.irq_model.specs.Places.{since, count_of, last_of}
@@ -35,8 +36,8 @@ use Rattle.irq_storms.proofs.Running.{StaysBelow, runs_below}
 
 returns_more : (def : LineDef) (e : Entry) (past : List Entry) → IsDue def e past
     → StaysBelow is_any_return is_any_begin (λ past. one_if (is_some (at_work past))) e past
-returns_more def (entries.Begin c x) past due = omega arith
-returns_more def (entries.Return c x answer served) past due =
+returns_more def (by.Cpu c (cpus.Begin x)) past due = omega arith
+returns_more def (by.Cpu c (cpus.Return answer x served)) past due =
     let w : one_if (is_some (at_work past)) ≡ 1 = ap (λ o. one_if (is_some o)) (return_due def c x answer served past due).is_at_work in
     omega (arith, w)
 returns_more def e past due = omega arith
@@ -54,23 +55,23 @@ flow_kept : (def : LineDef) (e : Entry) (past : List Entry) → is_handle e ≡ 
 flow_kept def e past a b c = ap (λ o. one_if (is_some o)) (flow_quiet def e past a b c)
 
 round_of_end : (def : LineDef) (c : CpuNo) (again unmask : Bool) (note : Note) (past : List Entry) → one_if (has_flow def past) ≡ 1
-    → one_if (begins_round def (entries.End c again unmask note)) + one_if (has_flow def past)
-    ≡ 1 + one_if (has_flow def (entries.End c again unmask note ∷ past))
+    → one_if (begins_round def (by.Cpu c (cpus.End again unmask note))) + one_if (has_flow def past)
+    ≡ 1 + one_if (has_flow def (by.Cpu c (cpus.End again unmask note) ∷ past))
 round_of_end def c false unmask note past f = omega (arith, f)
 round_of_end def c true unmask note past f = by_flow (is_eoi_flow def.flow)
   where
     by_flow : (b : Bool) → one_if (false || (true && not b)) + one_if (has_flow def past)
         ≡ 1 + one_if (is_some (cpu_of_handle (cond (false || (false || (b && true)))
-        (Some (entries.End c true unmask note)) (last_of (λ e. is_handle e || closes def e) past))))
+        (Some (by.Cpu c (cpus.End true unmask note))) (last_of (λ e. is_handle e || closes def e) past))))
     by_flow true = omega (arith, f)
     by_flow false = omega arith
 
 rounds_more : (def : LineDef) (e : Entry) (past : List Entry) → IsDue def e past
     → one_if (begins_round def e) + one_if (has_flow def past) ≡ one_if (is_end e) + one_if (has_flow def (e ∷ past))
-rounds_more def (entries.Take c way takes.Handle) past due =
+rounds_more def (by.Cpu c (cpus.Take way takes.Handle)) past due =
     let f : one_if (has_flow def past) ≡ 0 = ap one_if (handle_idle def past (take_due def c way takes.Handle past due).answer_is).0 in
     omega (arith, f)
-rounds_more def (entries.End c again unmask note) past due
+rounds_more def (by.Cpu c (cpus.End again unmask note)) past due
     = round_of_end def c again unmask note past (ap one_if
     (has_a_flow c (flow def past) (end_due def c again unmask note past due).of_flow))
 rounds_more def e past due = let f = flow_kept def e past refl refl refl in omega (arith, f)
@@ -85,7 +86,8 @@ rounds_past def (e ∷ past) legal =
     summed r' n' r n x y f g h i j k = omega (arith, h, i, j, k)
 
 -- an end that leaves closes the flow
-pub flow_closed : (def : LineDef) (c : CpuNo) (unmask : Bool) (note : Note) (past : List Entry) → has_flow def (entries.End c false unmask note ∷ past) ≡ false
+pub flow_closed : (def : LineDef) (c : CpuNo) (unmask : Bool) (note : Note) (past : List Entry)
+    → has_flow def (by.Cpu c (cpus.End false unmask note) ∷ past) ≡ false
 flow_closed def c unmask note past = refl
 
 -- an entry that is neither a take that is handled nor an end leaves it
@@ -139,9 +141,9 @@ left def past = count_of (λ x. is_left def past x.dev) def.devices
 
 -- a flow after an entry that isn't a take which is handled was there before
 pub flow_before : (def : LineDef) (e : Entry) (past : List Entry) → is_handle e ≡ false → has_flow def (e ∷ past) ≡ true → has_flow def past ≡ true
-flow_before def (entries.End c again unmask note) past other h = by_test (closes def (entries.End c again unmask note)) h
+flow_before def (by.Cpu c (cpus.End again unmask note)) past other h = by_test (closes def (by.Cpu c (cpus.End again unmask note))) h
   where
-    by_test : (b : Bool) → is_some (cpu_of_handle (cond (false || b) (Some (entries.End c again unmask note))
+    by_test : (b : Bool) → is_some (cpu_of_handle (cond (false || b) (Some (by.Cpu c (cpus.End again unmask note)))
         (last_of (λ e. is_handle e || closes def e) past))) ≡ true → has_flow def past ≡ true
     by_test true h = cc
     by_test false h = h
@@ -169,11 +171,11 @@ later_begun : (s b : Bool) → (s || b) ≡ false → b ≡ false
 later_begun s b h = grind arith
 
 left_at_begin : (def : LineDef) (c : CpuNo) (x : DevNo) (past : List Entry) → Kept def past
-    → IsDue def (entries.Begin c x) past → LeftKept def (entries.Begin c x) past
+    → IsDue def (by.Cpu c (cpus.Begin x)) past → LeftKept def (by.Cpu c (cpus.Begin x)) past
 left_at_begin def c x past k due =
     let u = begin_due def c x past due in
     let l = begun_is_linked def past x u.first in
-    let e = entries.Begin c x in
+    let e = by.Cpu c (cpus.Begin x) in
     let drop = count_drop (is_left def past) (is_left def (e ∷ past)) x def.devices
     (λ d. left_before def e past d refl (later_begun (same_dev d x) (has_begun def past d)))
     (was (has_flow def past) (has_begun def past x) (has_a_flow c (flow def past) u.of_flow) l.1)
@@ -199,14 +201,14 @@ left_quiet def e past no_begin no_handle begun =
     omega (arith, less, none)
 
 left_more : (def : LineDef) (e : Entry) (past : List Entry) → Kept def past → IsDue def e past → begins_round def e ≡ false → LeftKept def e past
-left_more def (entries.Begin c x) past k due same = left_at_begin def c x past k due
-left_more def (entries.Take c way takes.Handle) past k due same = cc
-left_more def (entries.End c again unmask note) past k due same
-    = left_quiet def (entries.End c again unmask note) past refl refl
-    (λ d. begun (begins_round def (entries.End c again unmask note)) d same)
+left_more def (by.Cpu c (cpus.Begin x)) past k due same = left_at_begin def c x past k due
+left_more def (by.Cpu c (cpus.Take way takes.Handle)) past k due same = cc
+left_more def (by.Cpu c (cpus.End again unmask note)) past k due same
+    = left_quiet def (by.Cpu c (cpus.End again unmask note)) past refl refl
+    (λ d. begun (begins_round def (by.Cpu c (cpus.End again unmask note))) d same)
   where
     begun : (b : Bool) (d : DevNo) → b ≡ false → list_any (is_begin d)
-        (cond b [] (entries.End c again unmask note ∷ since (begins_round def) past)) ≡ false
+        (cond b [] (by.Cpu c (cpus.End again unmask note) ∷ since (begins_round def) past)) ≡ false
         → has_begun def past d ≡ false
     begun true d h i = cc
     begun false d h i = i
@@ -219,7 +221,7 @@ begins_anew : (n b r l b' r' l' : ℕ) → b + l ≤ n * r → b' ≡ b → r' �
 begins_anew n b r l b' r' l' h i j k = rw (j, mul-suc n r) (omega (arith, h, i, k))
 
 no_begin_anew : (def : LineDef) (e : Entry) → begins_round def e ≡ true → is_any_begin e ≡ false
-no_begin_anew def (entries.Begin c x) h = cc
+no_begin_anew def (by.Cpu c (cpus.Begin x)) h = cc
 no_begin_anew def e h = refl
 
 pub begins_past : (def : LineDef) (past : List Entry) → IsValid def → IsLegalPast def past

@@ -12,7 +12,10 @@ use Rattle.irq_base.specs.declared.devices.Kind.TheVariants as kinds
 use Rattle.irq_base.specs.declared.devices.Part.TheVariants as parts
 use Rattle.irq_base.specs.declared.lines.LineDef.{LineDef}
 use Rattle.irq_base.specs.declared.entries.Entry.{Entry}
-use Rattle.irq_base.specs.declared.entries.Entry.TheVariants as entries
+use Rattle.irq_base.specs.declared.entries.Entry.TheVariants as by
+use Rattle.irq_base.specs.declared.entries.CpuEntry.TheVariants as cpus
+use Rattle.irq_base.specs.declared.entries.ThreadEntry.TheVariants as threads
+use Rattle.irq_base.specs.declared.entries.DriverEntry.TheVariants as drivers
 use Rattle.irq_base.specs.Handlers.{answer_of, has_thread}
 use Rattle.irq_model.specs.Places.{stands, since, before, count_of}
 use Rattle.irq_model.specs.Kinds.{same_dev, is_any_ask, is_ask, is_begin, is_return, is_handled, wakes, is_thread_begin, is_thread_return, is_done}
@@ -130,13 +133,13 @@ wake_by kinds.Null n h = refl
 wake_by kinds.Stuck n h = cc
 
 wakes_thread : (def : LineDef) (d : DevNo) (e : Entry) (past : List Entry) → IsDue def e past → wakes d e ≡ true → has_thread (kind_of def d) ≡ true
-wakes_thread def d (entries.Return c x answers.Wake count) past due h =
+wakes_thread def d (by.Cpu c (cpus.Return answers.Wake x count)) past due h =
     let same = dev_from_same d x (and_parts (same_dev d x) true h).0 in
     subst (λ (y : DevNo). has_thread (kind_of def y) ≡ true) (sym same)
     (wake_by (kind_of def x) (asks_of_handler def x past)
     (return_due def c x answers.Wake count past due).answer_is)
-wakes_thread def d (entries.Return c x answers.Handled count) past due h = let p = (and_parts (same_dev d x) false h).1 in cc
-wakes_thread def d (entries.Return c x answers.Nothing count) past due h = let p = (and_parts (same_dev d x) false h).1 in cc
+wakes_thread def d (by.Cpu c (cpus.Return answers.Handled x count)) past due h = let p = (and_parts (same_dev d x) false h).1 in cc
+wakes_thread def d (by.Cpu c (cpus.Return answers.Nothing x count)) past due h = let p = (and_parts (same_dev d x) false h).1 in cc
 wakes_thread def d e past due h = cc
 
 woken_thread : (def : LineDef) (d : DevNo) (past : List Entry) → IsLegalPast def past → is_woken past d ≡ true → has_thread (kind_of def d) ≡ true
@@ -185,56 +188,57 @@ none_of false n h = refl
 
 -- what a handler's return says that it served
 return_count : (def : LineDef) (c : CpuNo) (d : DevNo) (answer : Answer) (count : ℕ) (past : List Entry)
-    → IsDue def (entries.Return c d answer count) past
+    → IsDue def (by.Cpu c (cpus.Return answer d count)) past
     → count ≡ served_by_handler (kind_of def d) (asks_of_handler def d past)
 return_count def c d answer count past due =
-    let f = in_flow def c past (entries.Return c d answer count) (λ way answer is. cc) due in
+    let f = in_flow def c past (by.Cpu c (cpus.Return answer d count)) (λ way answer is. cc) due in
     let w = (return_due def c d answer count past due).is_at_work in
     same_count _ _ (sym (ap (λ o. next_in_flow def c past o) w) ∙ f.1)
   where
-    same_count : (x : Answer) (n : ℕ) → entries.Return c d x n ≡ entries.Return c d answer count → count ≡ n
+    same_count : (x : Answer) (n : ℕ) → by.Cpu c (cpus.Return x d n) ≡ by.Cpu c (cpus.Return answer d count) → count ≡ n
     same_count x n h = let s : count ≡ n = cc in s
 
 -- the same of a device that is d
 count_of_return : (def : LineDef) (c : CpuNo) (d x : DevNo) (answer : Answer) (count : ℕ) (past : List Entry)
-    → IsDue def (entries.Return c x answer count) past → same_dev d x ≡ true
+    → IsDue def (by.Cpu c (cpus.Return answer x count)) past → same_dev d x ≡ true
     → count ≡ served_by_handler (kind_of def d) (asks_of_handler def d past)
 count_of_return def c d x answer count past due same =
     subst (λ (y : DevNo). count ≡ served_by_handler (kind_of def y) (asks_of_handler def y past))
     (sym (dev_from_same d x same)) (return_count def c x answer count past due)
 
 apart_handler : (d : DevNo) (e : Entry) → is_begin d e ≡ true → (is_return d e ≡ false) × (is_ask d e ≡ false)
-apart_handler d (entries.Begin c x) h = (refl, refl)
+apart_handler d (by.Cpu c (cpus.Begin x)) h = (refl, refl)
 apart_handler d e h = cc
 
 apart_thread : (d : DevNo) (e : Entry) → is_thread_begin d e ≡ true → (is_thread_return d e ≡ false) × (is_ask d e ≡ false)
-apart_thread d (entries.ThreadBegin x) h = (refl, refl)
+apart_thread d (by.Thread x threads.Begin) h = (refl, refl)
 apart_thread d e h = cc
 
 -- no thread's return of a device without a thread
-no_thread_return : {P : Type 0} (def : LineDef) (d x : DevNo) (count : ℕ) (past : List Entry) → IsLegalPast def past
-    → IsDue def (entries.ThreadReturn x count) past → same_dev d x ≡ true → has_thread (kind_of def d) ≡ false → P
-no_thread_return def d x count past legal due same none =
-    both_ways (has_thread (kind_of def d)) (running_thread def d past legal (return_tells def d (entries.ThreadReturn x count) past due same).0) none
+no_thread_return : (handled : Bool) {P : Type 0} (def : LineDef) (d x : DevNo) (count : ℕ) (past : List Entry) → IsLegalPast def past
+    → IsDue def (by.Thread x (threads.Return handled count)) past → same_dev d x ≡ true → has_thread (kind_of def d) ≡ false → P
+no_thread_return handled def d x count past legal due same none =
+    both_ways (has_thread (kind_of def d)) (running_thread def d past legal
+    (return_tells def d (by.Thread x (threads.Return handled count)) past due same).0) none
 
 direct_more : (def : LineDef) (d : DevNo) (e : Entry) (past : List Entry) → kind_of def d ≡ kinds.Direct
     → IsLegalPast def past → KeepsRuns def past → IsDue def e past → ServedMore def kinds.Direct d e past
-direct_more def d (entries.Return c x answer count) past is legal k due = by_same (same_dev d x) refl
+direct_more def d (by.Cpu c (cpus.Return answer x count)) past is legal k due = by_same (same_dev d x) refl
   where
-    by_same : (b : Bool) → same_dev d x ≡ b → ServedMore def kinds.Direct d (entries.Return c x answer count) past
+    by_same : (b : Bool) → same_dev d x ≡ b → ServedMore def kinds.Direct d (by.Cpu c (cpus.Return answer x count)) past
     by_same true same =
         let called : is_called past d ≡ true = subst (λ (y : DevNo). is_called past y ≡ true)
         (sym (dev_from_same d x same)) (k.working x (return_due def c x answer count past due).is_at_work).0 in
-        let gone = served (is_ask d) (is_begin d) (is_return d) (apart_handler d) (entries.Return c x answer count) past same called in
+        let gone = served (is_ask d) (is_begin d) (is_return d) (apart_handler d) (by.Cpu c (cpus.Return answer x count)) past same called in
         let counts : count ≡ unserved_by kinds.Direct d (before (is_begin d) past)
         = count_of_return def c d x answer count past due same
         ∙ ap (λ (y : Kind). served_by_handler y (unserved_by y d (before (is_begin d) past))) is in
         serving _ _ _ _ (of_this (same_dev d x) count same ∙ counts) gone
     by_same false other = quiet _ _ _ _ (not_of (same_dev d x) count other)
-        (more (is_ask d) (is_begin d) (is_return d) (entries.Return c x answer count) past other)
-direct_more def d (entries.ThreadReturn x count) past is legal k due =
-    quiet _ _ _ _ (none_of (same_dev d x) count (λ same. no_thread_return def d x count past legal due same
-    (ap has_thread is))) (more (is_ask d) (is_begin d) (is_return d) (entries.ThreadReturn x count) past refl)
+        (more (is_ask d) (is_begin d) (is_return d) (by.Cpu c (cpus.Return answer x count)) past other)
+direct_more def d (by.Thread x (threads.Return handled count)) past is legal k due =
+    quiet _ _ _ _ (none_of (same_dev d x) count (λ same. no_thread_return _ def d x count past legal due same
+    (ap has_thread is))) (more (is_ask d) (is_begin d) (is_return d) (by.Thread x (threads.Return handled count)) past refl)
 direct_more def d e past is legal k due = quiet _ _ _ _ refl (more (is_ask d) (is_begin d) (is_return d) e past refl)
 
 -- a device with a thread
@@ -248,13 +252,13 @@ thread_more : (def : LineDef) (d : DevNo) (e : Entry) (past : List Entry) (kind 
     → has_thread kind ≡ true → IsLegalPast def past → IsDue def e past
     → asks_served d e + unserved (is_ask d) (is_thread_begin d) (is_thread_return d) (e ∷ past)
     ≡ unserved (is_ask d) (is_thread_begin d) (is_thread_return d) past + one_if (is_ask d e)
-thread_more def d (entries.Return c x answer count) past kind is thread legal due =
+thread_more def d (by.Cpu c (cpus.Return answer x count)) past kind is thread legal due =
     quiet _ _ _ _
     (none_of (same_dev d x) count (λ same. count_of_return def c d x answer count past due same
     ∙ ap (λ (y : Kind). served_by_handler y (asks_of_handler def d past)) is
     ∙ serves_none kind (asks_of_handler def d past) thread))
-    (more (is_ask d) (is_thread_begin d) (is_thread_return d) (entries.Return c x answer count) past refl)
-thread_more def d (entries.ThreadReturn x count) past kind is thread legal due = by_same (same_dev d x) refl
+    (more (is_ask d) (is_thread_begin d) (is_thread_return d) (by.Cpu c (cpus.Return answer x count)) past refl)
+thread_more def d (by.Thread x (threads.Return handled count)) past kind is thread legal due = by_same (same_dev d x) refl
   where
     by_kind : (k : Kind) → kind_of def d ≡ k → has_thread k ≡ true
         → asks_of_thread def d past ≡ unserved (is_ask d) (is_thread_begin d) (is_thread_return d)
@@ -265,28 +269,29 @@ thread_more def d (entries.ThreadReturn x count) past kind is thread legal due =
     by_kind kinds.Stuck is t = cc
 
     by_same : (b : Bool) → same_dev d x ≡ b
-        → asks_served d (entries.ThreadReturn x count) + unserved (is_ask d) (is_thread_begin d) (is_thread_return d) (entries.ThreadReturn x count ∷ past)
-        ≡ unserved (is_ask d) (is_thread_begin d) (is_thread_return d) past + one_if (is_ask d (entries.ThreadReturn x count))
+        → asks_served d (by.Thread x (threads.Return handled count)) + unserved (is_ask d) (is_thread_begin d)
+        (is_thread_return d) (by.Thread x (threads.Return handled count) ∷ past)
+        ≡ unserved (is_ask d) (is_thread_begin d) (is_thread_return d) past + one_if (is_ask d (by.Thread x (threads.Return handled count)))
     by_same true same =
-        let t = return_tells def d (entries.ThreadReturn x count) past due same in
+        let t = return_tells def d (by.Thread x (threads.Return handled count)) past due same in
         let run = still_standing (is_thread_begin d) (is_thread_return d) (is_done d) past t.0 t.1 in
-        let gone = served (is_ask d) (is_thread_begin d) (is_thread_return d) (apart_thread d) (entries.ThreadReturn x count) past same run in
-        let counts : count ≡ asks_of_thread def d past = (thread_return_due def x count past due).served_is
+        let gone = served (is_ask d) (is_thread_begin d) (is_thread_return d) (apart_thread d) (by.Thread x (threads.Return handled count)) past same run in
+        let counts : count ≡ asks_of_thread def d past = (thread_return_due _ def x count past due).served_is
         ∙ ap (λ (y : DevNo). asks_of_thread def y past) (sym (dev_from_same d x same)) in
         serving _ _ _ _ (of_this (same_dev d x) count same ∙ counts ∙ by_kind kind is thread) gone
     by_same false other = quiet _ _ _ _ (not_of (same_dev d x) count other)
-        (more (is_ask d) (is_thread_begin d) (is_thread_return d) (entries.ThreadReturn x count) past other)
+        (more (is_ask d) (is_thread_begin d) (is_thread_return d) (by.Thread x (threads.Return handled count)) past other)
 thread_more def d e past kind is thread legal due = quiet _ _ _ _ refl (more (is_ask d) (is_thread_begin d) (is_thread_return d) e past refl)
 
 stuck_more : (def : LineDef) (d : DevNo) (e : Entry) (past : List Entry) → kind_of def d ≡ kinds.Stuck
     → IsLegalPast def past → IsDue def e past → ServedMore def kinds.Stuck d e past
-stuck_more def d (entries.Return c x answer count) past is legal due =
+stuck_more def d (by.Cpu c (cpus.Return answer x count)) past is legal due =
     quiet _ _ _ _ (none_of (same_dev d x) count (λ same. count_of_return def c d x answer count past due same
     ∙ ap (λ (y : Kind). served_by_handler y (asks_of_handler def d past)) is))
-    (more (is_ask d) (λ e. false) (λ e. false) (entries.Return c x answer count) past refl)
-stuck_more def d (entries.ThreadReturn x count) past is legal due =
-    quiet _ _ _ _ (none_of (same_dev d x) count (λ same. no_thread_return def d x count past legal due same
-    (ap has_thread is))) (more (is_ask d) (λ e. false) (λ e. false) (entries.ThreadReturn x count) past refl)
+    (more (is_ask d) (λ e. false) (λ e. false) (by.Cpu c (cpus.Return answer x count)) past refl)
+stuck_more def d (by.Thread x (threads.Return handled count)) past is legal due =
+    quiet _ _ _ _ (none_of (same_dev d x) count (λ same. no_thread_return _ def d x count past legal due same
+    (ap has_thread is))) (more (is_ask d) (λ e. false) (λ e. false) (by.Thread x (threads.Return handled count)) past refl)
 stuck_more def d e past is legal due = quiet _ _ _ _ refl (more (is_ask d) (λ e. false) (λ e. false) e past refl)
 
 served_more : (def : LineDef) (d : DevNo) (e : Entry) (past : List Entry) (kind : Kind) → kind_of def d ≡ kind
@@ -327,7 +332,7 @@ handled_answer answers.Nothing h = cc
 
 -- one that answers so serves some
 handled_serves : (def : LineDef) (c : CpuNo) (x : DevNo) (answer : Answer) (count : ℕ) (past : List Entry)
-    → IsDue def (entries.Return c x answer count) past → is_handled answer ≡ true → nat_lt 0 count ≡ true
+    → IsDue def (by.Cpu c (cpus.Return answer x count)) past → is_handled answer ≡ true → nat_lt 0 count ≡ true
 handled_serves def c x answer count past due h =
     let by = handled_by (kind_of def x) (asks_of_handler def x past) (handled_answer answer h ∙ (return_due def c x answer count past due).answer_is) in
     let all : count ≡ asks_of_handler def x past = return_count def c x answer count past due
@@ -335,8 +340,9 @@ handled_serves def c x answer count past due h =
     ap (λ (n : ℕ). nat_lt 0 n) all ∙ by.1
 
 serves_some : (def : LineDef) (d : DevNo) (e : Entry) (past : List Entry) → IsDue def e past → one_if (serves_of d e) ≤ asks_served d e
-serves_some def d (entries.Return c x answer count) past due = some_if (same_dev d x) (is_handled answer) count (handled_serves def c x answer count past due)
-serves_some def d (entries.ThreadReturn x count) past due = some_if (same_dev d x) (nat_lt 0 count) count (λ h. h)
+serves_some def d (by.Cpu c (cpus.Return answer x count)) past due
+    = some_if (same_dev d x) (is_handled answer) count (handled_serves def c x answer count past due)
+serves_some def d (by.Thread x (threads.Return handled count)) past due = some_if (same_dev d x) (nat_lt 0 count) count (λ h. h)
 serves_some def d e past due = omega arith
 
 serving_runs : (def : LineDef) (d : DevNo) (past : List Entry) → IsLegalPast def past → count_of (serves_of d) past ≤ total (asks_served d) past
@@ -351,12 +357,12 @@ served_of def d past valid legal = let a = served_exactly def d past valid legal
 
 -- of all devices
 pub key_ask : (k : ℕ) (e : Entry) → is_ask (record { 0 = k }) e ≡ (is_any_ask e && (k == dev_key e))
-key_ask k (entries.Ask driver dev) = refl
+key_ask k (by.Driver driver (drivers.Ask makes dev)) = refl
 key_ask k e = refl
 
 key_serves : (k : ℕ) (e : Entry) → serves_of (record { 0 = k }) e ≡ (is_any_serving e && (k == dev_key e))
-key_serves k (entries.Return cpu dev answer count) = swapped (k == dev.0) (is_handled answer)
-key_serves k (entries.ThreadReturn dev count) = swapped (k == dev.0) (nat_lt 0 count)
+key_serves k (by.Cpu cpu (cpus.Return answer dev count)) = swapped (k == dev.0) (is_handled answer)
+key_serves k (by.Thread dev (threads.Return handled count)) = swapped (k == dev.0) (nat_lt 0 count)
 key_serves k e = refl
 
 pub served_past : (def : LineDef) (past : List Entry) → IsValid def → IsLegalPast def past → count_of is_any_serving past ≤ count_of is_any_ask past

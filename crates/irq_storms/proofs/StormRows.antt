@@ -16,7 +16,10 @@ use Rattle.irq_base.specs.declared.lines.FlowKind.TheVariants as flows
 use Rattle.irq_base.specs.declared.lines.LineDef.{LineDef}
 use Rattle.irq_base.specs.declared.entries.Actor.TheVariants as actors
 use Rattle.irq_base.specs.declared.entries.Entry.{Entry}
-use Rattle.irq_base.specs.declared.entries.Entry.TheVariants as entries
+use Rattle.irq_base.specs.declared.entries.Entry.TheVariants as by
+use Rattle.irq_base.specs.declared.entries.CpuEntry.TheVariants as cpus
+use Rattle.irq_base.specs.declared.entries.ThreadEntry.TheVariants as threads
+use Rattle.irq_base.specs.declared.entries.DriverEntry.TheVariants as drivers
 use Rattle.irq_base.specs.declared.entries.Way.TheVariants as ways
 use Rattle.irq_base.specs.declared.entries.TakeAnswer.TheVariants as takes
 use Rattle.irq_base.specs.declared.entries.Note.TheVariants as notes
@@ -72,20 +75,20 @@ longest_line = small kinds.Stuck
 
 abbrev pub longest_log : List Entry
 longest_log =
-    entries.Request (driver 1) (dev 1) no_flags links.Linked (opens.Started resends.No) ∷
-    entries.Ask (driver 1) (dev 1) ∷
-    entries.Take (cpu 0) ways.Line takes.Handle ∷
-    entries.Begin (cpu 0) (dev 1) ∷
-    entries.Return (cpu 0) (dev 1) answers.Nothing 0 ∷
-    entries.End (cpu 0) false true notes.Counted ∷
-    entries.Take (cpu 0) ways.Line takes.Handle ∷
-    entries.Begin (cpu 0) (dev 1) ∷
-    entries.Return (cpu 0) (dev 1) answers.Nothing 0 ∷
-    entries.End (cpu 0) false true notes.Counted ∷
-    entries.Take (cpu 0) ways.Line takes.Handle ∷
-    entries.Begin (cpu 0) (dev 1) ∷
-    entries.Return (cpu 0) (dev 1) answers.Nothing 0 ∷
-    entries.End (cpu 0) false false notes.Killed ∷ []
+    by.Driver (driver 1) (drivers.Request no_flags links.Linked (opens.Started resends.No) (dev 1)) ∷
+    by.Driver (driver 1) (drivers.Ask true (dev 1)) ∷
+    by.Cpu (cpu 0) (cpus.Take ways.Line takes.Handle) ∷
+    by.Cpu (cpu 0) (cpus.Begin (dev 1)) ∷
+    by.Cpu (cpu 0) (cpus.Return answers.Nothing (dev 1) 0) ∷
+    by.Cpu (cpu 0) (cpus.End false true notes.Counted) ∷
+    by.Cpu (cpu 0) (cpus.Take ways.Line takes.Handle) ∷
+    by.Cpu (cpu 0) (cpus.Begin (dev 1)) ∷
+    by.Cpu (cpu 0) (cpus.Return answers.Nothing (dev 1) 0) ∷
+    by.Cpu (cpu 0) (cpus.End false true notes.Counted) ∷
+    by.Cpu (cpu 0) (cpus.Take ways.Line takes.Handle) ∷
+    by.Cpu (cpu 0) (cpus.Begin (dev 1)) ∷
+    by.Cpu (cpu 0) (cpus.Return answers.Nothing (dev 1) 0) ∷
+    by.Cpu (cpu 0) (cpus.End false false notes.Killed) ∷ []
 
 pub longest_is_legal : IsLegal longest_line longest_log
 longest_is_legal = (refl, (refl, (refl, (refl, (refl, (refl, (refl, (refl, (refl, (refl, (refl, (refl, (refl, (refl, tt))))))))))))))
@@ -120,33 +123,33 @@ late_line = record longest_line { calls = (driver 1, calls.Request (dev 1) no_fl
 
 abbrev pub late_log : List Entry
 late_log =
-    entries.Request (driver 1) (dev 1) no_flags links.Linked (opens.Started resends.No) ∷
-    entries.Ask (driver 1) (dev 1) ∷
-    entries.Take (cpu 0) ways.Line takes.Handle ∷
-    entries.Begin (cpu 0) (dev 1) ∷
-    entries.Return (cpu 0) (dev 1) answers.Nothing 0 ∷
-    entries.End (cpu 0) false true notes.Counted ∷
-    entries.Take (cpu 0) ways.Line takes.Handle ∷
-    entries.Begin (cpu 0) (dev 1) ∷
-    entries.Return (cpu 0) (dev 1) answers.Nothing 0 ∷
-    entries.End (cpu 0) false true notes.Counted ∷
-    entries.Moment (driver 1) 101 ∷
-    entries.Take (cpu 0) ways.Line takes.Handle ∷
-    entries.Begin (cpu 0) (dev 1) ∷
-    entries.Return (cpu 0) (dev 1) answers.Nothing 0 ∷
-    entries.End (cpu 0) false true notes.Counted ∷
-    entries.Take (cpu 0) ways.Line takes.Handle ∷
-    entries.Begin (cpu 0) (dev 1) ∷
-    entries.Return (cpu 0) (dev 1) answers.Nothing 0 ∷
-    entries.End (cpu 0) false true notes.Counted ∷
-    entries.Take (cpu 0) ways.Line takes.Handle ∷
-    entries.Begin (cpu 0) (dev 1) ∷
-    entries.Return (cpu 0) (dev 1) answers.Nothing 0 ∷
-    entries.End (cpu 0) false true notes.Counted ∷
-    entries.Take (cpu 0) ways.Line takes.Handle ∷
-    entries.Begin (cpu 0) (dev 1) ∷
-    entries.Return (cpu 0) (dev 1) answers.Nothing 0 ∷
-    entries.End (cpu 0) false false notes.Killed ∷ []
+    by.Driver (driver 1) (drivers.Request no_flags links.Linked (opens.Started resends.No) (dev 1)) ∷
+    by.Driver (driver 1) (drivers.Ask true (dev 1)) ∷
+    by.Cpu (cpu 0) (cpus.Take ways.Line takes.Handle) ∷
+    by.Cpu (cpu 0) (cpus.Begin (dev 1)) ∷
+    by.Cpu (cpu 0) (cpus.Return answers.Nothing (dev 1) 0) ∷
+    by.Cpu (cpu 0) (cpus.End false true notes.Counted) ∷
+    by.Cpu (cpu 0) (cpus.Take ways.Line takes.Handle) ∷
+    by.Cpu (cpu 0) (cpus.Begin (dev 1)) ∷
+    by.Cpu (cpu 0) (cpus.Return answers.Nothing (dev 1) 0) ∷
+    by.Cpu (cpu 0) (cpus.End false true notes.Counted) ∷
+    by.Driver (driver 1) (drivers.Moment 101) ∷
+    by.Cpu (cpu 0) (cpus.Take ways.Line takes.Handle) ∷
+    by.Cpu (cpu 0) (cpus.Begin (dev 1)) ∷
+    by.Cpu (cpu 0) (cpus.Return answers.Nothing (dev 1) 0) ∷
+    by.Cpu (cpu 0) (cpus.End false true notes.Counted) ∷
+    by.Cpu (cpu 0) (cpus.Take ways.Line takes.Handle) ∷
+    by.Cpu (cpu 0) (cpus.Begin (dev 1)) ∷
+    by.Cpu (cpu 0) (cpus.Return answers.Nothing (dev 1) 0) ∷
+    by.Cpu (cpu 0) (cpus.End false true notes.Counted) ∷
+    by.Cpu (cpu 0) (cpus.Take ways.Line takes.Handle) ∷
+    by.Cpu (cpu 0) (cpus.Begin (dev 1)) ∷
+    by.Cpu (cpu 0) (cpus.Return answers.Nothing (dev 1) 0) ∷
+    by.Cpu (cpu 0) (cpus.End false true notes.Counted) ∷
+    by.Cpu (cpu 0) (cpus.Take ways.Line takes.Handle) ∷
+    by.Cpu (cpu 0) (cpus.Begin (dev 1)) ∷
+    by.Cpu (cpu 0) (cpus.Return answers.Nothing (dev 1) 0) ∷
+    by.Cpu (cpu 0) (cpus.End false false notes.Killed) ∷ []
 
 pub late_is_legal : IsLegal late_line late_log
 late_is_legal = (
@@ -243,27 +246,27 @@ woken_line = record (small kinds.Check) {
 
 abbrev pub woken_log : List Entry
 woken_log =
-    entries.Request (driver 1) (dev 1) no_flags links.Linked (opens.Started resends.No) ∷
-    entries.Ask (driver 1) (dev 1) ∷
-    entries.Take (cpu 0) ways.Line takes.Handle ∷
-    entries.Begin (cpu 0) (dev 1) ∷
-    entries.Return (cpu 0) (dev 1) answers.Wake 0 ∷
-    entries.End (cpu 0) false true notes.Quiet ∷
-    entries.Take (cpu 0) ways.Line takes.Handle ∷
-    entries.Begin (cpu 0) (dev 1) ∷
-    entries.Return (cpu 0) (dev 1) answers.Wake 0 ∷
-    entries.End (cpu 0) false true notes.Counted ∷
-    entries.ThreadBegin (dev 1) ∷
-    entries.ThreadReturn (dev 1) 1 ∷
-    entries.Done (dev 1) ∷
-    entries.Ask (driver 1) (dev 1) ∷
-    entries.Take (cpu 0) ways.Line takes.Handle ∷
-    entries.Begin (cpu 0) (dev 1) ∷
-    entries.Return (cpu 0) (dev 1) answers.Wake 0 ∷
-    entries.End (cpu 0) false true notes.Counted ∷
-    entries.ThreadBegin (dev 1) ∷
-    entries.ThreadReturn (dev 1) 1 ∷
-    entries.Done (dev 1) ∷ []
+    by.Driver (driver 1) (drivers.Request no_flags links.Linked (opens.Started resends.No) (dev 1)) ∷
+    by.Driver (driver 1) (drivers.Ask true (dev 1)) ∷
+    by.Cpu (cpu 0) (cpus.Take ways.Line takes.Handle) ∷
+    by.Cpu (cpu 0) (cpus.Begin (dev 1)) ∷
+    by.Cpu (cpu 0) (cpus.Return answers.Wake (dev 1) 0) ∷
+    by.Cpu (cpu 0) (cpus.End false true notes.Quiet) ∷
+    by.Cpu (cpu 0) (cpus.Take ways.Line takes.Handle) ∷
+    by.Cpu (cpu 0) (cpus.Begin (dev 1)) ∷
+    by.Cpu (cpu 0) (cpus.Return answers.Wake (dev 1) 0) ∷
+    by.Cpu (cpu 0) (cpus.End false true notes.Counted) ∷
+    by.Thread (dev 1) threads.Begin ∷
+    by.Thread (dev 1) (threads.Return true 1) ∷
+    by.Thread (dev 1) threads.Done ∷
+    by.Driver (driver 1) (drivers.Ask true (dev 1)) ∷
+    by.Cpu (cpu 0) (cpus.Take ways.Line takes.Handle) ∷
+    by.Cpu (cpu 0) (cpus.Begin (dev 1)) ∷
+    by.Cpu (cpu 0) (cpus.Return answers.Wake (dev 1) 0) ∷
+    by.Cpu (cpu 0) (cpus.End false true notes.Counted) ∷
+    by.Thread (dev 1) threads.Begin ∷
+    by.Thread (dev 1) (threads.Return true 1) ∷
+    by.Thread (dev 1) threads.Done ∷ []
 
 pub woken_is_legal : IsLegal woken_line woken_log
 woken_is_legal = (
@@ -314,7 +317,7 @@ woken_is_legal = (
 pub woken_is_still :
     (next woken_line woken_log (actors.Cpu (cpu 0)) ≡ None)
     × (next woken_line woken_log (actors.Driver (driver 1)) ≡ None)
-    × (next woken_line woken_log (actors.Thread line (dev 1)) ≡ None)
+    × (next woken_line woken_log (actors.Thread (dev 1)) ≡ None)
 woken_is_still = (refl, refl, refl)
 
 pub woken_ends :

@@ -4,7 +4,10 @@ use Rattle.std.specs.List.{list_any}
 use Rattle.irq_base.specs.declared.numbers.DevNo.{DevNo}
 use Rattle.irq_base.specs.declared.lines.LineDef.{LineDef}
 use Rattle.irq_base.specs.declared.entries.Entry.{Entry}
-use Rattle.irq_base.specs.declared.entries.Entry.TheVariants as entries
+use Rattle.irq_base.specs.declared.entries.Entry.TheVariants as by
+use Rattle.irq_base.specs.declared.entries.CpuEntry.TheVariants as cpus
+use Rattle.irq_base.specs.declared.entries.ThreadEntry.TheVariants as threads
+use Rattle.irq_base.specs.declared.entries.DriverEntry.TheVariants as drivers
 use Rattle.irq_model.specs.Places.{since, count_of}
 use Rattle.irq_model.specs.Kinds.{is_wake, wakes, returns_wake, is_thread_begin, is_thread_return, is_finish, is_done}
 use Rattle.irq_model.specs.Threads.{is_woken, is_running}
@@ -19,26 +22,26 @@ use Rattle.irq_storms.proofs.Running.{StaysBelow, runs_below}
 -- ---- entries of threads, of any device
 
 abbrev pub is_any_thread_begin : Entry → Bool
-is_any_thread_begin (entries.ThreadBegin dev) = true
+is_any_thread_begin (by.Thread dev threads.Begin) = true
 is_any_thread_begin _ = false
 
 abbrev pub is_any_thread_return : Entry → Bool
-is_any_thread_return (entries.ThreadReturn dev served) = true
+is_any_thread_return (by.Thread dev (threads.Return handled served)) = true
 is_any_thread_return _ = false
 
 abbrev pub is_any_finish : Entry → Bool
-is_any_finish (entries.Finish dev kept unmask) = true
+is_any_finish (by.Thread dev (threads.Finish kept unmask)) = true
 is_any_finish _ = false
 
 abbrev pub is_any_done : Entry → Bool
-is_any_done (entries.Done dev) = true
+is_any_done (by.Thread dev threads.Done) = true
 is_any_done _ = false
 
 -- ---- what an entry of d's thread says when it is due
 
 pub begin_tells : (def : LineDef) (d : DevNo) (e : Entry) (past : List Entry) → IsDue def e past
     → is_thread_begin d e ≡ true → (is_woken past d ≡ true) × (is_running past d ≡ false)
-begin_tells def d (entries.ThreadBegin x) past due h =
+begin_tells def d (by.Thread x threads.Begin) past due h =
     let u = thread_begin_due def x past due in
     let same = sym (dev_from_same d x h) in
     (subst (λ (y : DevNo). is_woken past y ≡ true) same u.woken, subst (λ (y : DevNo). is_running past y ≡ false) same u.not_running)
@@ -46,15 +49,15 @@ begin_tells def d e past due h = cc
 
 pub return_tells : (def : LineDef) (d : DevNo) (e : Entry) (past : List Entry) → IsDue def e past
     → is_thread_return d e ≡ true → (is_running past d ≡ true) × (has_returned past d ≡ false)
-return_tells def d (entries.ThreadReturn x served) past due h =
-    let u = thread_return_due def x served past due in
+return_tells def d (by.Thread x (threads.Return handled served)) past due h =
+    let u = thread_return_due _ def x served past due in
     let same = sym (dev_from_same d x h) in
     (subst (λ (y : DevNo). is_running past y ≡ true) same u.running, subst (λ (y : DevNo). has_returned past y ≡ false) same u.not_returned)
 return_tells def d e past due h = cc
 
 finish_tells : (def : LineDef) (d : DevNo) (e : Entry) (past : List Entry) → IsDue def e past → is_finish d e ≡ true
     → (is_running past d ≡ true) × (has_returned past d ≡ true) × (has_finished past d ≡ false)
-finish_tells def d (entries.Finish x kept unmask) past due h =
+finish_tells def d (by.Thread x (threads.Finish kept unmask)) past due h =
     let u = finish_due def x kept unmask past due in
     let same = sym (dev_from_same d x h) in (
       subst (λ (y : DevNo). is_running past y ≡ true) same u.running,
@@ -65,7 +68,8 @@ finish_tells def d (entries.Finish x kept unmask) past due h =
 finish_tells def d e past due h = cc
 
 done_tells : (def : LineDef) (d : DevNo) (e : Entry) (past : List Entry) → IsDue def e past → is_done d e ≡ true → is_running past d ≡ true
-done_tells def d (entries.Done x) past due h = subst (λ (y : DevNo). is_running past y ≡ true) (sym (dev_from_same d x h)) (done_due def x past due).running
+done_tells def d (by.Thread x threads.Done) past due h
+    = subst (λ (y : DevNo). is_running past y ≡ true) (sym (dev_from_same d x h)) (done_due def x past due).running
 done_tells def d e past due h = cc
 
 -- ---- one more entry, as numbers
@@ -167,36 +171,36 @@ dones_of def d = runs_below def (is_done d) (is_thread_begin d) (λ past. one_if
 
 -- the number of the device that an entry of a run names
 abbrev pub dev_key : Entry → ℕ
-dev_key (entries.Ask driver dev) = dev.0
-dev_key (entries.Begin cpu dev) = dev.0
-dev_key (entries.Return cpu dev answer served) = dev.0
-dev_key (entries.ThreadBegin dev) = dev.0
-dev_key (entries.ThreadReturn dev served) = dev.0
-dev_key (entries.Finish dev kept unmask) = dev.0
-dev_key (entries.Done dev) = dev.0
+dev_key (by.Driver driver (drivers.Ask makes dev)) = dev.0
+dev_key (by.Cpu cpu (cpus.Begin dev)) = dev.0
+dev_key (by.Cpu cpu (cpus.Return answer dev served)) = dev.0
+dev_key (by.Thread dev threads.Begin) = dev.0
+dev_key (by.Thread dev (threads.Return handled served)) = dev.0
+dev_key (by.Thread dev (threads.Finish kept unmask)) = dev.0
+dev_key (by.Thread dev threads.Done) = dev.0
 dev_key _ = 0
 
 pub swapped : (a b : Bool) → (a && b) ≡ (b && a)
 swapped a b = grind arith
 
 key_wakes : (k : ℕ) (e : Entry) → wakes (record { 0 = k }) e ≡ (returns_wake e && (k == dev_key e))
-key_wakes k (entries.Return cpu dev answer served) = swapped (k == dev.0) (is_wake answer)
+key_wakes k (by.Cpu cpu (cpus.Return answer dev served)) = swapped (k == dev.0) (is_wake answer)
 key_wakes k e = refl
 
 key_begin : (k : ℕ) (e : Entry) → is_thread_begin (record { 0 = k }) e ≡ (is_any_thread_begin e && (k == dev_key e))
-key_begin k (entries.ThreadBegin dev) = refl
+key_begin k (by.Thread dev threads.Begin) = refl
 key_begin k e = refl
 
 key_return : (k : ℕ) (e : Entry) → is_thread_return (record { 0 = k }) e ≡ (is_any_thread_return e && (k == dev_key e))
-key_return k (entries.ThreadReturn dev served) = refl
+key_return k (by.Thread dev (threads.Return handled served)) = refl
 key_return k e = refl
 
 key_finish : (k : ℕ) (e : Entry) → is_finish (record { 0 = k }) e ≡ (is_any_finish e && (k == dev_key e))
-key_finish k (entries.Finish dev kept unmask) = refl
+key_finish k (by.Thread dev (threads.Finish kept unmask)) = refl
 key_finish k e = refl
 
 key_done : (k : ℕ) (e : Entry) → is_done (record { 0 = k }) e ≡ (is_any_done e && (k == dev_key e))
-key_done k (entries.Done dev) = refl
+key_done k (by.Thread dev threads.Done) = refl
 key_done k e = refl
 
 plain : (a b m p q : ℕ) → a ≡ p → b ≡ q → a + m ≤ b → p ≤ q
@@ -211,7 +215,7 @@ thread_begins_past def past legal =
     omega (arith, all, some)
   where
     is_return : (e : Entry) → returns_wake e ≡ true → is_any_return e ≡ true
-    is_return (entries.Return cpu dev answer served) h = refl
+    is_return (by.Cpu cpu (cpus.Return answer dev served)) h = refl
     is_return e h = cc
 
 pub thread_returns_past : (def : LineDef) (past : List Entry) → IsLegalPast def past → count_of is_any_thread_return past ≤ count_of is_any_thread_begin past

@@ -2,8 +2,14 @@
 use Rattle.std.specs.Prelude.{ℕ, ◌+◌, Bool, true, false, ◌||◌, ◌&&◌, if◌then◌else◌, nat_lt, List}
 use Rattle.std.specs.Prelude.{[], ◌∷◌}
 use Rattle.irq_base.specs.declared.numbers.DevNo.{DevNo}
+use Rattle.irq_base.specs.declared.entries.Actor.{Actor}
+use Rattle.irq_base.specs.declared.entries.Actor.TheVariants as actors
 use Rattle.irq_base.specs.declared.entries.Entry.{Entry}
-use Rattle.irq_base.specs.declared.entries.Entry.TheVariants as entries
+use Rattle.irq_base.specs.declared.entries.Entry.TheVariants as by
+use Rattle.irq_base.specs.declared.entries.CpuEntry.TheVariants as cpus
+use Rattle.irq_base.specs.declared.entries.ThreadEntry.TheVariants as threads
+use Rattle.irq_base.specs.declared.entries.DriverEntry.TheVariants as drivers
+use Rattle.irq_base.specs.Who.{actor_of}
 use Rattle.irq_model.specs.Kinds.{same_dev, is_handled, returns_handled, is_start}
 use Rattle.irq_model.specs.Kinds.{is_linked_request}
 
@@ -11,40 +17,40 @@ use Rattle.irq_model.specs.Kinds.{is_linked_request}
 
 -- a handler is called
 abbrev pub is_any_begin : Entry → Bool
-is_any_begin (entries.Begin cpu dev) = true
+is_any_begin (by.Cpu cpu (cpus.Begin dev)) = true
 is_any_begin _ = false
 
 -- a handler returned
 abbrev pub is_any_return : Entry → Bool
-is_any_return (entries.Return cpu dev answer served) = true
+is_any_return (by.Cpu cpu (cpus.Return answer dev served)) = true
 is_any_return _ = false
 
 -- a round ends
 abbrev pub is_end : Entry → Bool
-is_end (entries.End cpu again unmask note) = true
+is_end (by.Cpu cpu (cpus.End again unmask note)) = true
 is_end _ = false
 
 -- a run that served something: a handler that answered so, or a thread that served
 abbrev pub is_any_serving : Entry → Bool
-is_any_serving (entries.ThreadReturn dev served) = nat_lt 0 served
+is_any_serving (by.Thread dev (threads.Return handled served)) = nat_lt 0 served
 is_any_serving e = returns_handled e
 
 -- a run of d that served something
 abbrev pub serves_of : DevNo → Entry → Bool
-serves_of d (entries.Return cpu dev answer served) = same_dev d dev && is_handled answer
-serves_of d (entries.ThreadReturn dev served) = same_dev d dev && nat_lt 0 served
+serves_of d (by.Cpu cpu (cpus.Return answer dev served)) = same_dev d dev && is_handled answer
+serves_of d (by.Thread dev (threads.Return handled served)) = same_dev d dev && nat_lt 0 served
 serves_of d _ = false
 
 -- how many asks of d the entry serves
 abbrev pub asks_served : DevNo → Entry → ℕ
-asks_served d (entries.Return cpu dev answer served) = if same_dev d dev then served else 0
-asks_served d (entries.ThreadReturn dev served) = if same_dev d dev then served else 0
+asks_served d (by.Cpu cpu (cpus.Return answer dev served)) = if same_dev d dev then served else 0
+asks_served d (by.Thread dev (threads.Return handled served)) = if same_dev d dev then served else 0
 asks_served d _ = 0
 
 -- how many asks it serves, of any device
 abbrev pub all_served : Entry → ℕ
-all_served (entries.Return cpu dev answer served) = served
-all_served (entries.ThreadReturn dev served) = served
+all_served (by.Cpu cpu (cpus.Return answer dev served)) = served
+all_served (by.Thread dev (threads.Return handled served)) = served
 all_served _ = 0
 
 -- the sum of what a list's elements weigh
@@ -55,20 +61,16 @@ total w (x ∷ xs) = w x + total w xs
 -- ---- drivers
 
 -- some driver made the entry
+abbrev pub is_any_driver : Actor → Bool
+is_any_driver (actors.Driver driver) = true
+is_any_driver _ = false
+
 abbrev pub is_by_any_driver : Entry → Bool
-is_by_any_driver (entries.Take cpu way answer) = false
-is_by_any_driver (entries.Begin cpu dev) = false
-is_by_any_driver (entries.Return cpu dev answer served) = false
-is_by_any_driver (entries.End cpu again unmask note) = false
-is_by_any_driver (entries.ThreadBegin dev) = false
-is_by_any_driver (entries.ThreadReturn dev served) = false
-is_by_any_driver (entries.Finish dev kept unmask) = false
-is_by_any_driver (entries.Done dev) = false
-is_by_any_driver _ = true
+is_by_any_driver e = is_any_driver (actor_of e)
 
 -- a moment is handed in
 abbrev pub is_moment : Entry → Bool
-is_moment (entries.Moment driver at) = true
+is_moment (by.Driver driver (drivers.Moment at)) = true
 is_moment _ = false
 
 -- an entry of a driver from which a storm may begin anew: a start, a request that was linked, a

@@ -6,7 +6,7 @@ ghost use Rattle.log_text.specs.Rows.{entry_text};
 ghost use Rattle.kept_rows.specs.Kept.{IsKept};
 
 use crate::places::{PLACES, place_of};
-use irq_base::{DevNo, Entry, History, LineNo, Packed};
+use irq_base::{DevNo, Entry, History, LineNo, Packed, ThreadEntry};
 use log_text::entry_row;
 use std::marker::Model;
 use text_row::TextRow;
@@ -145,7 +145,7 @@ impl KeptRow {
     fn first(row: &mut TextRow) -> KeptRow
         ensures { IsKept result }
     {
-        let entry = Entry::Done { dev: DevNo(0) };
+        let entry = Entry::Thread(DevNo(0), ThreadEntry::Done);
         let Some(word) = Packed::pack(entry) else {
             unreachable!();
         };

@@ -9,11 +9,11 @@ use Rattle.irq_base.specs.declared.calls.Call.TheVariants as calls
 use Rattle.irq_base.specs.declared.entries.Actor.{Actor}
 use Rattle.irq_base.specs.declared.entries.Actor.TheVariants as actors
 use Rattle.irq_base.specs.declared.entries.Entry.{Entry}
-use Rattle.irq_base.specs.declared.entries.Entry.TheVariants as entries
+use Rattle.irq_base.specs.declared.entries.Entry.TheVariants as by
+use Rattle.irq_base.specs.declared.entries.DriverEntry.TheVariants as drivers
 use Rattle.irq_base.specs.declared.lines.LineDef.{LineDef}
 use Rattle.irq_base.specs.declared.numbers.DevNo.{DevNo}
 use Rattle.irq_base.specs.declared.numbers.DriverNo.{DriverNo}
-use Rattle.irq_base.specs.declared.numbers.LineNo.{LineNo}
 use Rattle.irq_laws.proofs.OwnLaws.{due_is_own}
 use Rattle.irq_model.specs.Due.{calls_by, entries_by, due_call, entries_of_call, begins_not_there}
 use Rattle.irq_model.specs.Kinds.{same_driver, is_driver, is_by_driver}
@@ -44,27 +44,6 @@ use Rattle.line_core.specs.Moves.{IsMoved, Moves, CanMove, ends_call}
 pub newest : (h : List Entry) (e : Entry) → reverse (h ++ e ∷ []) ≡ e ∷ reverse h
 newest h e = reverse-append h (e ∷ [])
 
--- whose entry it is, whichever line it is of
-by_line : (r : DriverNo) (line : LineNo) (e : Entry) → is_by_driver r e ≡ is_driver r (actor_of line e)
-by_line r line (entries.Ask driver dev) = refl
-by_line r line (entries.Take cpu way answer) = refl
-by_line r line (entries.Begin cpu dev) = refl
-by_line r line (entries.Return cpu dev answer served) = refl
-by_line r line (entries.End cpu again unmask note) = refl
-by_line r line (entries.ThreadBegin dev) = refl
-by_line r line (entries.ThreadReturn dev served) = refl
-by_line r line (entries.Finish dev kept unmask) = refl
-by_line r line (entries.Done dev) = refl
-by_line r line (entries.Disable driver) = refl
-by_line r line (entries.HardClear driver) = refl
-by_line r line (entries.Synced driver) = refl
-by_line r line (entries.Enable driver answer) = refl
-by_line r line (entries.Request driver dev flags answer opened) = refl
-by_line r line (entries.Unlink driver dev answer) = refl
-by_line r line (entries.Freed driver dev) = refl
-by_line r line (entries.Affinity driver mask answer) = refl
-by_line r line (entries.Moment driver at) = refl
-
 module _ (def : LineDef) (h : List Entry) (s : StateSeen) (scripts after : List (DriverNo × RowSeen)) (e : Entry) (is : IsLine def h s scripts) where
   abbrev past : List Entry
   past = reverse h
@@ -72,8 +51,8 @@ module _ (def : LineDef) (h : List Entry) (s : StateSeen) (scripts after : List 
   abbrev IsAtAfter : DriverNo → Type 0
   IsAtAfter r = IsAt def (e ∷ reverse h) r (place_of after r) (within_of after r)
 
-  by_whom : (a : Actor) → actor_of def.line e ≡ a → (r : DriverNo) → is_by_driver r e ≡ is_driver r a
-  by_whom a who r = by_line r def.line e ∙ ap (is_driver r) who
+  by_whom : (a : Actor) → actor_of e ≡ a → (r : DriverNo) → is_by_driver r e ≡ is_driver r a
+  by_whom a who r = ap (is_driver r) who
 
   -- a driver whose place doesn't move
   stays : (r : DriverNo) → is_by_driver r e ≡ false → place_of after r ≡ place_of scripts r → within_of after r ≡ within_of scripts r → IsAtAfter r
@@ -122,7 +101,7 @@ module _ (def : LineDef) (h : List Entry) (s : StateSeen) (scripts after : List 
   few_entries (calls.Moment at) es = omega arith
 
   pub can_move : (a : Actor) → next def h a ≡ Some e → CanMove a scripts
-  can_move (actors.Thread line d) due = tt
+  can_move (actors.Thread d) due = tt
   can_move (actors.Cpu c) due = tt
   can_move (actors.Driver w) due =
       let k = has_call w due in
@@ -133,7 +112,7 @@ module _ (def : LineDef) (h : List Entry) (s : StateSeen) (scripts after : List 
       let few = few_entries k.call (part_at cs es (place_of scripts w)) in
       (ap is_some k.here, omega (arith, less, few))
 
-  moved : (w : DriverNo) → next def h (actors.Driver w) ≡ Some e → actor_of def.line e ≡ actors.Driver w
+  moved : (w : DriverNo) → next def h (actors.Driver w) ≡ Some e → actor_of e ≡ actors.Driver w
       → IsMoved w (ends_call (call_of scripts w) e) scripts after → (r : DriverNo) → IsAtAfter r
   moved w due who m r = by_same (same_driver r w) refl
     where
@@ -155,13 +134,13 @@ module _ (def : LineDef) (h : List Entry) (s : StateSeen) (scripts after : List 
   unmoved none same r = stays r (none r) (ap (λ (x : List (DriverNo × RowSeen)). place_of x r) same)
       (ap (λ (x : List (DriverNo × RowSeen)). within_of x r) same)
 
-  at_after : (a : Actor) → next def h a ≡ Some e → actor_of def.line e ≡ a → Moves a e scripts after → (r : DriverNo) → IsAtAfter r
-  at_after (actors.Thread line d) due who m = unmoved (by_whom (actors.Thread line d) who) m
+  at_after : (a : Actor) → next def h a ≡ Some e → actor_of e ≡ a → Moves a e scripts after → (r : DriverNo) → IsAtAfter r
+  at_after (actors.Thread d) due who m = unmoved (by_whom (actors.Thread d) who) m
   at_after (actors.Cpu c) due who m = unmoved (by_whom (actors.Cpu c) who) m
   at_after (actors.Driver w) due who m = moved w due who m
 
   calls_after : (a : Actor) → Moves a e scripts after → (r : DriverNo) → calls_of after r ≡ calls_by r def.calls
-  calls_after (actors.Thread line d) m r = ap (λ (x : List (DriverNo × RowSeen)). calls_of x r) m ∙ is.calls r
+  calls_after (actors.Thread d) m r = ap (λ (x : List (DriverNo × RowSeen)). calls_of x r) m ∙ is.calls r
   calls_after (actors.Cpu c) m r = ap (λ (x : List (DriverNo × RowSeen)). calls_of x r) m ∙ is.calls r
   calls_after (actors.Driver w) m r = m.calls r ∙ is.calls r
 
@@ -224,7 +203,7 @@ module _ (def : LineDef) (h : List Entry) (b : Beside def h) where
       ∙ (ap (option_map (λ (x : Call × ℕ). x.0)) (sym (due_call_is r)) ∙ told)
 
   -- an ask is due if it is the driver's due call
-  pub ask_due : (r : DriverNo) (d : DevNo) → call_of b.scripts r ≡ Some (calls.Ask d) → next def h (actors.Driver r) ≡ Some (entries.Ask r d)
+  pub ask_due : (r : DriverNo) (d : DevNo) → call_of b.scripts r ≡ Some (calls.Ask d) → next def h (actors.Driver r) ≡ Some (by.Driver r (drivers.Ask true d))
   ask_due r d there =
       ap (next_of_call def r (reverse h))
       (due_call_is r ∙ ap (λ (o : Option Call). with_count o (within_of b.scripts r)) there)

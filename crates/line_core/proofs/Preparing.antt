@@ -3,7 +3,6 @@ use Rattle.std.proofs.Common.{◌≡◌, ◌<◌, ◌≤◌, true, is_some, Ok, 
 use Rattle.std.proofs.Common.{refl, sym, ap, subst, ◌∙◌, arith}
 use Rattle.std.proofs.lemmas.Bool.{false≢true}
 use Rattle.std.specs.Prelude.{IfSome}
-use Rattle.irq_base.specs.Who.{actor_of}
 use Rattle.irq_base.specs.declared.devices.Run.{Run}
 use Rattle.irq_base.specs.declared.entries.Actor.{Actor}
 use Rattle.irq_base.specs.declared.entries.Entry.{Entry}
@@ -92,7 +91,7 @@ module _ (old mid : LineSeen) (who : Actor) (def : mid.def ≡ old.def) (entries
       let less = a.spare in
       record {
         due = sym same_next ∙ a.due;
-        actor = subst (λ (d : LineDef). actor_of d.line e ≡ who) def a.actor;
+        actor = a.actor;
         heard = subst (λ (o : Option Run). IfSome o (IsSaidFor said)) same_run a.heard;
         below = below_old a.below;
         def = a.def ∙ def;

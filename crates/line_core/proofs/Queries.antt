@@ -6,7 +6,9 @@ use Rattle.std.specs.Prelude.{IsTrue, IsSome}
 use Rattle.irq_base.specs.Cell.{signals}
 use Rattle.irq_base.specs.declared.entries.Actor.TheVariants as actors
 use Rattle.irq_base.specs.declared.entries.Entry.{Entry}
-use Rattle.irq_base.specs.declared.entries.Entry.TheVariants as entries
+use Rattle.irq_base.specs.declared.entries.Entry.TheVariants as by
+use Rattle.irq_base.specs.declared.entries.CpuEntry.TheVariants as cpus
+use Rattle.irq_base.specs.declared.entries.ThreadEntry.TheVariants as threads
 use Rattle.irq_base.specs.declared.entries.Way.TheVariants as ways
 use Rattle.irq_base.specs.declared.lines.LineDef.{LineDef}
 use Rattle.irq_base.specs.declared.numbers.CpuNo.{CpuNo}
@@ -47,8 +49,8 @@ flow_takes_none def s c None = by_left (first_left s.list.begun s.list.actions)
     by_left None = refl
 
 take_told : (s : StateSeen) (c : CpuNo) (target line soft : Bool)
-    → is_some_take (cond (not target) None (cond line (Some (entries.Take c ways.Line (take_by s)))
-    (cond soft (Some (entries.Take c ways.Resend (take_by s))) None))) ≡ (target && (line || soft))
+    → is_some_take (cond (not target) None (cond line (Some (by.Cpu c (cpus.Take ways.Line (take_by s))))
+    (cond soft (Some (by.Cpu c (cpus.Take ways.Resend (take_by s)))) None))) ≡ (target && (line || soft))
 take_told s c true true soft = refl
 take_told s c true false true = refl
 take_told s c true false false = refl
@@ -108,7 +110,7 @@ wakes_so false x = refl
 
 by_stage : (s : StateSeen) (d : DevNo) (r : ThreadRow) (st : Stage)
     → is_some (due_at_stage st s d r) ≡ (steps_at r.woken st || (may_go_on s.desc && is_returned_stage st))
-by_stage s d r stages.Idle = wakes_so r.woken (entries.ThreadBegin d) ∙ or_none r.woken (may_go_on s.desc)
+by_stage s d r stages.Idle = wakes_so r.woken (by.Thread d threads.Begin) ∙ or_none r.woken (may_go_on s.desc)
 by_stage s d r stages.Begun = refl
 by_stage s d r stages.Returned = goes_so s.desc.oneshot (is_some s.desc.flow) _ _
 by_stage s d r stages.Finished = refl
@@ -137,12 +139,12 @@ module _ (def : LineDef) (past : List Entry) (valid : IsValid def) (legal : IsLe
       (lowest_in (state_of def past).aim.cpus (state_of def past).aim.mask) in
       (λ h. told ∙ both.0 h, λ h. both.1 (sym told ∙ h))
 
-  due_so : (d : DevNo) → is_some (next_past def past (actors.Thread def.line d))
+  due_so : (d : DevNo) → is_some (next_past def past (actors.Thread d))
       ≡ row_passes (could_step (may_go_on (state_of def past).desc)) false (at (threads_of def past) d)
   due_so d = ap is_some (thread_is def past d valid legal) ∙ row_due (state_of def past) d (at (threads_of def past) d)
 
   abbrev pub IsDueThread : DevNo → Type 0
-  IsDueThread d = IsSome (next_past def past (actors.Thread def.line d))
+  IsDueThread d = IsSome (next_past def past (actors.Thread d))
 
   abbrev pub IsLowest : Option DevNo → Type 0
   IsLowest None = (d : DevNo) → IsDueThread d → ⊥

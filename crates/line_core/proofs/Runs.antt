@@ -74,7 +74,7 @@ module _ (def : LineDef) (past : List Entry) (valid : IsValid def) (legal : IsLe
           ∙ ap (λ (n : ℕ). Some (record { def = device_at (state_of def past) def.line d; part = parts.Primary; unserved = n })) met
   run_is (steps.Thread d threads.Return) due =
       let k = kept def past valid legal in
-      let there = there_named def past k d (running_there def past k d (thread_return_due def d (met_in (at (asks_of def past) d)) past due).running) in
+      let there = there_named def past k d (running_there def past k d (thread_return_due _ def d (met_in (at (asks_of def past) d)) past due).running) in
       told (ap met_in (sym (row_is d there)))
     where
       told : (ask_row def past d).met_by_thread ≡ met_in (at (asks_of def past) d)

@@ -1,30 +1,28 @@
 //! The step that is due of an actor. Nothing changes here.
-ghost use Rattle.std.specs.Prelude.{◌≡◌, if◌then◌else◌, None, option_map};
+ghost use Rattle.std.specs.Prelude.{◌≡◌, option_map};
 ghost use Rattle.irq_base.specs.declared.lines.LineDef.{LineDef};
-ghost use Rattle.irq_model.specs.Kinds.{same_line};
 ghost use Rattle.line_marks.specs.DriversDue.{driver_due};
-ghost use Rattle.line_marks.specs.Due.{thread_due};
 ghost use Rattle.line_marks.specs.Next.{due_by, due_call_in};
-ghost use Rattle.line_state.specs.Entries.{entry_by, thread_entry, call_entry};
+ghost use Rattle.line_state.specs.Entries.{entry_by, call_entry};
 
-use irq_base::{Actor, Chip, DevNo, DriverNo, LineDef, LineNo};
+use irq_base::{Actor, Chip, DriverNo, LineDef};
 use line_scripts::Scripts;
-use line_state::{CallStep, DueStep, LineState, ThreadStep};
+use line_state::{CallStep, DueStep, LineState};
 
 /// The step that is due by the state, and for a driver by its place in its script.
 #[inline(always)]
 pub fn due_by<C: Chip>(
-    def: &LineDef,
+    _def: &LineDef,
     state: &LineState<C>,
     scripts: &Scripts,
     actor: Actor,
 ) -> Option<DueStep>
-    ensures { option_map (entry_by def.now state.now.state) result
-        ≡ due_by def.now state.now.state scripts.now actor }
+    ensures { option_map (entry_by _def.now state.now.state) result
+        ≡ due_by _def.now state.now.state scripts.now actor }
 {
     match actor {
-        Actor::Thread(line, dev) => {
-            let step = due_of_thread(def, state, line, dev)?;
+        Actor::Thread(dev) => {
+            let step = state.due_of_thread(dev)?;
             Some(DueStep::Thread { dev, step })
         }
         Actor::Cpu(cpu) => {
@@ -36,23 +34,6 @@ pub fn due_by<C: Chip>(
             Some(DueStep::Call { driver, step })
         }
     }
-}
-
-/// The step that is due of a thread; none for a thread of another line.
-#[inline(always)]
-pub(crate) fn due_of_thread<C: Chip>(
-    def: &LineDef,
-    state: &LineState<C>,
-    line: LineNo,
-    dev: DevNo,
-) -> Option<ThreadStep>
-    ensures { option_map (thread_entry state.now.state dev) result
-        ≡ (if same_line line def.now.line then thread_due state.now.state dev else None) }
-{
-    if line != def.line {
-        return None;
-    }
-    state.due_of_thread(dev)
 }
 
 /// The step that is due of a driver; none if its calls are complete.

@@ -26,14 +26,13 @@ ghost use Rattle.line_state.specs.declared.due.ThreadStep.TheVariants as threads
 ghost use Rattle.line_core.specs.Entries.{entry_at};
 ghost use Rattle.line_core.specs.Blocking.{freed_in, blocks_by};
 
-use crate::due::{due_by, due_of_thread};
+use crate::due::due_by;
 use crate::putting::{put_ask, put_of_call, put_of_cpu, put_of_thread, put_return};
 use crate::room::{make_place, make_room};
 use crate::running::unanswered;
 use callbacks::{Callbacks, Handler, Said};
 use irq_base::{
-    Actor, Blocks, Call, Chip, CpuNo, DevNo, DriverNo, Entry, History, LineDef, LineNo, NoMemory,
-    Run,
+    Actor, Blocks, Call, Chip, CpuNo, DevNo, DriverNo, Entry, History, LineDef, NoMemory, Run,
 };
 use irq_line::{IrqLine, StepRefused, Stepped};
 use line_scripts::Scripts;
@@ -203,30 +202,22 @@ impl<C: Chip> Line<C> {
 
     /// The same for a step of a thread.
     #[inline(always)]
-    fn act_of_thread(
-        &mut self,
-        line: LineNo,
-        dev: DevNo,
-        step: ThreadStep,
-        said: &Option<Said>,
-    ) -> Stepped
-        requires due { next self.old.line.def self.old.line.entries
-            (actors.Thread line dev)
+    fn act_of_thread(&mut self, dev: DevNo, step: ThreadStep, said: &Option<Said>) -> Stepped
+        requires due { next self.old.line.def self.old.line.entries (actors.Thread dev)
             ≡ Some (entry_at self.old.line (steps.Thread dev step)) }
         requires below { length self.old.line.entries < self.old.line.def.log }
-        requires room { IfSome (run_of self.old.line.def self.old.line.entries
-            (actors.Thread line dev))
+        requires room { IfSome (run_of self.old.line.def self.old.line.entries (actors.Thread dev))
             (IsSaidFor said.now)
             → 1 ≤ self.old.line.spare }
         ensures def { self.new.line.def ≡ self.old.line.def }
-        ensures answer { Answers self.old.line (actors.Thread line dev) said.now (Ok result)
+        ensures answer { Answers self.old.line (actors.Thread dev) said.now (Ok result)
             self.new.line }
         ensures wiring { self.new.wiring ≡ self.old.wiring }
     {
         if let Some(run) = unanswered(&self.def, &self.state, DueStep::Thread { dev, step }, said) {
             return Stepped::Run(run);
         }
-        Stepped::Added(self.add_of_thread(line, dev, step))
+        Stepped::Added(self.add_of_thread(dev, step))
     }
 
     /// Adds the entry that is due of the processor, where the history has room. Only a return ends
@@ -253,13 +244,13 @@ impl<C: Chip> Line<C> {
 
     /// The same for a thread.
     #[inline(always)]
-    fn add_of_thread(&mut self, line: LineNo, dev: DevNo, step: ThreadStep) -> Entry
-        requires due { next self.old.line.def self.old.line.entries (actors.Thread line dev)
+    fn add_of_thread(&mut self, dev: DevNo, step: ThreadStep) -> Entry
+        requires due { next self.old.line.def self.old.line.entries (actors.Thread dev)
             ≡ Some (entry_at self.old.line (steps.Thread dev step)) }
         requires room { HasRoom self.old.line }
-        ensures adds { Adds self.old.line (actors.Thread line dev) result self.new.line }
+        ensures adds { Adds self.old.line (actors.Thread dev) result self.new.line }
         ensures unheard { (step ≡ threads.Return → ⊥) → (said : Option SaidSeen)
-            → AddsEntry self.old.line (actors.Thread line dev) said result self.new.line }
+            → AddsEntry self.old.line (actors.Thread dev) said result self.new.line }
         ensures wiring { self.new.wiring ≡ self.old.wiring }
     {
         put_of_thread(
@@ -267,7 +258,6 @@ impl<C: Chip> Line<C> {
             &mut self.history,
             &mut self.state,
             &self.scripts,
-            line,
             dev,
             step,
         )
@@ -354,32 +344,31 @@ impl<C: Chip> Line<C> {
     #[inline(always)]
     fn return_of_thread<H: Handler>(
         &mut self,
-        line: LineNo,
         dev: DevNo,
         handlers: &Callbacks<H>,
         said: &mut Option<Said>,
     ) -> Entry
-        requires due { next self.old.line.def self.old.line.entries (actors.Thread line dev)
+        requires due { next self.old.line.def self.old.line.entries (actors.Thread dev)
             ≡ Some (entry_at self.old.line (steps.Thread dev threads.Return)) }
         requires room { HasRoom self.old.line }
-        ensures adds { AddsEntry self.old.line (actors.Thread line dev) said.new result
+        ensures adds { AddsEntry self.old.line (actors.Thread dev) said.new result
             self.new.line }
         ensures wiring { self.new.wiring ≡ self.old.wiring }
     {
-        let run = self.thread_run(line, dev);
+        let run = self.thread_run(dev);
         let step = DueStep::Thread {
             dev,
             step: ThreadStep::Return,
         };
-        self.hear_run(Actor::Thread(line, dev), step, run, handlers, said)
+        self.hear_run(Actor::Thread(dev), step, run, handlers, said)
     }
 
     /// The run that the thread's return ends, which is due of it.
     #[inline(always)]
-    fn thread_run(&self, _line: LineNo, dev: DevNo) -> Run
-        requires { next self.now.line.def self.now.line.entries (actors.Thread _line dev)
+    fn thread_run(&self, dev: DevNo) -> Run
+        requires { next self.now.line.def self.now.line.entries (actors.Thread dev)
             ≡ Some (entry_at self.now.line (steps.Thread dev threads.Return)) }
-        ensures { run_of self.now.line.def self.now.line.entries (actors.Thread _line dev)
+        ensures { run_of self.now.line.def self.now.line.entries (actors.Thread dev)
             ≡ Some result }
     {
         self.state.thread_run(self.def.line, dev)
@@ -454,28 +443,27 @@ impl<C: Chip> Line<C> {
     #[inline(never)]
     fn hear_thread<H: Handler>(
         &mut self,
-        line: LineNo,
         dev: DevNo,
         handlers: &Callbacks<H>,
         said: &mut Option<Said>,
     ) -> Result<Option<Entry>, StepRefused>
         ensures def { self.new.line.def ≡ self.old.line.def }
-        ensures answer { Answers self.old.line (actors.Thread line dev) said.new
+        ensures answer { Answers self.old.line (actors.Thread dev) said.new
             (as_stepped result) self.new.line }
         ensures memory { WantsMemory (λ due. links_next due ≡ true) self.old.line
-            (actors.Thread line dev) result }
+            (actors.Thread dev) result }
         ensures wiring { self.new.wiring ≡ self.old.wiring }
     {
-        if let Err(refusal) = self.prepare_heard(Actor::Thread(line, dev)) {
+        if let Err(refusal) = self.prepare_heard(Actor::Thread(dev)) {
             return Err(refusal);
         }
-        let Some(step) = self.due_of_thread(line, dev) else {
+        let Some(step) = self.due_of_thread(dev) else {
             return Ok(None);
         };
         if let ThreadStep::Return = step {
-            return Ok(Some(self.return_of_thread(line, dev, handlers, said)));
+            return Ok(Some(self.return_of_thread(dev, handlers, said)));
         }
-        Ok(Some(self.add_of_thread(line, dev, step)))
+        Ok(Some(self.add_of_thread(dev, step)))
     }
 
     /// A step of a processor.
@@ -499,26 +487,21 @@ impl<C: Chip> Line<C> {
     /// A step of a thread. It stands apart, as that of a driver, so that a step of a processor is
     /// short where it is made.
     #[inline(never)]
-    fn step_thread(
-        &mut self,
-        line: LineNo,
-        dev: DevNo,
-        said: &Option<Said>,
-    ) -> Result<Stepped, StepRefused>
+    fn step_thread(&mut self, dev: DevNo, said: &Option<Said>) -> Result<Stepped, StepRefused>
         ensures def { self.new.line.def ≡ self.old.line.def }
-        ensures answer { Answers self.old.line (actors.Thread line dev) said.now result
+        ensures answer { Answers self.old.line (actors.Thread dev) said.now result
             self.new.line }
         ensures memory { WantsMemory (λ due. links_next due ≡ true) self.old.line
-            (actors.Thread line dev) result }
+            (actors.Thread dev) result }
         ensures wiring { self.new.wiring ≡ self.old.wiring }
     {
-        if let Err(refusal) = self.prepare(Actor::Thread(line, dev), said) {
+        if let Err(refusal) = self.prepare(Actor::Thread(dev), said) {
             return Err(refusal);
         }
-        let Some(step) = self.due_of_thread(line, dev) else {
+        let Some(step) = self.due_of_thread(dev) else {
             return Ok(Stepped::NotYet);
         };
-        Ok(self.act_of_thread(line, dev, step, said))
+        Ok(self.act_of_thread(dev, step, said))
     }
 
     /// The step that is due of the processor, if there is one.
@@ -532,11 +515,11 @@ impl<C: Chip> Line<C> {
 
     /// The step that is due of the thread, if there is one.
     #[inline(always)]
-    fn due_of_thread(&self, line: LineNo, dev: DevNo) -> Option<ThreadStep>
+    fn due_of_thread(&self, dev: DevNo) -> Option<ThreadStep>
         ensures { option_map (λ step. entry_at self.now.line (steps.Thread dev step)) result
-            ≡ next self.now.line.def self.now.line.entries (actors.Thread line dev) }
+            ≡ next self.now.line.def self.now.line.entries (actors.Thread dev) }
     {
-        due_of_thread(&self.def, &self.state, line, dev)
+        self.state.due_of_thread(dev)
     }
 
     /// Makes the step, which is due of the driver's call, and adds its entry. If it links no action
@@ -704,7 +687,7 @@ impl<C: Chip + Drop> IrqLine for Line<C> {
     {
         match actor {
             Actor::Cpu(cpu) => self.step_cpu(cpu, &said),
-            Actor::Thread(line, dev) => self.step_thread(line, dev, &said),
+            Actor::Thread(dev) => self.step_thread(dev, &said),
             Actor::Driver(driver) => match self.step_driver(driver)? {
                 Some(entry) => Ok(Stepped::Added(entry)),
                 None => Ok(Stepped::NotYet),
@@ -726,7 +709,7 @@ impl<C: Chip + Drop> IrqLine for Line<C> {
     {
         match actor {
             Actor::Cpu(cpu) => self.hear_cpu(cpu, handlers, said),
-            Actor::Thread(line, dev) => self.hear_thread(line, dev, handlers, said),
+            Actor::Thread(dev) => self.hear_thread(dev, handlers, said),
             Actor::Driver(driver) => self.step_driver(driver),
         }
     }

@@ -2,7 +2,8 @@
 ghost use Rattle.std.specs.Prelude.{◌≡◌, ◌+◌, ◌<◌, ◌≤◌, [], ◌∷◌, ◌++◌, length, true, Some};
 ghost use Rattle.irq_base.specs.declared.calls.Call.TheVariants as calls;
 ghost use Rattle.irq_base.specs.declared.entries.Actor.TheVariants as actors;
-ghost use Rattle.irq_base.specs.declared.entries.Entry.TheVariants as entries;
+ghost use Rattle.irq_base.specs.declared.entries.Entry.TheVariants as by;
+ghost use Rattle.irq_base.specs.declared.entries.DriverEntry.TheVariants as drivers;
 ghost use Rattle.irq_model.specs.Next.{next};
 ghost use Rattle.line_scripts.specs.Rows.{call_of};
 ghost use Rattle.line_marks.specs.Line.{IsLine};
@@ -12,7 +13,7 @@ ghost use Rattle.line_state.specs.Entries.{links_by_call, CanMake};
 ghost use Rattle.line_core.specs.Running.{run_by};
 
 use crate::moving::advance;
-use irq_base::{Actor, Call, Chip, CpuNo, DevNo, DriverNo, Entry, History, LineDef, LineNo, Run};
+use irq_base::{Actor, Call, Chip, CpuNo, DevNo, DriverNo, Entry, History, LineDef, Run};
 use line_scripts::{Scripts, completes};
 use line_state::{CallStep, CpuStep, DueStep, LineState, ThreadStep};
 
@@ -50,12 +51,11 @@ pub(crate) fn put_of_thread<C: Chip>(
     history: &mut History,
     state: &mut LineState<C>,
     _scripts: &Scripts,
-    _line: LineNo,
     dev: DevNo,
     step: ThreadStep,
 ) -> Entry
     requires line { IsLine def.now history.old.entries state.old.state _scripts.now }
-    requires due { next def.now history.old.entries (actors.Thread _line dev)
+    requires due { next def.now history.old.entries (actors.Thread dev)
         ≡ Some (thread_entry state.old.state dev step) }
     requires below { length history.old.entries < def.now.log }
     requires room { 1 ≤ history.old.spare }
@@ -115,7 +115,7 @@ pub(crate) fn put_ask<C: Chip>(
     requires call { call_of scripts.old driver ≡ Some (calls.Ask dev) }
     requires below { length history.old.entries < def.now.log }
     requires room { 1 ≤ history.old.spare }
-    ensures entry { result ≡ entries.Ask driver dev }
+    ensures entry { result ≡ by.Driver driver (drivers.Ask true dev) }
     ensures entries { history.new.entries ≡ history.old.entries ++ result ∷ [] }
     ensures spare { history.old.spare ≤ history.new.spare + 1 }
     ensures line { IsLine def.now history.new.entries state.new.state scripts.new }

@@ -3,7 +3,9 @@
 use Rattle.std.proofs.Common.{◌≡◌, ℕ, ◌+◌, ◌≤◌, Bool, true, false, not, ◌||◌, ◌&&◌, cond, ◌==◌, is_some, Option, None, List, [], ◌∷◌, refl, ap, ◌∙◌}
 use Rattle.irq_base.specs.declared.calls.Flags.{Flags}
 use Rattle.irq_base.specs.declared.entries.Entry.{Entry}
-use Rattle.irq_base.specs.declared.entries.Entry.TheVariants as entries
+use Rattle.irq_base.specs.declared.entries.Entry.TheVariants as by
+use Rattle.irq_base.specs.declared.entries.CpuEntry.TheVariants as cpus
+use Rattle.irq_base.specs.declared.entries.DriverEntry.TheVariants as drivers
 use Rattle.irq_base.specs.declared.entries.LinkAnswer.{LinkAnswer}
 use Rattle.irq_base.specs.declared.entries.LinkAnswer.TheVariants as links
 use Rattle.irq_base.specs.declared.entries.TakeAnswer.TheVariants as takes
@@ -33,15 +35,15 @@ flow_after def first e d = is_some (desc_after def first e d).flow
 
 -- a flow begins only where a round begins
 pub flow_stays : (def : LineDef) (first : Bool) (d : DescSeen) (e : Entry) → begins_round def e ≡ false → Lower (flow_after def first e d) (is_some d.flow)
-flow_stays def first d (entries.Take cpu way takes.Handle) none = cc
-flow_stays def first d (entries.Take cpu way takes.Busy) none = λ i. i
-flow_stays def first d (entries.Take cpu way takes.Off) none = λ i. i
-flow_stays def first d (entries.End cpu true unmask note) none = by_eoi _ none
+flow_stays def first d (by.Cpu cpu (cpus.Take way takes.Handle)) none = cc
+flow_stays def first d (by.Cpu cpu (cpus.Take way takes.Busy)) none = λ i. i
+flow_stays def first d (by.Cpu cpu (cpus.Take way takes.Off)) none = λ i. i
+flow_stays def first d (by.Cpu cpu (cpus.End true unmask note)) none = by_eoi _ none
   where
     by_eoi : (b : Bool) → (false || (true && not b)) ≡ false → Lower (is_some (cond (false || (false || (true && b))) None d.flow)) (is_some d.flow)
     by_eoi true h = λ i. absurd (let x : ⊥ = cc i in x)
     by_eoi false h = cc
-flow_stays def first d (entries.End cpu false unmask note) none = λ i. absurd (let x : ⊥ = cc i in x)
+flow_stays def first d (by.Cpu cpu (cpus.End false unmask note)) none = λ i. absurd (let x : ⊥ = cc i in x)
 flow_stays def first d e none = λ i. i
 
 -- ---- the list
@@ -141,7 +143,8 @@ module _ (f : Bool) (r : RoundSeen) (c : CountsSeen) where
   served_same true le = ap with_counts (thread_same c.counts le)
   served_same false le = as_before
 
-  pub linked_tally : (d : DriverNo) (dev : DevNo) (flags : Flags) (answer : LinkAnswer) (opened : _) → SameTally (entries.Request d dev flags answer opened)
+  pub linked_tally : (d : DriverNo) (dev : DevNo) (flags : Flags) (answer : LinkAnswer) (opened : _)
+      → SameTally (by.Driver d (drivers.Request flags answer opened dev))
   linked_tally d dev flags links.Linked opened = ap with_counts (ap (λ (x : Counts). record x { irq_count = 0; irqs_unhandled = 0 }) (again_same c.counts))
   linked_tally d dev flags (links.Refused error) opened = as_before
 

@@ -1,5 +1,5 @@
 -- What is due is read off the canonical state alike.
-use Rattle.std.proofs.Common.{◌≡◌, ℕ, true, false, not, ◌&&◌, cond, ◌==◌, is_some, Option, Some, None, List, refl, ap, ◌∙◌}
+use Rattle.std.proofs.Common.{◌≡◌, ℕ, true, false, not, ◌&&◌, cond, ◌==◌, ltb, is_some, Option, Some, None, List, option_map, refl, ap, ◌∙◌}
 use Rattle.irq_base.specs.Cell.{signals}
 use Rattle.irq_base.specs.declared.calls.Call.{Call}
 use Rattle.irq_base.specs.declared.calls.Call.TheVariants as calls
@@ -7,7 +7,11 @@ use Rattle.irq_base.specs.declared.calls.Flags.{Flags}
 use Rattle.irq_base.specs.declared.entries.Actor.{Actor}
 use Rattle.irq_base.specs.declared.entries.Actor.TheVariants as actors
 use Rattle.irq_base.specs.declared.entries.Entry.{Entry}
-use Rattle.irq_base.specs.declared.entries.Entry.TheVariants as entries
+use Rattle.irq_base.specs.declared.entries.Entry.TheVariants as by
+use Rattle.irq_base.specs.declared.entries.CpuEntry.TheVariants as cpus
+use Rattle.irq_base.specs.declared.entries.ThreadEntry.TheVariants as threads
+use Rattle.irq_base.specs.declared.entries.DriverEntry.TheVariants as drivers
+use Rattle.irq_base.specs.declared.entries.CallEntry.TheVariants as called
 use Rattle.irq_base.specs.declared.entries.LinkAnswer.{LinkAnswer}
 use Rattle.irq_base.specs.declared.entries.LinkAnswer.TheVariants as links
 use Rattle.irq_base.specs.declared.entries.Note.{Note}
@@ -20,7 +24,7 @@ use Rattle.irq_base.specs.declared.lines.LineDef.{LineDef}
 use Rattle.irq_base.specs.declared.numbers.CpuNo.{CpuNo}
 use Rattle.irq_base.specs.declared.numbers.DevNo.{DevNo}
 use Rattle.irq_base.specs.declared.numbers.DriverNo.{DriverNo}
-use Rattle.irq_model.specs.Kinds.{same_line, opened_by_enable}
+use Rattle.irq_model.specs.Kinds.{opened_by_enable}
 use Rattle.irq_model.specs.Rounds.{is_cpu}
 use Rattle.irq_model.specs.Signal.{lowest_in}
 use Rattle.irq_model.specs.Spurious.{noted}
@@ -38,7 +42,7 @@ use Rattle.flow_handlers.specs.Flows.{answer_by}
 use Rattle.line_scripts.specs.Rows.{RowSeen}
 use Rattle.line_marks.specs.Acts.{killed_if, left_by}
 use Rattle.line_marks.specs.CpuDue.{is_held, return_by, note_by, end_with, end_by, begin_or_end_by, in_flow_by, take_by, next_take_by, cpu_due}
-use Rattle.line_marks.specs.DriversDue.{opened_by, request_to, free_by, driver_due}
+use Rattle.line_marks.specs.DriversDue.{opened_by, request_to, clear_by, freed_by, driver_due}
 use Rattle.line_marks.specs.Due.{due_at_stage, due_of_row, thread_due}
 use Rattle.line_marks.specs.Kinds.{kind_at}
 use Rattle.line_marks.specs.Next.{due_by, due_call_in}
@@ -55,7 +59,8 @@ module _ (def : LineDef) (s : StateSeen) where
   by_stage d r stages.Idle is found = refl
   by_stage d r stages.Begun is found =
       let works : is_thread_working s.threads d ≡ true = ap (row_passes may_return false) found ∙ ap is_begun is in
-      ap (λ n. Some (entries.ThreadReturn d n)) (thread_met (serves_at s) (is_working s.round.working) (is_thread_working s.threads) d s.asks works)
+      ap (λ n. Some (by.Thread d (threads.Return (ltb 0 n) n)))
+      (thread_met (serves_at s) (is_working s.round.working) (is_thread_working s.threads) d s.asks works)
   by_stage d r stages.Returned is found = refl
   by_stage d r stages.Finished is found = refl
 
@@ -74,7 +79,7 @@ module _ (def : LineDef) (s : StateSeen) where
   next_take_same : (c : CpuNo) → next_take_by (canon s) c ≡ next_take_by s c
   next_take_same c =
       ap (λ (a : TakeAnswer). cond (not (is_cpu c (lowest_in s.aim.cpus s.aim.mask))) None
-      (cond (signals s.cell) (Some (entries.Take c ways.Line a)) (cond s.desc.soft (Some (entries.Take c ways.Resend a)) None))) take_same
+      (cond (signals s.cell) (Some (by.Cpu c (cpus.Take ways.Line a))) (cond s.desc.soft (Some (by.Cpu c (cpus.Take ways.Resend a))) None))) take_same
 
   module _ (flows : in_flow s ≡ true) where
     note_same : note_by (canon s) ≡ note_by s
@@ -119,7 +124,7 @@ module _ (def : LineDef) (s : StateSeen) where
       (cond s.desc.spurious (opened_by_enable (enable_by (not b) def.trigger s.desc s.cell)) opens.No)) (none_same s.list.actions)
 
   request_same : (r : DriverNo) (d : DevNo) (flags : Flags) (a : LinkAnswer) → request_to def r d flags (canon s) a ≡ request_to def r d flags s a
-  request_same r d flags links.Linked = ap (λ (o : Opened). entries.Request r d flags links.Linked o) (opened_same flags)
+  request_same r d flags links.Linked = ap (λ (o : Opened). by.Driver r (drivers.Request flags links.Linked o d)) (opened_same flags)
   request_same r d flags (links.Refused error) = refl
 
   pub driver_same : (r : DriverNo) (o : Option (Call × ℕ)) → driver_due def (canon s) r o ≡ driver_due def s r o
@@ -130,12 +135,13 @@ module _ (def : LineDef) (s : StateSeen) where
       (ap (request_to def r d flags (canon s)) (answer_same (kind_at s.kinds d) flags s.list.actions)
       ∙ request_same r d flags (link_answer_by (kind_at s.kinds d) flags s.list.actions))
   driver_same r (Some (calls.Free d, n)) =
-      ap (λ (a : UnlinkAnswer). cond (n == 0) (cond (is_some s.freeing) None (Some (entries.Unlink r d a)))
-      (cond (n == 1) (cond (is_some s.desc.flow) None (Some (entries.HardClear r))) (free_by r d 2 s)))
+      ap (λ (a : UnlinkAnswer). option_map (by.DriverCall r) (cond (n == 0) (cond (is_some s.freeing) None (Some (called.Unlink a d)))
+      (cond (n == 1) (clear_by s) (freed_by d s))))
       (unlink_same d s.list.actions)
   driver_same r (Some (calls.Disable, n)) = refl
   driver_same r (Some (calls.DisableNosync, n)) = refl
-  driver_same r (Some (calls.Enable, n)) = ap (λ b. Some (entries.Enable r (enable_by (not b) def.trigger s.desc s.cell))) (none_same s.list.actions)
+  driver_same r (Some (calls.Enable, n)) = ap (λ b. Some
+      (by.DriverCall r (called.Enable (enable_by (not b) def.trigger s.desc s.cell)))) (none_same s.list.actions)
   driver_same r (Some (calls.Sync, n)) = refl
   driver_same r (Some (calls.Affinity mask, n)) = refl
   driver_same r (Some (calls.Moment at, n)) = refl
@@ -143,6 +149,6 @@ module _ (def : LineDef) (s : StateSeen) where
   -- ---- all of them
 
   pub due_same : (scripts : List (DriverNo × RowSeen)) (a : Actor) → due_by def (canon s) scripts a ≡ due_by def s scripts a
-  due_same scripts (actors.Thread line d) = ap (λ (o : Option Entry). cond (same_line line def.line) o None) (thread_same d)
+  due_same scripts (actors.Thread d) = thread_same d
   due_same scripts (actors.Cpu c) = cpu_same c
   due_same scripts (actors.Driver r) = driver_same r (due_call_in scripts r)

@@ -5,7 +5,11 @@ use Rattle.irq_base.specs.Cell.{Cell}
 use Rattle.irq_base.specs.declared.devices.Answer.TheVariants as answers
 use Rattle.irq_base.specs.declared.devices.Kind.{Kind}
 use Rattle.irq_base.specs.declared.entries.Entry.{Entry}
-use Rattle.irq_base.specs.declared.entries.Entry.TheVariants as entries
+use Rattle.irq_base.specs.declared.entries.Entry.TheVariants as by
+use Rattle.irq_base.specs.declared.entries.CpuEntry.TheVariants as cpus
+use Rattle.irq_base.specs.declared.entries.ThreadEntry.TheVariants as threads
+use Rattle.irq_base.specs.declared.entries.DriverEntry.TheVariants as drivers
+use Rattle.irq_base.specs.declared.entries.CallEntry.TheVariants as called
 use Rattle.irq_base.specs.declared.entries.UnlinkAnswer.TheVariants as unlinks
 use Rattle.irq_base.specs.declared.lines.LineDef.{LineDef}
 use Rattle.irq_base.specs.declared.numbers.DevNo.{DevNo}
@@ -14,12 +18,12 @@ use Rattle.irq_model.specs.Rounds.{begins_round}
 use Rattle.irq_steps.proofs.Same.{same_self, same_both}
 use Rattle.device_table.specs.Rows.{change, HasOwnKeys}
 use Rattle.act_list.specs.Actions.{is_bare}
-use Rattle.act_list.specs.Lists.{ListSeen}
+use Rattle.act_list.specs.Lists.{ListSeen, after_unlink}
 use Rattle.act_thread.specs.Steps.{may_return, is_returned, may_end, woken_row, begun_row, returned_row, finished_row, done_row}
 use Rattle.act_thread.specs.Threads.{threads_after}
 use Rattle.act_thread.specs.declared.rows.Stage.TheVariants as stages
 use Rattle.act_thread.specs.declared.rows.ThreadRow.{ThreadRow}
-use Rattle.ask_counts.specs.Rows.{asked, called, begun, served}
+use Rattle.ask_counts.specs.Rows.{asked, called as handler_called, begun, served}
 use Rattle.ask_counts.specs.declared.rows.AskRow.{AskRow}
 use Rattle.desc_state.specs.Desc.{DescSeen}
 use Rattle.spurious.specs.Seen.{CountsSeen}
@@ -129,8 +133,8 @@ module _ (def : LineDef) (s : StateSeen) where
   called_other : (d x : DevNo) → same_dev d x ≡ false → Lower (same_dev x d) (h x)
   called_other d x ne = none_low (same_dev x d) (h x) (same_both x d ∙ ne)
 
-  called_here : (d : DevNo) (r : AskRow) → AfterSame (kind d) (h d) (t d) (same_dev d d) (t d) r (called (is_direct (kind d)))
-  called_here d r = subst (λ b. AfterSame (kind d) (h d) (t d) b (t d) r (called (is_direct (kind d))))
+  called_here : (d : DevNo) (r : AskRow) → AfterSame (kind d) (h d) (t d) (same_dev d d) (t d) r (handler_called (is_direct (kind d)))
+  called_here d r = subst (λ b. AfterSame (kind d) (h d) (t d) b (t d) r (handler_called (is_direct (kind d))))
       (sym (same_self d)) (row_called (kind d) (h d) (t d) (t d) r (λ i. i))
 
   is_at_work : (d : DevNo) → s.round.working ≡ Some d → h d ≡ true
@@ -149,32 +153,32 @@ module _ (def : LineDef) (s : StateSeen) where
   none_works x = none_low false (h x) refl
 
   pub asks_same : (e : Entry) → IsMade e s → HasOwnKeys s.asks → SameAsks e
-  asks_same (entries.Ask driver d) made own = changed_one asked d h t own (λ x ne i. i) (λ x ne i. i) (λ r. row_asked (kind d) (h d) (t d) r)
-  asks_same (entries.Begin cpu d) made own = changed_one (called (is_direct (kind d))) d (is_working (Some d)) t own
+  asks_same (by.Driver driver (drivers.Ask edge d)) made own = changed_one asked d h t own (λ x ne i. i) (λ x ne i. i) (λ r. row_asked (kind d) (h d) (t d) r)
+  asks_same (by.Cpu cpu (cpus.Begin d)) made own = changed_one (handler_called (is_direct (kind d))) d (is_working (Some d)) t own
       (called_other d) (λ x ne i. i) (called_here d)
-  asks_same (entries.Return cpu d answers.Nothing n) made own
+  asks_same (by.Cpu cpu (cpus.Return answers.Nothing d n)) made own
       = changed_one (served (is_direct (kind d))) d (is_working None) t own (λ x ne. none_works x) (λ x ne i. i)
       (returned_here d (t d) (λ i. i) made)
-  asks_same (entries.Return cpu d answers.Handled n) made own
+  asks_same (by.Cpu cpu (cpus.Return answers.Handled d n)) made own
       = changed_one (served (is_direct (kind d))) d (is_working None) t own (λ x ne. none_works x) (λ x ne i. i)
       (returned_here d (t d) (λ i. i) made)
-  asks_same (entries.Return cpu d answers.Wake n) made own =
+  asks_same (by.Cpu cpu (cpus.Return answers.Wake d n)) made own =
       let low : (x : DevNo) → Lower (is_thread_working (change (woken_row s.desc.oneshot) s.threads d) x) (t x)
       = λ x. working_lower (woken_row s.desc.oneshot) d x s.threads (woken_low s.desc.oneshot) in
       changed_one (served (is_direct (kind d))) d (is_working None)
       (is_thread_working (change (woken_row s.desc.oneshot) s.threads d)) own (λ x ne. none_works x) (λ x ne. low x)
       (returned_here d (is_thread_working (change (woken_row s.desc.oneshot) s.threads d) d) (low d) made)
-  asks_same (entries.ThreadBegin d) made own =
+  asks_same (by.Thread d threads.Begin) made own =
       changed_one (begun (is_threaded (kind d))) d h (is_thread_working (change begun_row s.threads d)) own
       (λ x ne i. i) (λ x ne. other_lower begun_row d x s.threads ne)
       (λ r. row_begun (kind d) (h d) (t d) (is_thread_working (change begun_row s.threads d) d) r)
-  asks_same (entries.ThreadReturn d n) made own =
+  asks_same (by.Thread d (threads.Return handled n)) made own =
       changed_one (served (is_threaded (kind d))) d h (is_thread_working (change returned_row s.threads d)) own
       (λ x ne i. i) (λ x ne. other_lower returned_row d x s.threads ne)
       (thread_returned_here d (is_thread_working (change returned_row s.threads d) d) made)
-  asks_same (entries.Finish d kept unmask) made own = left_alone h (is_thread_working (change finished_row s.threads d))
+  asks_same (by.Thread d (threads.Finish kept unmask)) made own = left_alone h (is_thread_working (change finished_row s.threads d))
       (λ x i. i) (λ x. working_lower finished_row d x s.threads finished_low)
-  asks_same (entries.Done d) made own = left_alone h (is_thread_working (change (done_row s.desc.oneshot) s.threads d))
+  asks_same (by.Thread d threads.Done) made own = left_alone h (is_thread_working (change (done_row s.desc.oneshot) s.threads d))
       (λ x i. i) (λ x. working_lower (done_row s.desc.oneshot) d x s.threads (done_low s.desc.oneshot))
   asks_same e made own = left_alone h t (λ x i. i) (λ x i. i)
 
@@ -186,24 +190,33 @@ module _ (def : LineDef) (s : StateSeen) where
   stays : (e : Entry) → begins_round def e ≡ false → Lower (new_flow e) (in_flow s)
   stays e = flow_stays def (is_bare s.list.actions) s.desc e
 
+  unlinked : (dev : DevNo) (new : Bool) → Lower new (in_flow s)
+      → canon_list new (after_unlink dev (canon_list (in_flow s) s.list)) ≡ canon_list new (after_unlink dev s.list)
+  unlinked dev new low = list_by _ _ _ _ (less_same dev s.list.actions) (begun_lower new (in_flow s) s.list.begun low)
+
   list_same : (e : Entry) → IsMade e s → canon_list (new_flow e) (list_after def e (canon_list (in_flow s) s.list))
       ≡ canon_list (new_flow e) (list_after def e s.list)
-  list_same (entries.Request driver dev flags answer opened) made
-      = linked def (new_flow (entries.Request driver dev flags answer opened)) (in_flow s) s.list answer dev flags
-      (stays (entries.Request driver dev flags answer opened) refl)
-  list_same (entries.Unlink driver dev (unlinks.Unlinked last)) made =
-      list_by _ _ _ _ (less_same dev s.list.actions) (begun_lower
-      (new_flow (entries.Unlink driver dev (unlinks.Unlinked last))) (in_flow s) s.list.begun
-      (stays (entries.Unlink driver dev (unlinks.Unlinked last)) refl))
-  list_same (entries.Begin cpu dev) made = in_flow_begins def (new_flow (entries.Begin cpu dev)) (in_flow s) s.list dev made
+  list_same (by.Driver driver (drivers.Request flags answer opened dev)) made
+      = linked def (new_flow (by.Driver driver (drivers.Request flags answer opened dev))) (in_flow s) s.list answer dev flags
+      (stays (by.Driver driver (drivers.Request flags answer opened dev)) refl)
+  list_same (by.CpuCall cpu (called.Unlink (unlinks.Unlinked last) dev)) made
+      = unlinked dev (new_flow (by.CpuCall cpu (called.Unlink (unlinks.Unlinked last) dev)))
+      (stays (by.CpuCall cpu (called.Unlink (unlinks.Unlinked last) dev)) refl)
+  list_same (by.ThreadCall own (called.Unlink (unlinks.Unlinked last) dev)) made
+      = unlinked dev (new_flow (by.ThreadCall own (called.Unlink (unlinks.Unlinked last) dev)))
+      (stays (by.ThreadCall own (called.Unlink (unlinks.Unlinked last) dev)) refl)
+  list_same (by.DriverCall driver (called.Unlink (unlinks.Unlinked last) dev)) made
+      = unlinked dev (new_flow (by.DriverCall driver (called.Unlink (unlinks.Unlinked last) dev)))
+      (stays (by.DriverCall driver (called.Unlink (unlinks.Unlinked last) dev)) refl)
+  list_same (by.Cpu cpu (cpus.Begin dev)) made = in_flow_begins def (new_flow (by.Cpu cpu (cpus.Begin dev))) (in_flow s) s.list dev made
   list_same e made = by_round def (new_flow e) (in_flow s) s.list (begins_round def e) (stays e)
 
   tally_same : (e : Entry) → MayFollow e s → canon_tally
       (tally_after e (canon_round (in_flow s) s.round) (canon_tally s.counts))
       ≡ canon_tally (tally_after e s.round s.counts)
-  tally_same (entries.ThreadReturn dev n) may = served_same (in_flow s) s.round s.counts (ltb 0 n) may.served
-  tally_same (entries.Request driver dev flags answer opened) may = linked_tally (in_flow s) s.round s.counts driver dev flags answer opened
-  tally_same (entries.End cpu again unmask note) may = ended_tally (in_flow s) s.round s.counts may.made
+  tally_same (by.Thread dev (threads.Return handled n)) may = served_same (in_flow s) s.round s.counts handled may.served
+  tally_same (by.Driver driver (drivers.Request flags answer opened dev)) may = linked_tally (in_flow s) s.round s.counts driver dev flags answer opened
+  tally_same (by.Cpu cpu (cpus.End again unmask note)) may = ended_tally (in_flow s) s.round s.counts may.made
   tally_same e may = as_before (in_flow s) s.round s.counts
 
   -- ---- all of them

@@ -8,16 +8,16 @@ use Rattle.irq_base.specs.declared.entries.Entry.{Entry}
 use Rattle.irq_base.specs.declared.lines.LineDef.{LineDef}
 use Rattle.irq_base.specs.declared.numbers.DriverNo.{DriverNo}
 use Rattle.irq_model.specs.Due.{calls_by, entries_by, due_call}
-use Rattle.irq_model.specs.Kinds.{is_by_driver, same_line}
+use Rattle.irq_model.specs.Kinds.{is_by_driver}
 use Rattle.irq_model.specs.Legal.{IsDue, IsLegalPast}
 use Rattle.irq_model.specs.Next.{next_past}
 use Rattle.irq_model.specs.Valid.{IsValid}
 use Rattle.irq_steps.proofs.DueSteps.{due_laid}
 use Rattle.line_marks.proofs.CpuDueIs.{cpu_due_is}
 use Rattle.line_marks.proofs.DriversDueIs.{driver_due_is}
+use Rattle.line_marks.proofs.DueIs.{thread_is}
 use Rattle.line_marks.proofs.ScriptsFollow.{other_place}
 use Rattle.line_marks.proofs.StateFollows.{state_follows}
-use Rattle.line_marks.proofs.ThreadsDue.{thread_due_is}
 use Rattle.line_marks.specs.CpuDue.{cpu_due}
 use Rattle.line_marks.specs.DriversDue.{driver_due}
 use Rattle.line_marks.specs.Due.{thread_due}
@@ -48,11 +48,10 @@ module _ (def : LineDef) (valid : IsValid def) where
         ∙ sym (due_laid (calls_by r def.calls) (entries_by r h) (place_by def r g) (within_by def r g) (at_h r))
 
     pub due_same : (a : Actor) → next_past def g a ≡ next_past def h a
-    due_same (actors.Thread line d) =
-        ap (λ (o : Option Entry). cond (same_line line def.line) o None)
-        (thread_due_is def g d valid legal ∙ (sym (thread_same def (state_of def g) d)
+    due_same (actors.Thread d) =
+        thread_is def g d valid legal ∙ (sym (thread_same def (state_of def g) d)
         ∙ (ap (λ (s : StateSeen). thread_due s d) like.state
-        ∙ (thread_same def (state_of def h) d ∙ sym (thread_due_is def h d valid other)))))
+        ∙ (thread_same def (state_of def h) d ∙ sym (thread_is def h d valid other))))
     due_same (actors.Cpu c) =
         cpu_due_is def g c valid legal ∙ (sym (cpu_same def (state_of def g) c)
         ∙ (ap (λ (s : StateSeen). cpu_due def s c) like.state
@@ -64,7 +63,7 @@ module _ (def : LineDef) (valid : IsValid def) where
         ∙ (driver_same def (state_of def h) r (due_call def r h) ∙ sym (driver_due_is def h r (due_call def r h) valid other)))))
 
     pub due_alike : (e : Entry) → IsDue def e g → IsDue def e h
-    due_alike e due = sym (due_same (actor_of def.line e)) ∙ due
+    due_alike e due = sym (due_same (actor_of e)) ∙ due
 
     state_alike : (e : Entry) → IsDue def e g → canon (state_of def (e ∷ g)) ≡ canon (state_of def (e ∷ h))
     state_alike e due =

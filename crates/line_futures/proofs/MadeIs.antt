@@ -1,7 +1,10 @@
 -- An entry that is due is one that the canonical state's law asks for.
 use Rattle.std.proofs.Common.{◌≡◌, ℕ, ◌+◌, ◌≤◌, ◌==◌, Bool, true, false, cond, ltb, is_some, Option, Some, None, List, [], ◌∷◌, refl, sym, ◌∙◌, arith}
 use Rattle.irq_base.specs.declared.entries.Entry.{Entry}
-use Rattle.irq_base.specs.declared.entries.Entry.TheVariants as entries
+use Rattle.irq_base.specs.declared.entries.Entry.TheVariants as by
+use Rattle.irq_base.specs.declared.entries.CpuEntry.TheVariants as cpus
+use Rattle.irq_base.specs.declared.entries.ThreadEntry.TheVariants as threads
+use Rattle.irq_base.specs.declared.entries.DriverEntry.TheVariants as drivers
 use Rattle.irq_base.specs.declared.entries.LinkAnswer.TheVariants as links
 use Rattle.irq_base.specs.declared.entries.Note.TheVariants as notes
 use Rattle.irq_base.specs.declared.lines.LineDef.{LineDef}
@@ -60,7 +63,7 @@ noted_keeps w l n true false c h = by_deferred c.deferred
 
 pub served_kept : (def : LineDef) (past : List Entry) → AreKept (counts_of def past)
 served_kept def [] = omega arith
-served_kept def (entries.ThreadReturn d served ∷ past) = by_test (ltb 0 served) (served_kept def past)
+served_kept def (by.Thread d (threads.Return handled served) ∷ past) = by_test handled (served_kept def past)
   where
     c : Counts
     c = counts_of def past
@@ -68,34 +71,34 @@ served_kept def (entries.ThreadReturn d served ∷ past) = by_test (ltb 0 served
     by_test : (b : Bool) → AreKept c → AreKept (cond b (record c { threads_handled = c.threads_handled + 1 }) c)
     by_test true h = omega (arith, h)
     by_test false h = h
-served_kept def (entries.Request r d flags links.Linked opened ∷ past) = served_kept def past
-served_kept def (entries.End c again unmask note ∷ past)
+served_kept def (by.Driver r (drivers.Request flags links.Linked opened d) ∷ past) = served_kept def past
+served_kept def (by.Cpu c (cpus.End again unmask note) ∷ past)
     = noted_keeps def.window def.limit (now past) (round_wakes def past) (round_handles def past) (counts_of def past)
     (served_kept def past)
 served_kept def (_ ∷ past) = served_kept def past
 
 -- ---- the thread whose handler returns
 
-module _ (s : StateSeen) (d : DevNo) (n : ℕ) where
+module _ (s : StateSeen) (d : DevNo) (handled : Bool) (n : ℕ) where
   abbrev Returns : Option Entry → Type 0
-  Returns o = o ≡ Some (entries.ThreadReturn d n)
+  Returns o = o ≡ Some (by.Thread d (threads.Return handled n))
 
-  at_idle : (b : Bool) → Returns (cond b (Some (entries.ThreadBegin d)) None) → ⊥
+  at_idle : (b : Bool) → Returns (cond b (Some (by.Thread d threads.Begin)) None) → ⊥
   at_idle true h = cc
   at_idle false h = cc
 
-  at_returned : (o f : Bool) (e g : Entry) → (e ≡ entries.ThreadReturn d n → ⊥) → (g ≡ entries.ThreadReturn d n → ⊥)
+  at_returned : (o f : Bool) (e g : Entry) → (e ≡ by.Thread d (threads.Return handled n) → ⊥) → (g ≡ by.Thread d (threads.Return handled n) → ⊥)
       → Returns (cond o (cond f None (Some e)) (Some g)) → ⊥
   at_returned true true e g a b h = cc
-  at_returned true false e g a b h = a (let i : e ≡ entries.ThreadReturn d n = cc in i)
-  at_returned false f e g a b h = b (let i : g ≡ entries.ThreadReturn d n = cc in i)
+  at_returned true false e g a b h = a (let i : e ≡ by.Thread d (threads.Return handled n) = cc in i)
+  at_returned false f e g a b h = b (let i : g ≡ by.Thread d (threads.Return handled n) = cc in i)
 
   by_stage : (r : ThreadRow) (g : Stage) → Returns (due_at_stage g s d r) → is_begun g ≡ true
   by_stage r stages.Idle h = absurd (at_idle r.woken h)
   by_stage r stages.Begun h = refl
   by_stage r stages.Returned h =
-      absurd (at_returned s.desc.oneshot (is_some s.desc.flow) (entries.Finish d r.woken (finish_opens s r))
-      (entries.Done d) (λ i. let x : ⊥ = cc i in x) (λ i. let x : ⊥ = cc i in x) h)
+      absurd (at_returned s.desc.oneshot (is_some s.desc.flow) (by.Thread d (threads.Finish r.woken (finish_opens s r)))
+      (by.Thread d threads.Done) (λ i. let x : ⊥ = cc i in x) (λ i. let x : ⊥ = cc i in x) h)
   by_stage r stages.Finished h = absurd (let x : ⊥ = cc h in x)
 
   by_row : (o : Option ThreadRow) → Returns (due_of_row s d o) → row_passes may_return false o ≡ true
@@ -106,10 +109,11 @@ module _ (s : StateSeen) (d : DevNo) (n : ℕ) where
 
 module _ (def : LineDef) (past : List Entry) (valid : IsValid def) (legal : IsLegalPast def past) where
   made : (e : Entry) → IsDue def e past → IsMade e (state_of def past)
-  made (entries.Begin c d) due = has_a_flow c (flow def past) (begin_due def c d past due).of_flow
-  made (entries.Return c d answer served) due = (return_due def c d answer served past due).is_at_work
-  made (entries.End c again unmask note) due = has_a_flow c (flow def past) (end_due def c again unmask note past due).of_flow
-  made (entries.ThreadReturn d n) due = by_row (state_of def past) d n (at (state_of def past).threads d) (sym (thread_is def past d valid legal) ∙ due)
+  made (by.Cpu c (cpus.Begin d)) due = has_a_flow c (flow def past) (begin_due def c d past due).of_flow
+  made (by.Cpu c (cpus.Return answer d served)) due = (return_due def c d answer served past due).is_at_work
+  made (by.Cpu c (cpus.End again unmask note)) due = has_a_flow c (flow def past) (end_due def c again unmask note past due).of_flow
+  made (by.Thread d (threads.Return handled n)) due = by_row (state_of def past) d handled n
+      (at (state_of def past).threads d) (sym (thread_is def past d valid legal) ∙ due)
   made _ due = tt
 
   pub may_follow : (e : Entry) → IsDue def e past → MayFollow e (state_of def past)

@@ -4,14 +4,13 @@ use Rattle.std.proofs.Common.{◌∷◌, length, drop, slice_get, refl, sym, ap,
 use Rattle.std.proofs.lemmas.Bool.Decides.{nat_tests}
 use Rattle.irq_base.specs.Who.{actor_of}
 use Rattle.irq_base.specs.declared.calls.Call.{Call}
+use Rattle.irq_base.specs.declared.entries.Actor.{Actor}
 use Rattle.irq_base.specs.declared.entries.Actor.TheVariants as actors
 use Rattle.irq_base.specs.declared.entries.Entry.{Entry}
-use Rattle.irq_base.specs.declared.entries.Entry.TheVariants as entries
 use Rattle.irq_base.specs.declared.lines.LineDef.{LineDef}
 use Rattle.irq_base.specs.declared.numbers.DriverNo.{DriverNo}
-use Rattle.irq_base.specs.declared.numbers.LineNo.{LineNo}
 use Rattle.irq_model.specs.Due.{calls_by, entries_by, entries_of_call, due_of, due_call}
-use Rattle.irq_model.specs.Kinds.{is_by_driver}
+use Rattle.irq_model.specs.Kinds.{is_driver, is_by_driver}
 use Rattle.irq_model.specs.Legal.{IsDue, IsLegalPast}
 use Rattle.irq_model.specs.Next.{next_past, next_of_call}
 use Rattle.irq_laws.specs.Kept.{complete}
@@ -55,28 +54,13 @@ module _ (def : LineDef) where
       ((let e : length (complete [] cs es) ≡ 0 + p = many [] cs es p k at in omega (arith, e)), ap count_in (due_laid cs es p k at) ∙ counted cs es p k at)
 
   -- who made the entry
-  by_actor : (l : LineNo) (r : DriverNo) (e : Entry) → is_by_driver r e ≡ true → actor_of l e ≡ actors.Driver r
-  by_actor l r (entries.Ask w dev) h = ap actors.Driver (sym (driver_from_same r w h))
-  by_actor l r (entries.Disable w) h = ap actors.Driver (sym (driver_from_same r w h))
-  by_actor l r (entries.HardClear w) h = ap actors.Driver (sym (driver_from_same r w h))
-  by_actor l r (entries.Synced w) h = ap actors.Driver (sym (driver_from_same r w h))
-  by_actor l r (entries.Enable w answer) h = ap actors.Driver (sym (driver_from_same r w h))
-  by_actor l r (entries.Request w dev flags answer opened) h = ap actors.Driver (sym (driver_from_same r w h))
-  by_actor l r (entries.Unlink w dev answer) h = ap actors.Driver (sym (driver_from_same r w h))
-  by_actor l r (entries.Freed w dev) h = ap actors.Driver (sym (driver_from_same r w h))
-  by_actor l r (entries.Affinity w mask answer) h = ap actors.Driver (sym (driver_from_same r w h))
-  by_actor l r (entries.Moment w at) h = ap actors.Driver (sym (driver_from_same r w h))
-  by_actor l r (entries.Take cpu way answer) h = cc
-  by_actor l r (entries.Begin cpu dev) h = cc
-  by_actor l r (entries.Return cpu dev answer served) h = cc
-  by_actor l r (entries.End cpu again unmask note) h = cc
-  by_actor l r (entries.ThreadBegin dev) h = cc
-  by_actor l r (entries.ThreadReturn dev served) h = cc
-  by_actor l r (entries.Finish dev kept unmask) h = cc
-  by_actor l r (entries.Done dev) h = cc
+  by_who : (r : DriverNo) (a : Actor) → is_driver r a ≡ true → a ≡ actors.Driver r
+  by_who r (actors.Driver w) h = ap actors.Driver (sym (driver_from_same r w h))
+  by_who r (actors.Cpu c) h = cc
+  by_who r (actors.Thread d) h = cc
 
   own_due : (past : List Entry) (r : DriverNo) (e : Entry) → IsDue def e past → is_by_driver r e ≡ true → next_past def past (actors.Driver r) ≡ Some e
-  own_due past r e due by = ap (next_past def past) (sym (by_actor def.line r e by)) ∙ due
+  own_due past r e due by = ap (next_past def past) (sym (by_who r (actor_of e) by)) ∙ due
 
   -- the call of the driver whose entry is due
   pub record HasCall (past : List Entry) (r : DriverNo) : Type 0 where

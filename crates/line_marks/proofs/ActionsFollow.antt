@@ -3,7 +3,10 @@ use Rattle.std.proofs.Common.{◌≡◌, ◌+◌, ◌≤◌, Bool, true, false, 
 use Rattle.std.specs.Map.{remove_entry}
 use Rattle.irq_base.specs.declared.calls.Flags.{Flags}
 use Rattle.irq_base.specs.declared.entries.Entry.{Entry}
-use Rattle.irq_base.specs.declared.entries.Entry.TheVariants as entries
+use Rattle.irq_base.specs.declared.entries.Entry.TheVariants as by
+use Rattle.irq_base.specs.declared.entries.DriverEntry.TheVariants as drivers
+use Rattle.irq_base.specs.declared.entries.CallEntry.{CallEntry}
+use Rattle.irq_base.specs.declared.entries.CallEntry.TheVariants as called
 use Rattle.irq_base.specs.declared.entries.LinkAnswer.TheVariants as links
 use Rattle.irq_base.specs.declared.entries.Opened.{Opened}
 use Rattle.irq_base.specs.declared.entries.UnlinkAnswer.TheVariants as unlinks
@@ -20,18 +23,25 @@ use Rattle.irq_steps.proofs.ListSteps.{linked_refused, linked_not_there, count_f
 use Rattle.irq_steps.proofs.Same.{same_self, same_both, dev_from_same}
 use Rattle.irq_laws.proofs.ImpliesDriver.{request_due}
 use Rattle.irq_laws.proofs.KeptAlways.{kept}
+use Rattle.irq_laws.proofs.OwnLaws.{no_cpu_call, no_thread_call}
 use Rattle.irq_laws.proofs.RestKept.{no_part}
 use Rattle.irq_laws.proofs.WantedKept.{requested_unlinked}
 use Rattle.irq_laws.specs.Kept.{Kept}
 use Rattle.act_list.specs.Actions.{is_bare}
 use Rattle.act_list.specs.Lists.{flags_of, action_by}
 use Rattle.act_list.specs.declared.actions.Action.{Action}
-use Rattle.line_marks.specs.Actions.{flags_by, linked_flags, actions_of, actions_after}
+use Rattle.line_marks.specs.Actions.{flags_by, linked_flags, actions_of, actions_by_call, actions_after}
 
--- what an entry makes of the linked devices and their flags
+-- what the step of a call, or an entry, makes of the linked devices and their flags
+abbrev pub flags_by_call : CallEntry → List (DevNo × Flags) → List (DevNo × Flags)
+flags_by_call (called.Unlink (unlinks.Unlinked last) dev) t = remove_entry (same_dev dev) t
+flags_by_call _ t = t
+
 abbrev pub flags_after : Entry → List (DevNo × Flags) → List (DevNo × Flags)
-flags_after (entries.Request driver dev flags links.Linked opened) t = t ++ (dev, flags) ∷ []
-flags_after (entries.Unlink driver dev (unlinks.Unlinked last)) t = remove_entry (same_dev dev) t
+flags_after (by.Driver driver (drivers.Request flags links.Linked opened dev)) t = t ++ (dev, flags) ∷ []
+flags_after (by.CpuCall cpu call) t = flags_by_call call t
+flags_after (by.ThreadCall dev call) t = flags_by_call call t
+flags_after (by.DriverCall driver call) t = flags_by_call call t
 flags_after _ t = t
 
 both_ways : {P : Type 0} (b : Bool) → b ≡ true → b ≡ false → P
@@ -96,9 +106,9 @@ apart past x y off on = by_test (same_dev y x) refl
     by_test true is = both_ways (is_linked past y) on (ap (is_linked past) (dev_from_same y x is) ∙ off)
 
 linked_more : (r : DriverNo) (x : DevNo) (flags : Flags) (opened : Opened) (past : List Entry) → is_linked past x ≡ false
-    → linked_flags (entries.Request r x flags links.Linked opened ∷ past) ≡ linked_flags past ++ (x, flags) ∷ []
+    → linked_flags (by.Driver r (drivers.Request flags links.Linked opened x) ∷ past) ≡ linked_flags past ++ (x, flags) ∷ []
 linked_more r x flags opened past off =
-    let e = entries.Request r x flags links.Linked opened in
+    let e = by.Driver r (drivers.Request flags links.Linked opened x) in
     let passes : (y : DevNo) → is_linked past y ≡ true → not (same_dev y x) ≡ true = λ y on. ap not (apart past x y off on) in
     let all : linked (e ∷ past) ≡ linked past ++ x ∷ [] = linked_request r x flags opened past
     ∙ ap (λ (t : List DevNo). t ++ x ∷ []) (filter_within (λ y. not (same_dev y x)) (is_linked past)
@@ -113,32 +123,19 @@ linked_more r x flags opened past off =
 
 pub flags_more : (def : LineDef) (e : Entry) (past : List Entry) → IsValid def → IsDue def e past → Kept def past
     → linked_flags (e ∷ past) ≡ flags_after e (linked_flags past)
-flags_more def (entries.Request r x flags links.Linked opened) past valid due k =
+flags_more def (by.Driver r (drivers.Request flags links.Linked opened x)) past valid due k =
     let u = request_due def r x flags links.Linked opened past due in
     linked_more r x flags opened past (requested_unlinked def r x flags _ past valid k.wanted u.call)
-flags_more def (entries.Request r x flags (links.Refused error) opened) past valid due k =
-    let e = entries.Request r x flags (links.Refused error) opened in
+flags_more def (by.Driver r (drivers.Request flags (links.Refused error) opened x)) past valid due k =
+    let e = by.Driver r (drivers.Request flags (links.Refused error) opened x) in
     ap (flags_by (linking_flags (e ∷ past))) (linked_refused r x flags error opened past)
     ∙ same_flags (linking_flags past) (linking_flags (e ∷ past)) (is_linked past) (requested past) (λ y on. rw (no_part (same_dev y x)) refl)
-flags_more def (entries.Unlink r x (unlinks.Unlinked last)) past valid due k =
+flags_more def (by.DriverCall r (called.Unlink (unlinks.Unlinked last) x)) past valid due k =
     ap (flags_by (linking_flags past)) (linked_unlink r x last past) ∙ removed (linking_flags past) x (linked past) (linked_once x past)
-flags_more def (entries.Unlink r x unlinks.NotThere) past valid due k = ap (flags_by (linking_flags past)) (linked_not_there r x past)
-flags_more def (entries.Return c x answer n) past valid due k = refl
-flags_more def (entries.ThreadBegin x) past valid due k = refl
-flags_more def (entries.ThreadReturn x n) past valid due k = refl
-flags_more def (entries.Finish x kept unmask) past valid due k = refl
-flags_more def (entries.Done x) past valid due k = refl
-flags_more def (entries.Ask r x) past valid due k = refl
-flags_more def (entries.Take c way answer) past valid due k = refl
-flags_more def (entries.Begin c x) past valid due k = refl
-flags_more def (entries.End c again unmask note) past valid due k = refl
-flags_more def (entries.Disable r) past valid due k = refl
-flags_more def (entries.HardClear r) past valid due k = refl
-flags_more def (entries.Synced r) past valid due k = refl
-flags_more def (entries.Enable r answer) past valid due k = refl
-flags_more def (entries.Freed r x) past valid due k = refl
-flags_more def (entries.Affinity r mask answer) past valid due k = refl
-flags_more def (entries.Moment r at) past valid due k = refl
+flags_more def (by.DriverCall r (called.Unlink unlinks.NotThere x)) past valid due k = ap (flags_by (linking_flags past)) (linked_not_there r x past)
+flags_more def (by.CpuCall c call) past valid due k = no_cpu_call def c call past due
+flags_more def (by.ThreadCall x call) past valid due k = no_thread_call def x call past due
+flags_more def _ past valid due k = refl
 
 -- ---- the flags of the actions
 
@@ -155,27 +152,18 @@ flags_without d (e ∷ es) = by_test (same_dev d e.0) (flags_without d es)
     by_test true h = refl
     by_test false h = ap (λ (t : List (DevNo × Flags)). (e.0, e.1.flags) ∷ t) h
 
+flags_of_call : (call : CallEntry) (t : List (DevNo × Action)) → flags_of (actions_by_call call t) ≡ flags_by_call call (flags_of t)
+flags_of_call (called.Unlink (unlinks.Unlinked last) x) t = flags_without x t
+flags_of_call (called.Unlink unlinks.NotThere x) t = refl
+flags_of_call _ t = refl
+
 flags_step : (e : Entry) (t : List (DevNo × Action)) → flags_of (actions_after e t) ≡ flags_after e (flags_of t)
-flags_step (entries.Request r x flags links.Linked opened) t = flags_last x (action_by flags t) t
-flags_step (entries.Request r x flags (links.Refused error) opened) t = refl
-flags_step (entries.Unlink r x (unlinks.Unlinked last)) t = flags_without x t
-flags_step (entries.Unlink r x unlinks.NotThere) t = refl
-flags_step (entries.Return c x answer n) t = refl
-flags_step (entries.ThreadBegin x) t = refl
-flags_step (entries.ThreadReturn x n) t = refl
-flags_step (entries.Finish x kept unmask) t = refl
-flags_step (entries.Done x) t = refl
-flags_step (entries.Ask r x) t = refl
-flags_step (entries.Take c way answer) t = refl
-flags_step (entries.Begin c x) t = refl
-flags_step (entries.End c again unmask note) t = refl
-flags_step (entries.Disable r) t = refl
-flags_step (entries.HardClear r) t = refl
-flags_step (entries.Synced r) t = refl
-flags_step (entries.Enable r answer) t = refl
-flags_step (entries.Freed r x) t = refl
-flags_step (entries.Affinity r mask answer) t = refl
-flags_step (entries.Moment r at) t = refl
+flags_step (by.Driver r (drivers.Request flags links.Linked opened x)) t = flags_last x (action_by flags t) t
+flags_step (by.Driver r (drivers.Request flags (links.Refused error) opened x)) t = refl
+flags_step (by.CpuCall c call) t = flags_of_call call t
+flags_step (by.ThreadCall x call) t = flags_of_call call t
+flags_step (by.DriverCall r call) t = flags_of_call call t
+flags_step _ t = refl
 
 -- the list has the linked devices in their order, each with the flags with which it was linked
 pub actions_are : (def : LineDef) (past : List Entry) → IsValid def → IsLegalPast def past → flags_of (actions_of past) ≡ linked_flags past

@@ -3,7 +3,9 @@ use Rattle.std.proofs.Common.{◌≡◌, ℕ, Bool, true, false, cond, unwrap_or
 use Rattle.std.specs.List.{list_any}
 use Rattle.irq_base.specs.declared.entries.AffinityAnswer.TheVariants as moves
 use Rattle.irq_base.specs.declared.entries.Entry.{Entry}
-use Rattle.irq_base.specs.declared.entries.Entry.TheVariants as entries
+use Rattle.irq_base.specs.declared.entries.Entry.TheVariants as by
+use Rattle.irq_base.specs.declared.entries.CpuEntry.TheVariants as cpus
+use Rattle.irq_base.specs.declared.entries.DriverEntry.TheVariants as drivers
 use Rattle.irq_base.specs.declared.lines.LineDef.{LineDef}
 use Rattle.irq_model.specs.Kinds.{is_take}
 use Rattle.irq_model.specs.Places.{last_place}
@@ -19,9 +21,9 @@ last_ext P Q (e ∷ past) h = rw (h [] (e ∷ past)) (ap (λ (t : List Entry). c
 -- while no take comes, what is in force stays
 same_place : (e : Entry) (a u : List Entry) → is_take e ≡ false → puts_in_force (e ∷ a) u ≡ puts_in_force a u
 same_place e a [] h = refl
-same_place e a (entries.Affinity r mask moves.Now ∷ u) h = refl
-same_place e a (entries.Affinity r mask moves.Later ∷ u) h = rw h refl
-same_place e a (entries.Affinity r mask (moves.Refused error) ∷ u) h = refl
+same_place e a (by.Driver r (drivers.Affinity moves.Now mask) ∷ u) h = refl
+same_place e a (by.Driver r (drivers.Affinity moves.Later mask) ∷ u) h = rw h refl
+same_place e a (by.Driver r (drivers.Affinity (moves.Refused error) mask) ∷ u) h = refl
 same_place e a (_ ∷ u) h = refl
 
 no_take : (mask : ℕ) (e : Entry) (past : List Entry) → is_take e ≡ false
@@ -35,60 +37,12 @@ in_force mask past = mask_of mask (last_place puts_in_force past)
 taken : (mask : ℕ) (pre : List Entry → List Entry) (past : List Entry) → ((a : List Entry) → list_any is_take (pre a) ≡ true)
     → mask_of mask (last_place (λ a u. puts_in_force (pre a) u) past) ≡ unwrap_or (waiting_of past) (in_force mask past)
 taken mask pre [] h = refl
-taken mask pre (entries.Affinity r m moves.Now ∷ past) h = refl
-taken mask pre (entries.Affinity r m moves.Later ∷ past) h = rw (h []) refl
-taken mask pre (entries.Take c way answer ∷ past) h =
-    let e = entries.Take c way answer in
+taken mask pre (by.Driver r (drivers.Affinity moves.Now m) ∷ past) h = refl
+taken mask pre (by.Driver r (drivers.Affinity moves.Later m) ∷ past) h = rw (h []) refl
+taken mask pre (by.Cpu c (cpus.Take way answer) ∷ past) h =
+    let e = by.Cpu c (cpus.Take way answer) in
     taken mask (λ a. pre (e ∷ a)) past (λ a. h (e ∷ a)) ∙ sym (taken mask (λ a. e ∷ a) past (λ a. refl))
-taken mask pre (entries.Affinity r m (moves.Refused error) ∷ past) h = let e
-    = entries.Affinity r m (moves.Refused error) in taken mask (λ a. pre (e ∷ a)) past (λ a. h (e ∷ a))
-    ∙ ap (unwrap_or (waiting_of past)) (sym (no_take mask e past refl))
-taken mask pre (entries.Ask r d ∷ past) h = let e = entries.Ask r d in
-    taken mask (λ a. pre (e ∷ a)) past (λ a. h (e ∷ a))
-    ∙ ap (unwrap_or (waiting_of past)) (sym (no_take mask e past refl))
-taken mask pre (entries.Begin c d ∷ past) h = let e = entries.Begin c d in
-    taken mask (λ a. pre (e ∷ a)) past (λ a. h (e ∷ a))
-    ∙ ap (unwrap_or (waiting_of past)) (sym (no_take mask e past refl))
-taken mask pre (entries.Return c d answer n ∷ past) h = let e = entries.Return c d answer n in
-    taken mask (λ a. pre (e ∷ a)) past (λ a. h (e ∷ a))
-    ∙ ap (unwrap_or (waiting_of past)) (sym (no_take mask e past refl))
-taken mask pre (entries.End c again unmask note ∷ past) h = let e = entries.End c again unmask note in
-    taken mask (λ a. pre (e ∷ a)) past (λ a. h (e ∷ a))
-    ∙ ap (unwrap_or (waiting_of past)) (sym (no_take mask e past refl))
-taken mask pre (entries.ThreadBegin d ∷ past) h = let e = entries.ThreadBegin d in
-    taken mask (λ a. pre (e ∷ a)) past (λ a. h (e ∷ a))
-    ∙ ap (unwrap_or (waiting_of past)) (sym (no_take mask e past refl))
-taken mask pre (entries.ThreadReturn d n ∷ past) h = let e = entries.ThreadReturn d n in
-    taken mask (λ a. pre (e ∷ a)) past (λ a. h (e ∷ a))
-    ∙ ap (unwrap_or (waiting_of past)) (sym (no_take mask e past refl))
-taken mask pre (entries.Finish d kept unmask ∷ past) h = let e = entries.Finish d kept unmask in
-    taken mask (λ a. pre (e ∷ a)) past (λ a. h (e ∷ a))
-    ∙ ap (unwrap_or (waiting_of past)) (sym (no_take mask e past refl))
-taken mask pre (entries.Done d ∷ past) h = let e = entries.Done d in
-    taken mask (λ a. pre (e ∷ a)) past (λ a. h (e ∷ a))
-    ∙ ap (unwrap_or (waiting_of past)) (sym (no_take mask e past refl))
-taken mask pre (entries.Disable r ∷ past) h = let e = entries.Disable r in
-    taken mask (λ a. pre (e ∷ a)) past (λ a. h (e ∷ a))
-    ∙ ap (unwrap_or (waiting_of past)) (sym (no_take mask e past refl))
-taken mask pre (entries.HardClear r ∷ past) h = let e = entries.HardClear r in
-    taken mask (λ a. pre (e ∷ a)) past (λ a. h (e ∷ a))
-    ∙ ap (unwrap_or (waiting_of past)) (sym (no_take mask e past refl))
-taken mask pre (entries.Synced r ∷ past) h = let e = entries.Synced r in
-    taken mask (λ a. pre (e ∷ a)) past (λ a. h (e ∷ a))
-    ∙ ap (unwrap_or (waiting_of past)) (sym (no_take mask e past refl))
-taken mask pre (entries.Enable r answer ∷ past) h = let e = entries.Enable r answer in
-    taken mask (λ a. pre (e ∷ a)) past (λ a. h (e ∷ a))
-    ∙ ap (unwrap_or (waiting_of past)) (sym (no_take mask e past refl))
-taken mask pre (entries.Request r d flags answer opened ∷ past) h = let e = entries.Request r d flags answer opened in
-    taken mask (λ a. pre (e ∷ a)) past (λ a. h (e ∷ a))
-    ∙ ap (unwrap_or (waiting_of past)) (sym (no_take mask e past refl))
-taken mask pre (entries.Unlink r d answer ∷ past) h = let e = entries.Unlink r d answer in
-    taken mask (λ a. pre (e ∷ a)) past (λ a. h (e ∷ a))
-    ∙ ap (unwrap_or (waiting_of past)) (sym (no_take mask e past refl))
-taken mask pre (entries.Freed r d ∷ past) h = let e = entries.Freed r d in
-    taken mask (λ a. pre (e ∷ a)) past (λ a. h (e ∷ a))
-    ∙ ap (unwrap_or (waiting_of past)) (sym (no_take mask e past refl))
-taken mask pre (entries.Moment r at ∷ past) h = let e = entries.Moment r at in
+taken mask pre (e ∷ past) h =
     taken mask (λ a. pre (e ∷ a)) past (λ a. h (e ∷ a))
     ∙ ap (unwrap_or (waiting_of past)) (sym (no_take mask e past refl))
 
@@ -100,28 +54,14 @@ still : (def : LineDef) (e : Entry) (past : List Entry) → is_take e ≡ false 
 still def e past h i w = same_aim (aim_of def (e ∷ past)) (aim_of def past) refl refl (rw i (no_take def.mask e past h)) w
 
 pub aim_more : (def : LineDef) (e : Entry) (past : List Entry) → aim_of def (e ∷ past) ≡ aim_after e (aim_of def past)
-aim_more def (entries.Affinity r m moves.Now) past = refl
-aim_more def (entries.Affinity r m moves.Later) past =
-    same_aim (aim_of def (entries.Affinity r m moves.Later ∷ past))
-    (aim_after (entries.Affinity r m moves.Later) (aim_of def past)) refl refl
-    (no_take def.mask (entries.Affinity r m moves.Later) past refl) refl
-aim_more def (entries.Affinity r m (moves.Refused error)) past = still def (entries.Affinity r m (moves.Refused error)) past refl refl refl
-aim_more def (entries.Take c way answer) past =
-    same_aim (aim_of def (entries.Take c way answer ∷ past)) (aim_after (entries.Take c way answer) (aim_of def past))
-    refl refl (taken def.mask (λ a. entries.Take c way answer ∷ a) past (λ a. refl)) refl
-aim_more def (entries.Ask r d) past = still def (entries.Ask r d) past refl refl refl
-aim_more def (entries.Begin c d) past = still def (entries.Begin c d) past refl refl refl
-aim_more def (entries.Return c d answer n) past = still def (entries.Return c d answer n) past refl refl refl
-aim_more def (entries.End c again unmask note) past = still def (entries.End c again unmask note) past refl refl refl
-aim_more def (entries.ThreadBegin d) past = still def (entries.ThreadBegin d) past refl refl refl
-aim_more def (entries.ThreadReturn d n) past = still def (entries.ThreadReturn d n) past refl refl refl
-aim_more def (entries.Finish d kept unmask) past = still def (entries.Finish d kept unmask) past refl refl refl
-aim_more def (entries.Done d) past = still def (entries.Done d) past refl refl refl
-aim_more def (entries.Disable r) past = still def (entries.Disable r) past refl refl refl
-aim_more def (entries.HardClear r) past = still def (entries.HardClear r) past refl refl refl
-aim_more def (entries.Synced r) past = still def (entries.Synced r) past refl refl refl
-aim_more def (entries.Enable r answer) past = still def (entries.Enable r answer) past refl refl refl
-aim_more def (entries.Request r d flags answer opened) past = still def (entries.Request r d flags answer opened) past refl refl refl
-aim_more def (entries.Unlink r d answer) past = still def (entries.Unlink r d answer) past refl refl refl
-aim_more def (entries.Freed r d) past = still def (entries.Freed r d) past refl refl refl
-aim_more def (entries.Moment r at) past = still def (entries.Moment r at) past refl refl refl
+aim_more def (by.Driver r (drivers.Affinity moves.Now m)) past = refl
+aim_more def (by.Driver r (drivers.Affinity moves.Later m)) past =
+    same_aim (aim_of def (by.Driver r (drivers.Affinity moves.Later m) ∷ past))
+    (aim_after (by.Driver r (drivers.Affinity moves.Later m)) (aim_of def past)) refl refl
+    (no_take def.mask (by.Driver r (drivers.Affinity moves.Later m)) past refl) refl
+aim_more def (by.Driver r (drivers.Affinity (moves.Refused error) m)) past
+    = still def (by.Driver r (drivers.Affinity (moves.Refused error) m)) past refl refl refl
+aim_more def (by.Cpu c (cpus.Take way answer)) past =
+    same_aim (aim_of def (by.Cpu c (cpus.Take way answer) ∷ past)) (aim_after (by.Cpu c (cpus.Take way answer)) (aim_of def past))
+    refl refl (taken def.mask (λ a. by.Cpu c (cpus.Take way answer) ∷ a) past (λ a. refl)) refl
+aim_more def e past = still def e past refl refl refl

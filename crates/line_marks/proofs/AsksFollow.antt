@@ -3,7 +3,10 @@ use Rattle.std.proofs.Common.{◌≡◌, ℕ, ◌+◌, Bool, true, false, cond, 
 use Rattle.irq_base.specs.declared.devices.Kind.{Kind}
 use Rattle.irq_base.specs.declared.devices.Kind.TheVariants as kinds
 use Rattle.irq_base.specs.declared.entries.Entry.{Entry}
-use Rattle.irq_base.specs.declared.entries.Entry.TheVariants as entries
+use Rattle.irq_base.specs.declared.entries.Entry.TheVariants as by
+use Rattle.irq_base.specs.declared.entries.CpuEntry.TheVariants as cpus
+use Rattle.irq_base.specs.declared.entries.ThreadEntry.TheVariants as threads
+use Rattle.irq_base.specs.declared.entries.DriverEntry.TheVariants as drivers
 use Rattle.irq_base.specs.declared.lines.LineDef.{LineDef}
 use Rattle.irq_base.specs.declared.devices.Answer.{Answer}
 use Rattle.irq_base.specs.declared.numbers.CpuNo.{CpuNo}
@@ -135,91 +138,93 @@ quiet : (def : LineDef) (e : Entry) (past : List Entry) → ((d : DevNo) → IsO
 quiet def e past h = same_table (ask_row def past) (ask_row def (e ∷ past)) def.devices (λ d. row_same def e past d (h d))
 
 abbrev is_ask_or_run : Entry → Bool
-is_ask_or_run (entries.Ask w x) = true
-is_ask_or_run (entries.Begin c x) = true
-is_ask_or_run (entries.Return c x a n) = true
-is_ask_or_run (entries.ThreadBegin x) = true
-is_ask_or_run (entries.ThreadReturn x n) = true
+is_ask_or_run (by.Driver w (drivers.Ask edge x)) = true
+is_ask_or_run (by.Cpu c (cpus.Begin x)) = true
+is_ask_or_run (by.Cpu c (cpus.Return a x n)) = true
+is_ask_or_run (by.Thread x threads.Begin) = true
+is_ask_or_run (by.Thread x (threads.Return handled n)) = true
 is_ask_or_run _ = false
 
 -- ---- by kinds
 
 called_by : (k : Kind) (x : DevNo) (c : CpuNo) (r : AskRow)
-    → by_tests false (begins_serving k x (entries.Begin c x)) (ends_serving k x (entries.Begin c x))
-    (is_begin x (entries.Begin c x)) false r ≡ called (is_direct k) r
+    → by_tests false (begins_serving k x (by.Cpu c (cpus.Begin x))) (ends_serving k x (by.Cpu c (cpus.Begin x)))
+    (is_begin x (by.Cpu c (cpus.Begin x))) false r ≡ called (is_direct k) r
 called_by kinds.Direct x c r = rw (same_self x) refl
 called_by kinds.Check x c r = rw (same_self x) refl
 called_by kinds.Null x c r = rw (same_self x) refl
 called_by kinds.Stuck x c r = rw (same_self x) refl
 
 returned_by : (k : Kind) (x : DevNo) (c : CpuNo) (a : Answer) (n : ℕ) (r : AskRow)
-    → by_tests false (begins_serving k x (entries.Return c x a n)) (ends_serving k x (entries.Return c x a n)) false
+    → by_tests false (begins_serving k x (by.Cpu c (cpus.Return a x n))) (ends_serving k x (by.Cpu c (cpus.Return a x n))) false
     false r ≡ served (is_direct k) r
 returned_by kinds.Direct x c a n r = rw (same_self x) refl
 returned_by kinds.Check x c a n r = refl
 returned_by kinds.Null x c a n r = refl
 returned_by kinds.Stuck x c a n r = refl
 
-begun_by : (k : Kind) (x : DevNo) (r : AskRow) → by_tests false (begins_serving k x (entries.ThreadBegin x))
-    (ends_serving k x (entries.ThreadBegin x)) false (is_thread_begin x (entries.ThreadBegin x)) r
+begun_by : (k : Kind) (x : DevNo) (r : AskRow) → by_tests false (begins_serving k x (by.Thread x threads.Begin))
+    (ends_serving k x (by.Thread x threads.Begin)) false (is_thread_begin x (by.Thread x threads.Begin)) r
     ≡ begun (is_threaded k) r
 begun_by kinds.Direct x r = rw (same_self x) refl
 begun_by kinds.Check x r = rw (same_self x) refl
 begun_by kinds.Null x r = rw (same_self x) refl
 begun_by kinds.Stuck x r = rw (same_self x) refl
 
-run_by : (k : Kind) (x : DevNo) (n : ℕ) (r : AskRow) → by_tests false (begins_serving k x (entries.ThreadReturn x n))
-    (ends_serving k x (entries.ThreadReturn x n)) false false r ≡ served (is_threaded k) r
-run_by kinds.Direct x n r = refl
-run_by kinds.Check x n r = rw (same_self x) refl
-run_by kinds.Null x n r = rw (same_self x) refl
-run_by kinds.Stuck x n r = refl
+run_by : (k : Kind) (x : DevNo) (handled : Bool) (n : ℕ) (r : AskRow)
+    → by_tests false (begins_serving k x (by.Thread x (threads.Return handled n)))
+    (ends_serving k x (by.Thread x (threads.Return handled n))) false false r ≡ served (is_threaded k) r
+run_by kinds.Direct x handled n r = refl
+run_by kinds.Check x handled n r = rw (same_self x) refl
+run_by kinds.Null x handled n r = rw (same_self x) refl
+run_by kinds.Stuck x handled n r = refl
 
-asked_by : (k : Kind) (x : DevNo) (w : DriverNo) (r : AskRow)
-    → by_tests (is_ask x (entries.Ask w x)) (begins_serving k x (entries.Ask w x)) (ends_serving k x (entries.Ask w x))
-    false false r ≡ asked r
-asked_by kinds.Direct x w r = rw (same_self x) refl
-asked_by kinds.Check x w r = rw (same_self x) refl
-asked_by kinds.Null x w r = rw (same_self x) refl
-asked_by kinds.Stuck x w r = rw (same_self x) refl
+asked_by : (k : Kind) (x : DevNo) (w : DriverNo) (edge : Bool) (r : AskRow)
+    → by_tests (is_ask x (by.Driver w (drivers.Ask edge x))) (begins_serving k x (by.Driver w (drivers.Ask edge x)))
+    (ends_serving k x (by.Driver w (drivers.Ask edge x))) false false r ≡ asked r
+asked_by kinds.Direct x w edge r = rw (same_self x) refl
+asked_by kinds.Check x w edge r = rw (same_self x) refl
+asked_by kinds.Null x w edge r = rw (same_self x) refl
+asked_by kinds.Stuck x w edge r = rw (same_self x) refl
 
 none : (e : Entry) → is_ask_or_run e ≡ false → (d : DevNo) → IsOther d e
-none (entries.Ask w x) h d = cc
-none (entries.Begin c x) h d = cc
-none (entries.Return c x a n) h d = cc
-none (entries.ThreadBegin x) h d = cc
-none (entries.ThreadReturn x n) h d = cc
+none (by.Driver w (drivers.Ask edge x)) h d = cc
+none (by.Cpu c (cpus.Begin x)) h d = cc
+none (by.Cpu c (cpus.Return a x n)) h d = cc
+none (by.Thread x threads.Begin) h d = cc
+none (by.Thread x (threads.Return handled n)) h d = cc
 none _ h d = (refl, refl, refl, refl, refl)
 
 pub asks_more : (def : LineDef) (e : Entry) (past : List Entry) → IsValid def → asks_of def (e ∷ past) ≡ asks_after (kinds_of def) e (asks_of def past)
-asks_more def (entries.Ask w x) past valid = own def (entries.Ask w x) past x asked
-    (asked_by (kind_of def x) x w (ask_row def past x)) (λ d other. (other, refl, refl, refl, refl)) valid
-asks_more def (entries.Begin c x) past valid = own def (entries.Begin c x) past x (called (is_direct (kind_of def x)))
+asks_more def (by.Driver w (drivers.Ask edge x)) past valid = own def (by.Driver w (drivers.Ask edge x)) past x asked
+    (asked_by (kind_of def x) x w edge (ask_row def past x)) (λ d other. (other, refl, refl, refl, refl)) valid
+asks_more def (by.Cpu c (cpus.Begin x)) past valid = own def (by.Cpu c (cpus.Begin x)) past x (called (is_direct (kind_of def x)))
     (called_by (kind_of def x) x c (ask_row def past x)) (λ d other. (refl, other, refl, refl, refl)) valid
     ∙ ap (λ (k : Kind). change (called (is_direct k)) (asks_of def past) x) (sym (kind_is def x))
-asks_more def (entries.Return c x a n) past valid = own def (entries.Return c x a n) past x
+asks_more def (by.Cpu c (cpus.Return a x n)) past valid = own def (by.Cpu c (cpus.Return a x n)) past x
     (served (is_direct (kind_of def x))) (returned_by (kind_of def x) x c a n (ask_row def past x))
     (λ d other. (refl, refl, refl, other, refl)) valid
     ∙ ap (λ (k : Kind). change (served (is_direct k)) (asks_of def past) x) (sym (kind_is def x))
-asks_more def (entries.ThreadBegin x) past valid = own def (entries.ThreadBegin x) past x
+asks_more def (by.Thread x threads.Begin) past valid = own def (by.Thread x threads.Begin) past x
     (begun (is_threaded (kind_of def x))) (begun_by (kind_of def x) x (ask_row def past x))
     (λ d other. (refl, refl, other, refl, refl)) valid
     ∙ ap (λ (k : Kind). change (begun (is_threaded k)) (asks_of def past) x) (sym (kind_is def x))
-asks_more def (entries.ThreadReturn x n) past valid = own def (entries.ThreadReturn x n) past x
-    (served (is_threaded (kind_of def x))) (run_by (kind_of def x) x n (ask_row def past x))
+asks_more def (by.Thread x (threads.Return handled n)) past valid = own def (by.Thread x (threads.Return handled n)) past x
+    (served (is_threaded (kind_of def x))) (run_by (kind_of def x) x handled n (ask_row def past x))
     (λ d other. (refl, refl, refl, refl, other)) valid
     ∙ ap (λ (k : Kind). change (served (is_threaded k)) (asks_of def past) x) (sym (kind_is def x))
-asks_more def (entries.Take c way answer) past valid = quiet def (entries.Take c way answer) past (none (entries.Take c way answer) refl)
-asks_more def (entries.End c again unmask note) past valid = quiet def (entries.End c again unmask note) past (none (entries.End c again unmask note) refl)
-asks_more def (entries.Finish x kept unmask) past valid = quiet def (entries.Finish x kept unmask) past (none (entries.Finish x kept unmask) refl)
-asks_more def (entries.Done x) past valid = quiet def (entries.Done x) past (none (entries.Done x) refl)
-asks_more def (entries.Disable r) past valid = quiet def (entries.Disable r) past (none (entries.Disable r) refl)
-asks_more def (entries.HardClear r) past valid = quiet def (entries.HardClear r) past (none (entries.HardClear r) refl)
-asks_more def (entries.Synced r) past valid = quiet def (entries.Synced r) past (none (entries.Synced r) refl)
-asks_more def (entries.Enable r answer) past valid = quiet def (entries.Enable r answer) past (none (entries.Enable r answer) refl)
-asks_more def (entries.Request r x flags answer opened) past valid
-    = quiet def (entries.Request r x flags answer opened) past (none (entries.Request r x flags answer opened) refl)
-asks_more def (entries.Unlink r x answer) past valid = quiet def (entries.Unlink r x answer) past (none (entries.Unlink r x answer) refl)
-asks_more def (entries.Freed r x) past valid = quiet def (entries.Freed r x) past (none (entries.Freed r x) refl)
-asks_more def (entries.Affinity r mask answer) past valid = quiet def (entries.Affinity r mask answer) past (none (entries.Affinity r mask answer) refl)
-asks_more def (entries.Moment r at) past valid = quiet def (entries.Moment r at) past (none (entries.Moment r at) refl)
+asks_more def (by.Cpu c (cpus.Take way answer)) past valid = quiet def (by.Cpu c (cpus.Take way answer)) past (none (by.Cpu c (cpus.Take way answer)) refl)
+asks_more def (by.Cpu c (cpus.End again unmask note)) past valid
+    = quiet def (by.Cpu c (cpus.End again unmask note)) past (none (by.Cpu c (cpus.End again unmask note)) refl)
+asks_more def (by.Thread x (threads.Finish kept unmask)) past valid
+    = quiet def (by.Thread x (threads.Finish kept unmask)) past (none (by.Thread x (threads.Finish kept unmask)) refl)
+asks_more def (by.Thread x threads.Done) past valid = quiet def (by.Thread x threads.Done) past (none (by.Thread x threads.Done) refl)
+asks_more def (by.Driver r (drivers.Request flags answer opened x)) past valid
+    = quiet def (by.Driver r (drivers.Request flags answer opened x)) past (none (by.Driver r (drivers.Request flags answer opened x)) refl)
+asks_more def (by.Driver r (drivers.Affinity answer mask)) past valid
+    = quiet def (by.Driver r (drivers.Affinity answer mask)) past
+    (none (by.Driver r (drivers.Affinity answer mask)) refl)
+asks_more def (by.Driver r (drivers.Moment at)) past valid = quiet def (by.Driver r (drivers.Moment at)) past (none (by.Driver r (drivers.Moment at)) refl)
+asks_more def (by.CpuCall c call) past valid = quiet def (by.CpuCall c call) past (none (by.CpuCall c call) refl)
+asks_more def (by.ThreadCall x call) past valid = quiet def (by.ThreadCall x call) past (none (by.ThreadCall x call) refl)
+asks_more def (by.DriverCall r call) past valid = quiet def (by.DriverCall r call) past (none (by.DriverCall r call) refl)

@@ -4,7 +4,10 @@ use Rattle.std.proofs.Common.{Some, None, List, [], ◌∷◌, length, refl, sym
 use Rattle.std.proofs.lemmas.Bool.Decides.{nat_tests}
 use Rattle.irq_base.specs.declared.devices.Kind.{Kind}
 use Rattle.irq_base.specs.declared.entries.Entry.{Entry}
-use Rattle.irq_base.specs.declared.entries.Entry.TheVariants as entries
+use Rattle.irq_base.specs.declared.entries.Entry.TheVariants as by
+use Rattle.irq_base.specs.declared.entries.CpuEntry.TheVariants as cpus
+use Rattle.irq_base.specs.declared.entries.ThreadEntry.TheVariants as threads
+use Rattle.irq_base.specs.declared.entries.DriverEntry.TheVariants as drivers
 use Rattle.irq_base.specs.declared.entries.LinkAnswer.TheVariants as links
 use Rattle.irq_base.specs.declared.entries.Note.TheVariants as notes
 use Rattle.irq_base.specs.declared.lines.LineDef.{LineDef}
@@ -102,7 +105,7 @@ noted_below w l n true false c some h = by_deferred c.deferred
 
 pub counts_below : (def : LineDef) (past : List Entry) → IsValid def → IsBelow def.window (counts_of def past)
 counts_below def [] valid = record { counted = valid.some_window; unhandled = omega arith }
-counts_below def (entries.ThreadReturn d served ∷ past) valid = by_test (ltb 0 served) (counts_below def past valid)
+counts_below def (by.Thread d (threads.Return handled served) ∷ past) valid = by_test handled (counts_below def past valid)
   where
     c : Counts
     c = counts_of def past
@@ -110,9 +113,9 @@ counts_below def (entries.ThreadReturn d served ∷ past) valid = by_test (ltb 0
     by_test : (b : Bool) → IsBelow def.window c → IsBelow def.window (cond b (record c { threads_handled = c.threads_handled + 1 }) c)
     by_test true h = record { counted = h.counted; unhandled = h.unhandled }
     by_test false h = h
-counts_below def (entries.Request r d flags links.Linked opened ∷ past) valid = record { counted = valid.some_window; unhandled = omega arith }
-counts_below def (entries.Request r d flags (links.Refused error) opened ∷ past) valid = counts_below def past valid
-counts_below def (entries.End c again unmask note ∷ past) valid
+counts_below def (by.Driver r (drivers.Request flags links.Linked opened d) ∷ past) valid = record { counted = valid.some_window; unhandled = omega arith }
+counts_below def (by.Driver r (drivers.Request flags (links.Refused error) opened d) ∷ past) valid = counts_below def past valid
+counts_below def (by.Cpu c (cpus.End again unmask note) ∷ past) valid
     = noted_below def.window def.limit (now past) (round_wakes def past) (round_handles def past) (counts_of def past)
     valid.some_window (counts_below def past valid)
 counts_below def (_ ∷ past) valid = counts_below def past valid
@@ -175,20 +178,21 @@ later a e past h = omega (arith, h)
 
 pub handled_few : (def : LineDef) (past : List Entry) → (counts_of def past).threads_handled ≤ length past
 handled_few def [] = omega arith
-handled_few def (entries.ThreadReturn d served ∷ past) = by_test (ltb 0 served) (handled_few def past)
+handled_few def (by.Thread d (threads.Return handled served) ∷ past) = by_test handled (handled_few def past)
   where
     c : Counts
     c = counts_of def past
 
     by_test : (b : Bool) → c.threads_handled ≤ length past
         → (cond b (record c { threads_handled = c.threads_handled + 1 }) c).threads_handled ≤ length
-        (entries.ThreadReturn d served ∷ past)
+        (by.Thread d (threads.Return handled served) ∷ past)
     by_test true h = omega (arith, h)
     by_test false h = omega (arith, h)
-handled_few def (entries.Request r d flags links.Linked opened ∷ past) = later _ (entries.Request r d flags links.Linked opened) past (handled_few def past)
-handled_few def (entries.Request r d flags (links.Refused error) opened ∷ past)
-    = later _ (entries.Request r d flags (links.Refused error) opened) past (handled_few def past)
-handled_few def (entries.End c again unmask note ∷ past) =
+handled_few def (by.Driver r (drivers.Request flags links.Linked opened d) ∷ past)
+    = later _ (by.Driver r (drivers.Request flags links.Linked opened d)) past (handled_few def past)
+handled_few def (by.Driver r (drivers.Request flags (links.Refused error) opened d) ∷ past)
+    = later _ (by.Driver r (drivers.Request flags (links.Refused error) opened d)) past (handled_few def past)
+handled_few def (by.Cpu c (cpus.End again unmask note) ∷ past) =
     let same = noted_handled def.window def.limit (now past) (round_wakes def past) (round_handles def past) (counts_of def past) in
     omega (arith, same, handled_few def past)
 handled_few def (e ∷ past) = later _ e past (handled_few def past)

@@ -5,7 +5,12 @@ use Rattle.std.specs.List.{list_any}
 use Rattle.irq_base.specs.Cell.{Cell, after_edge, after_high, signals as presents}
 use Rattle.irq_base.specs.declared.devices.DeviceDef.{DeviceDef}
 use Rattle.irq_base.specs.declared.entries.Entry.{Entry}
-use Rattle.irq_base.specs.declared.entries.Entry.TheVariants as entries
+use Rattle.irq_base.specs.declared.entries.Entry.TheVariants as by
+use Rattle.irq_base.specs.declared.entries.CpuEntry.TheVariants as cpus
+use Rattle.irq_base.specs.declared.entries.ThreadEntry.TheVariants as threads
+use Rattle.irq_base.specs.declared.entries.DriverEntry.TheVariants as drivers
+use Rattle.irq_base.specs.declared.entries.CallEntry.{CallEntry}
+use Rattle.irq_base.specs.declared.entries.CallEntry.TheVariants as called
 use Rattle.irq_base.specs.declared.lines.LineDef.{LineDef}
 use Rattle.irq_base.specs.declared.numbers.DevNo.{DevNo}
 use Rattle.irq_model.specs.Asks.{is_high, unserved_asks}
@@ -16,7 +21,7 @@ use Rattle.irq_model.specs.Signal.{signals}
 use Rattle.irq_model.specs.Valid.{IsValid}
 use Rattle.irq_laws.proofs.CellKept.{is_driven_cell}
 use Rattle.irq_laws.proofs.KeptAlways.{kept}
-use Rattle.irq_laws.specs.Driven.{cell_after, cell_of, driven, ended, masked_if}
+use Rattle.irq_laws.specs.Driven.{cell_after, cell_of, called_on, driven, ended, masked_if}
 use Rattle.device_table.specs.Rows.{table_by}
 use Rattle.device_table.proofs.Weights.{some_passes}
 use Rattle.ask_counts.specs.Rows.{is_waiting}
@@ -26,7 +31,7 @@ use Rattle.line_marks.specs.Asks.{ask_row, asks_of, asks_after}
 use Rattle.line_marks.specs.Desc.{desc_of}
 use Rattle.line_marks.specs.Expected.{IsOpen}
 use Rattle.line_marks.specs.Kinds.{kinds_of}
-use Rattle.line_marks.specs.State.{IsOf, state_of, high_in, driven_by}
+use Rattle.line_marks.specs.State.{IsOf, state_of, high_in, called_to, driven_by}
 
 -- ---- what an entry does to it
 
@@ -58,24 +63,34 @@ turned true false = refl
 turned false true = refl
 turned false false = refl
 
+call_more : (def : LineDef) (call : CallEntry) (past : List Entry) (c : Cell)
+    → called_on def call c ≡ called_to call (desc_of def past) c
+call_more def called.Disable past c = refl
+call_more def (called.Unlink answer d) past c = refl
+call_more def (called.Enable answer) past c = refl
+call_more def _ past c = refl
+
 pub cell_more : (def : LineDef) (e : Entry) (past : List Entry) (c : Cell) → IsValid def
     → driven def e past c ≡ driven_by def e (desc_of def past)
     (high_in (asks_after (kinds_of def) e (asks_of def past))) c
-cell_more def (entries.Ask r d) past c valid =
-    let e = entries.Ask r d in
+cell_more def (by.Driver r (drivers.Ask edge d)) past c valid =
+    let e = by.Driver r (drivers.Ask edge d) in
     by_edge (is_edge_line def) (is_high def (e ∷ past)) (high_in (asks_after (kinds_of def) e (asks_of def past)))
-    (after_edge c) (λ b. after_high b c) (high_after def e past valid)
-cell_more def (entries.Return cpu d answer n) past c valid =
-    let e = entries.Return cpu d answer n in
+    (cond edge (after_edge c) c) (λ b. after_high b c) (high_after def e past valid)
+cell_more def (by.Cpu cpu (cpus.Return answer d n)) past c valid =
+    let e = by.Cpu cpu (cpus.Return answer d n) in
     by_level (is_edge_line def) (ltb 0 n) (is_high def (e ∷ past))
     (high_in (asks_after (kinds_of def) e (asks_of def past))) c (λ b. after_high b c) (high_after def e past valid)
-cell_more def (entries.ThreadReturn d n) past c valid =
-    let e = entries.ThreadReturn d n in
+cell_more def (by.Thread d (threads.Return handled n)) past c valid =
+    let e = by.Thread d (threads.Return handled n) in
     by_level (is_edge_line def) (ltb 0 n) (is_high def (e ∷ past))
     (high_in (asks_after (kinds_of def) e (asks_of def past))) c (λ b. after_high b c) (high_after def e past valid)
-cell_more def (entries.End cpu again unmask note) past c valid
+cell_more def (by.Cpu cpu (cpus.End again unmask note)) past c valid
     = ap (λ b. ended def def.flow again unmask (masked_if b c))
-    (turned def.unlazy (is_kill (entries.End cpu again unmask note)))
+    (turned def.unlazy (is_kill (by.Cpu cpu (cpus.End again unmask note))))
+cell_more def (by.CpuCall cpu call) past c valid = call_more def call past c
+cell_more def (by.ThreadCall d call) past c valid = call_more def call past c
+cell_more def (by.DriverCall r call) past c valid = call_more def call past c
 cell_more def _ past c valid = refl
 
 -- ---- what it is

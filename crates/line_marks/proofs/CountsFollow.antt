@@ -1,7 +1,10 @@
 -- The counts of the rule on spurious interrupts follow the history.
-use Rattle.std.proofs.Common.{◌≡◌, ℕ, ◌+◌, Bool, true, false, cond, ltb, List, ◌∷◌, refl}
+use Rattle.std.proofs.Common.{◌≡◌, ℕ, ◌+◌, Bool, true, false, cond, List, ◌∷◌, refl}
 use Rattle.irq_base.specs.declared.entries.Entry.{Entry}
-use Rattle.irq_base.specs.declared.entries.Entry.TheVariants as entries
+use Rattle.irq_base.specs.declared.entries.Entry.TheVariants as by
+use Rattle.irq_base.specs.declared.entries.CpuEntry.TheVariants as cpus
+use Rattle.irq_base.specs.declared.entries.ThreadEntry.TheVariants as threads
+use Rattle.irq_base.specs.declared.entries.DriverEntry.TheVariants as drivers
 use Rattle.irq_base.specs.declared.entries.LinkAnswer.TheVariants as links
 use Rattle.irq_base.specs.declared.lines.LineDef.{LineDef}
 use Rattle.irq_base.specs.declared.numbers.DevNo.{DevNo}
@@ -10,10 +13,10 @@ use Rattle.spurious.specs.Seen.{CountsSeen, after_thread}
 use Rattle.line_marks.specs.Counts.{tally_of, tally_after}
 use Rattle.line_marks.specs.Rounds.{round_of}
 
-thread_more : (def : LineDef) (d : DevNo) (n : ℕ) (past : List Entry)
-    → tally_of def (entries.ThreadReturn d n ∷ past) ≡ cond (ltb 0 n) (after_thread (tally_of def past))
+thread_more : (def : LineDef) (d : DevNo) (handled : Bool) (n : ℕ) (past : List Entry)
+    → tally_of def (by.Thread d (threads.Return handled n) ∷ past) ≡ cond handled (after_thread (tally_of def past))
     (tally_of def past)
-thread_more def d n past = by_test (ltb 0 n)
+thread_more def d handled n past = by_test handled
   where
     c : Counts
     c = counts_of def past
@@ -26,8 +29,8 @@ thread_more def d n past = by_test (ltb 0 n)
     by_test false = refl
 
 pub tally_more : (def : LineDef) (e : Entry) (past : List Entry) → tally_of def (e ∷ past) ≡ tally_after e (round_of def past) (tally_of def past)
-tally_more def (entries.ThreadReturn d n) past = thread_more def d n past
-tally_more def (entries.Request r d flags links.Linked opened) past = refl
-tally_more def (entries.Request r d flags (links.Refused error) opened) past = refl
-tally_more def (entries.End c again unmask note) past = refl
+tally_more def (by.Thread d (threads.Return handled n)) past = thread_more def d handled n past
+tally_more def (by.Driver r (drivers.Request flags links.Linked opened d)) past = refl
+tally_more def (by.Driver r (drivers.Request flags (links.Refused error) opened d)) past = refl
+tally_more def (by.Cpu c (cpus.End again unmask note)) past = refl
 tally_more def _ past = refl

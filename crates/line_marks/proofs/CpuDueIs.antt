@@ -7,7 +7,8 @@ use Rattle.irq_base.specs.Handlers.{answer_of}
 use Rattle.irq_base.specs.declared.devices.Kind.{Kind}
 use Rattle.irq_base.specs.declared.devices.Part.TheVariants as parts
 use Rattle.irq_base.specs.declared.entries.Entry.{Entry}
-use Rattle.irq_base.specs.declared.entries.Entry.TheVariants as entries
+use Rattle.irq_base.specs.declared.entries.Entry.TheVariants as by
+use Rattle.irq_base.specs.declared.entries.CpuEntry.TheVariants as cpus
 use Rattle.irq_base.specs.declared.entries.Note.{Note}
 use Rattle.irq_base.specs.declared.entries.Note.TheVariants as notes
 use Rattle.irq_base.specs.declared.entries.TakeAnswer.{TakeAnswer}
@@ -109,28 +110,28 @@ module _ (def : LineDef) (c : CpuNo) (past : List Entry) where
 
   edge_end : (note : Note) → IsEnd flows.Edge note
   edge_end notes.Killed = rw (or_true (is_disabled past), above (depth past))
-      (ap (λ b. entries.End c (is_pending def past && false) b notes.Killed)
+      (ap (λ b. by.Cpu c (cpus.End (is_pending def past && false) b notes.Killed))
       (never (is_pending def past) (is_masked def past) (def.unlazy || is_masked def past)))
   edge_end notes.Quiet = rw (or_false (is_disabled past)) refl
   edge_end notes.Counted = rw (or_false (is_disabled past)) refl
 
   abbrev eoi_at : Bool → Note → Type 0
   eoi_at e note =
-      cond e (entries.End c (is_pending def past && not (is_off_now past note)) false note)
-      (entries.End c false ((not (is_off_now past note) && is_oneshot past) &&
-      (is_masked def past && not (is_some_unfinished def past))) note)
+      cond e (by.Cpu c (cpus.End (is_pending def past && not (is_off_now past note)) false note))
+      (by.Cpu c (cpus.End false ((not (is_off_now past note) && is_oneshot past) &&
+      (is_masked def past && not (is_some_unfinished def past))) note))
       ≡ end_with c note (left_by def flows.Eoi (is_held (state_of def past)) (killed_if note (desc_of def past)))
 
   eoi_end : (note : Note) (e : Bool) → is_edge_line def ≡ e → eoi_at e note
   eoi_end notes.Killed true is = rw (is, or_true (is_disabled past), above (depth past)) refl
   eoi_end notes.Killed false is = rw (is, or_true (is_disabled past), above (depth past))
-      (ap (λ b. entries.End c false b notes.Killed) (and_false (is_oneshot past)))
+      (ap (λ b. by.Cpu c (cpus.End false b notes.Killed)) (and_false (is_oneshot past)))
   eoi_end notes.Quiet true is = rw (is, or_false (is_disabled past)) refl
   eoi_end notes.Quiet false is = rw (is, or_false (is_disabled past), held_known past def.devices)
-      (ap (λ b. entries.End c false b notes.Quiet) (oneshot_first (is_disabled past) (is_oneshot past) _))
+      (ap (λ b. by.Cpu c (cpus.End false b notes.Quiet)) (oneshot_first (is_disabled past) (is_oneshot past) _))
   eoi_end notes.Counted true is = rw (is, or_false (is_disabled past)) refl
   eoi_end notes.Counted false is = rw (is, or_false (is_disabled past), held_known past def.devices)
-      (ap (λ b. entries.End c false b notes.Counted) (oneshot_first (is_disabled past) (is_oneshot past) _))
+      (ap (λ b. by.Cpu c (cpus.End false b notes.Counted)) (oneshot_first (is_disabled past) (is_oneshot past) _))
 
   pub end_is : (f : FlowKind) (note : Note) → IsEnd f note
   end_is flows.Level note = level_end note
@@ -147,8 +148,8 @@ module _ (def : LineDef) (c : CpuNo) (past : List Entry) where
         let k = kept def past valid legal in
         let on = called_there def past k d (k.runs.working d is).0 in
         let row : at (state_of def past).asks d ≡ Some (ask_row def past d) = at_device (ask_row def past) def.devices d (there_named def past k d on) in
-        ap (λ (x : Kind). entries.Return c d (answer_of x parts.Primary (ask_row def past d).met_by_handler)
-        (served_by_handler x (ask_row def past d).met_by_handler)) (sym (kind_is def d))
+        ap (λ (x : Kind). by.Cpu c (cpus.Return (answer_of x parts.Primary (ask_row def past d).met_by_handler) d
+        (served_by_handler x (ask_row def past d).met_by_handler))) (sym (kind_is def d))
         ∙ ap (λ (o : Option AskRow). return_by (state_of def past) c d (met_by o)) (sym row)
     in_flow_is None is =
         ap (begin_or_end def c past) (left_known def past valid legal) ∙ walk_is (left_in (table_by (has_begun def past) def.devices) (actions_of past))
@@ -165,12 +166,12 @@ module _ (def : LineDef) (c : CpuNo) (past : List Entry) where
     take_is : next_take def c past ≡ next_take_by (state_of def past) c
     take_is =
         ap (λ b. cond (not (is_cpu c (target def past))) None
-        (cond b (Some (entries.Take c ways.Line (take_answer def past)))
-        (cond (is_soft past) (Some (entries.Take c ways.Resend (take_answer def past))) None)))
+        (cond b (Some (by.Cpu c (cpus.Take ways.Line (take_answer def past))))
+        (cond (is_soft past) (Some (by.Cpu c (cpus.Take ways.Resend (take_answer def past)))) None)))
         (sym (presents_is def past valid legal))
         ∙ ap (λ (a : TakeAnswer). cond (not (is_cpu c (target def past))) None
-        (cond (presents (cell_after def past)) (Some (entries.Take c ways.Line a))
-        (cond (is_soft past) (Some (entries.Take c ways.Resend a)) None))) take_answer_is
+        (cond (presents (cell_after def past)) (Some (by.Cpu c (cpus.Take ways.Line a)))
+        (cond (is_soft past) (Some (by.Cpu c (cpus.Take ways.Resend a))) None))) take_answer_is
 
 pub cpu_due_is : (def : LineDef) (past : List Entry) (c : CpuNo) → IsValid def → IsLegalPast def past
     → next_of_cpu def c past ≡ cpu_due def (state_of def past) c

@@ -1,11 +1,15 @@
 -- The descriptor of a line follows its history.
 use Rattle.std.proofs.Common.{◌≡◌, ℕ, ◌+◌, ◌-◌, ◌≤◌, Bool, true, false, not, ◌||◌, ◌&&◌, cond, Option, Some, List, ◌∷◌, refl, ap, ◌∙◌, arith}
 use Rattle.irq_base.specs.declared.entries.Entry.{Entry}
-use Rattle.irq_base.specs.declared.entries.Entry.TheVariants as entries
+use Rattle.irq_base.specs.declared.entries.Entry.TheVariants as by
+use Rattle.irq_base.specs.declared.entries.CpuEntry.TheVariants as cpus
+use Rattle.irq_base.specs.declared.entries.CallEntry.{CallEntry}
+use Rattle.irq_base.specs.declared.entries.CallEntry.TheVariants as called
 use Rattle.irq_base.specs.declared.lines.FlowKind.{FlowKind}
 use Rattle.irq_base.specs.declared.lines.FlowKind.TheVariants as flows
 use Rattle.irq_base.specs.declared.lines.LineDef.{LineDef}
 use Rattle.irq_model.specs.Kinds.{is_start, is_last_unlink, is_linked_request, is_handle, is_leave, is_again, is_disable, is_kill, is_off, is_busy}
+use Rattle.irq_model.specs.Kinds.{disables, opened_by_call, is_lowering_opened}
 use Rattle.irq_model.specs.Legal.{IsLegalPast}
 use Rattle.irq_model.specs.Links.{depth, is_reset, is_none_linked, is_oneshot, flags_in, is_deepening, is_lowering}
 use Rattle.irq_model.specs.Masks.{take_masks, is_masked, unmasks}
@@ -39,25 +43,17 @@ pub oneshot_more : (e : Entry) (past : List Entry) → is_oneshot (e ∷ past) �
 oneshot_more e past = chosen (λ (o : Option Entry). (flags_in o).oneshot) (is_linked_request e) (Some e) (last_of is_linked_request past)
 
 -- no entry both deepens and lowers
+one_way_call : (call : CallEntry) → ((disables call || false) && is_lowering_opened (opened_by_call call)) ≡ false
+one_way_call called.Disable = refl
+one_way_call (called.Enable answer) = refl
+one_way_call _ = refl
+
 one_way : (e : Entry) → (is_deepening e && is_lowering e) ≡ false
-one_way (entries.Disable r) = refl
-one_way (entries.End c again unmask note) = (let no : (b : Bool) → (b && false) ≡ false = λ b. grind arith in no _)
-one_way (entries.Ask r d) = refl
-one_way (entries.Take c way answer) = refl
-one_way (entries.Begin c d) = refl
-one_way (entries.Return c d answer n) = refl
-one_way (entries.ThreadBegin d) = refl
-one_way (entries.ThreadReturn d n) = refl
-one_way (entries.Finish d kept unmask) = refl
-one_way (entries.Done d) = refl
-one_way (entries.HardClear r) = refl
-one_way (entries.Synced r) = refl
-one_way (entries.Enable r answer) = refl
-one_way (entries.Request r d flags answer opened) = refl
-one_way (entries.Unlink r d answer) = refl
-one_way (entries.Freed r d) = refl
-one_way (entries.Affinity r mask answer) = refl
-one_way (entries.Moment r at) = refl
+one_way (by.CpuCall c call) = one_way_call call
+one_way (by.ThreadCall d call) = one_way_call call
+one_way (by.DriverCall r call) = one_way_call call
+one_way (by.Cpu c (cpus.End again unmask note)) = (let no : (b : Bool) → (b && false) ≡ false = λ b. grind arith in no _)
+one_way _ = refl
 
 -- d: it deepens, l: it lowers; the depth was never lowered below zero
 moved : (d l : Bool) (a b x y : ℕ) → (d && l) ≡ false → y ≤ x → a ≡ cond d (x + 1) x → b ≡ cond l (y + 1) y

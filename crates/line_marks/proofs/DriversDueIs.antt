@@ -1,6 +1,6 @@
 -- What is due of a driver by the table of steps is due by the state.
 use Rattle.std.proofs.Common.{◌≡◌, ℕ, ◌+◌, ◌==◌, Bool, true, false, not, ◌||◌, ◌&&◌, cond, is_some, Option, Some, None}
-use Rattle.std.proofs.Common.{List, [], ◌∷◌, refl, sym, ap, ◌∙◌, arith}
+use Rattle.std.proofs.Common.{List, [], ◌∷◌, refl, sym, ap, ◌∙◌, arith, option_map}
 use Rattle.std.specs.List.{list_any}
 use Rattle.irq_base.specs.declared.calls.Call.{Call}
 use Rattle.irq_base.specs.declared.calls.Call.TheVariants as calls
@@ -10,9 +10,13 @@ use Rattle.irq_base.specs.declared.entries.Actor.TheVariants as actors
 use Rattle.irq_base.specs.declared.entries.EnableAnswer.{EnableAnswer}
 use Rattle.irq_base.specs.declared.entries.EnableAnswer.TheVariants as enables
 use Rattle.irq_base.specs.declared.entries.Entry.{Entry}
-use Rattle.irq_base.specs.declared.entries.Entry.TheVariants as entries
+use Rattle.irq_base.specs.declared.entries.Entry.TheVariants as by
+use Rattle.irq_base.specs.declared.entries.DriverEntry.TheVariants as drivers
+use Rattle.irq_base.specs.declared.entries.CallEntry.{CallEntry}
+use Rattle.irq_base.specs.declared.entries.CallEntry.TheVariants as called
 use Rattle.irq_base.specs.declared.entries.LinkAnswer.{LinkAnswer}
 use Rattle.irq_base.specs.declared.entries.LinkAnswer.TheVariants as links
+use Rattle.irq_base.specs.declared.entries.Opened.{Opened}
 use Rattle.irq_base.specs.declared.entries.Opened.TheVariants as opens
 use Rattle.irq_base.specs.declared.entries.Resend.{Resend}
 use Rattle.irq_base.specs.declared.entries.UnlinkAnswer.{UnlinkAnswer}
@@ -30,7 +34,7 @@ use Rattle.irq_model.specs.Lines.{is_device, is_edge_line}
 use Rattle.irq_model.specs.Links.{linked, is_none_linked, depth, linking_flags, has_spurious_mark}
 use Rattle.irq_model.specs.Next.{next_past, next_of_call, next_of_request, next_of_free, request_with, link_answer}
 use Rattle.irq_model.specs.Next.{opened_by_request, unlink_answer, is_only, resend_of, enable_answer, freed_of}
-use Rattle.irq_model.specs.Next.{synced_of, hard_clear_of}
+use Rattle.irq_model.specs.Next.{synced_of, hard_clear_of, next_of_disable, next_of_sync}
 use Rattle.irq_model.specs.Places.{count_of}
 use Rattle.irq_model.specs.Threads.{is_woken, is_running}
 use Rattle.irq_model.specs.Valid.{IsValid}
@@ -51,7 +55,7 @@ use Rattle.line_marks.proofs.Known.{linked_known, no_thread, in_run}
 use Rattle.line_marks.proofs.Listed.{mismatch_of, many_of, only_of}
 use Rattle.line_marks.specs.Actions.{actions_of}
 use Rattle.line_marks.specs.Desc.{desc_of}
-use Rattle.line_marks.specs.DriversDue.{opened_by, request_to, synced_by, freed_by, free_by, driver_due}
+use Rattle.line_marks.specs.DriversDue.{opened_by, request_to, synced_by, freed_by, free_by, disable_by, sync_by, driver_due}
 use Rattle.line_marks.specs.Kinds.{kind_at, kinds_of}
 use Rattle.line_marks.specs.State.{state_of}
 use Rattle.line_marks.specs.Threads.{thread_of, threads_of, stage_by, has_returned, has_finished}
@@ -66,7 +70,7 @@ turned true false x y = refl
 turned false true x y = refl
 turned false false x y = refl
 
-neither : (w r : Bool) (x y : Option Entry) → cond (w || r) x y ≡ cond (not w && not r) y x
+neither : {A : Type 0} (w r : Bool) (x y : Option A) → cond (w || r) x y ≡ cond (not w && not r) y x
 neither true r x y = refl
 neither false true x y = refl
 neither false false x y = refl
@@ -142,7 +146,7 @@ module _ (def : LineDef) (past : List Entry) (valid : IsValid def) (legal : IsLe
 
   request_to_is : (r : DriverNo) (d : DevNo) (flags : Flags) (a : LinkAnswer)
       → request_with def r d flags past a ≡ request_to def r d flags (state_of def past) a
-  request_to_is r d flags links.Linked = ap (entries.Request r d flags links.Linked) (opened_is flags)
+  request_to_is r d flags links.Linked = ap (λ (o : Opened). by.Driver r (drivers.Request flags links.Linked o d)) (opened_is flags)
   request_to_is r d flags (links.Refused error) = refl
 
   request_is : (r : DriverNo) (d : DevNo) (flags : Flags)
@@ -173,22 +177,28 @@ module _ (def : LineDef) (past : List Entry) (valid : IsValid def) (legal : IsLe
           let rest = no_thread def past d (kept def past valid legal) gone in
           ap (row_passes is_idle_row true) (at_none (thread_of past) def.devices d gone) ∙ rw (rest.0, rest.1) refl
 
-  freed_is : (r : DriverNo) (d : DevNo) → freed_of r d past ≡ freed_by r d (state_of def past)
-  freed_is r d = neither (is_woken past d) (is_running past d) None (Some (entries.Freed r d))
-      ∙ ap (λ b. cond b (Some (entries.Freed r d)) None) (sym (idle_is d))
+  freed_is : (d : DevNo) → freed_of d past ≡ freed_by d (state_of def past)
+  freed_is d = neither (is_woken past d) (is_running past d) None (Some (called.Freed d))
+      ∙ ap (λ b. cond b (Some (called.Freed d)) None) (sym (idle_is d))
 
-  synced_is : (r : DriverNo) → synced_of def r past ≡ synced_by r (state_of def past)
-  synced_is r = ap (λ n. cond (n == 0) (Some (entries.Synced r)) None) (active_sum past def.devices)
+  synced_is : synced_of def past ≡ synced_by (state_of def past)
+  synced_is = ap (λ n. cond (n == 0) (Some called.Synced) None) (active_sum past def.devices)
 
-  free_is : (r : DriverNo) (d : DevNo) (n : ℕ) → next_of_free def r d n past ≡ free_by r d n (state_of def past)
-  free_is r d n =
-      ap (λ b. cond (n == 0) (cond b None (Some (entries.Unlink r d (unlink_answer d past))))
-      (cond (n == 1) (hard_clear_of def r past) (freed_of r d past))) (mutex_is def past valid legal)
-      ∙ (ap (λ (a : UnlinkAnswer). cond (n == 0) (cond (is_some (freeing past)) None (Some (entries.Unlink r d a)))
-      (cond (n == 1) (hard_clear_of def r past) (freed_of r d past))) (unlink_is d)
-      ∙ ap (λ (o : Option Entry). cond (n == 0) (cond (is_some (freeing past)) None
-      (Some (entries.Unlink r d (unlink_by d (actions_of past))))) (cond (n == 1) (hard_clear_of def r past) o))
-      (freed_is r d))
+  free_is : (d : DevNo) (n : ℕ) → next_of_free def d n past ≡ free_by d n (state_of def past)
+  free_is d n =
+      ap (λ b. cond (n == 0) (cond b None (Some (called.Unlink (unlink_answer d past) d)))
+      (cond (n == 1) (hard_clear_of def past) (freed_of d past))) (mutex_is def past valid legal)
+      ∙ (ap (λ (a : UnlinkAnswer). cond (n == 0) (cond (is_some (freeing past)) None (Some (called.Unlink a d)))
+      (cond (n == 1) (hard_clear_of def past) (freed_of d past))) (unlink_is d)
+      ∙ ap (λ (o : Option CallEntry). cond (n == 0) (cond (is_some (freeing past)) None
+      (Some (called.Unlink (unlink_by d (actions_of past)) d))) (cond (n == 1) (hard_clear_of def past) o))
+      (freed_is d))
+
+  disable_is : (n : ℕ) → next_of_disable def n past ≡ disable_by n (state_of def past)
+  disable_is n = ap (λ (o : Option CallEntry). cond (n == 0) (Some called.Disable) (cond (n == 1) (hard_clear_of def past) o)) synced_is
+
+  sync_is : (n : ℕ) → next_of_sync def n past ≡ sync_by n (state_of def past)
+  sync_is n = ap (λ (o : Option CallEntry). cond (n == 0) (hard_clear_of def past) o) synced_is
 
   -- ---- the nine calls
 
@@ -196,12 +206,11 @@ module _ (def : LineDef) (past : List Entry) (valid : IsValid def) (legal : IsLe
   call_due_is r None = refl
   call_due_is r (Some (calls.Ask d, n)) = refl
   call_due_is r (Some (calls.Request d flags, n)) = request_is r d flags
-  call_due_is r (Some (calls.Free d, n)) = free_is r d n
-  call_due_is r (Some (calls.Disable, n)) = ap (λ (o : Option Entry). cond (n == 0) (Some (entries.Disable r))
-      (cond (n == 1) (hard_clear_of def r past) o)) (synced_is r)
+  call_due_is r (Some (calls.Free d, n)) = ap (λ (o : Option CallEntry). option_map (by.DriverCall r) o) (free_is d n)
+  call_due_is r (Some (calls.Disable, n)) = ap (λ (o : Option CallEntry). option_map (by.DriverCall r) o) (disable_is n)
   call_due_is r (Some (calls.DisableNosync, n)) = refl
-  call_due_is r (Some (calls.Enable, n)) = ap (λ (a : EnableAnswer). Some (entries.Enable r a)) (sym enable_is)
-  call_due_is r (Some (calls.Sync, n)) = ap (λ (o : Option Entry). cond (n == 0) (hard_clear_of def r past) o) (synced_is r)
+  call_due_is r (Some (calls.Enable, n)) = ap (λ (a : EnableAnswer). Some (by.DriverCall r (called.Enable a))) (sym enable_is)
+  call_due_is r (Some (calls.Sync, n)) = ap (λ (o : Option CallEntry). option_map (by.DriverCall r) o) (sync_is n)
   call_due_is r (Some (calls.Affinity mask, n)) = refl
   call_due_is r (Some (calls.Moment m, n)) = refl
 

@@ -1,6 +1,5 @@
 -- What is due of an actor is due by the state and by the places of the drivers.
-use Rattle.std.proofs.Common.{◌≡◌, cond, Option, None, List, slice_get, reverse, sym, ap, ◌∙◌}
-use Rattle.std.proofs.lemmas.Bool.{cond-true}
+use Rattle.std.proofs.Common.{◌≡◌, Bool, true, false, cond, None, List, slice_get, reverse, refl, sym, ap, ◌∙◌}
 use Rattle.irq_base.specs.declared.calls.Call.{Call}
 use Rattle.irq_base.specs.declared.entries.Actor.{Actor}
 use Rattle.irq_base.specs.declared.entries.Actor.TheVariants as actors
@@ -9,27 +8,32 @@ use Rattle.irq_base.specs.declared.lines.LineDef.{LineDef}
 use Rattle.irq_base.specs.declared.numbers.DevNo.{DevNo}
 use Rattle.irq_base.specs.declared.numbers.DriverNo.{DriverNo}
 use Rattle.irq_model.specs.Due.{calls_by, entries_by, due_call}
-use Rattle.irq_model.specs.Kinds.{same_line}
 use Rattle.irq_model.specs.Legal.{IsLegalPast}
-use Rattle.irq_model.specs.Next.{next, next_past, next_of_call}
+use Rattle.irq_model.specs.Lines.{has_device}
+use Rattle.irq_model.specs.Next.{next, next_past, next_of_thread, next_of_call}
 use Rattle.irq_model.specs.Valid.{IsValid}
 use Rattle.irq_steps.proofs.DueSteps.{due_laid}
-use Rattle.irq_steps.proofs.Same.{same_self_line}
 use Rattle.irq_steps.specs.Laid.{with_count}
+use Rattle.device_table.proofs.Tables.{at_none}
 use Rattle.line_scripts.specs.Rows.{RowSeen, calls_of, place_of, within_of}
 use Rattle.line_marks.proofs.CpuDueIs.{cpu_due_is}
 use Rattle.line_marks.proofs.DriversDueIs.{driver_due_is}
 use Rattle.line_marks.proofs.ThreadsDue.{thread_due_is}
-use Rattle.line_marks.specs.Due.{thread_due}
+use Rattle.line_marks.specs.Due.{due_of_row, thread_due}
 use Rattle.line_marks.specs.Line.{IsLine}
 use Rattle.line_marks.specs.Next.{due_call_in, due_by}
 use Rattle.line_marks.specs.Scripts.{IsAt}
 use Rattle.line_marks.specs.State.{StateSeen, state_of}
+use Rattle.line_marks.specs.Threads.{thread_of}
 
 -- of a thread of the line itself
 pub thread_is : (def : LineDef) (past : List Entry) (d : DevNo) → IsValid def → IsLegalPast def past
-    → next_past def past (actors.Thread def.line d) ≡ thread_due (state_of def past) d
-thread_is def past d valid legal = cond-true _ _ _ (same_self_line def.line) ∙ thread_due_is def past d valid legal
+    → next_past def past (actors.Thread d) ≡ thread_due (state_of def past) d
+thread_is def past d valid legal = by_test (has_device def d) refl
+  where
+    by_test : (b : Bool) → has_device def d ≡ b → cond b (next_of_thread def d past) None ≡ thread_due (state_of def past) d
+    by_test true there = thread_due_is def past d valid legal
+    by_test false gone = sym (ap (due_of_row (state_of def past) d) (at_none (thread_of past) def.devices d gone))
 
 module _ (def : LineDef) (past : List Entry) (scripts : List (DriverNo × RowSeen))
     (calls : (r : DriverNo) → calls_of scripts r ≡ calls_by r def.calls)
@@ -41,7 +45,7 @@ module _ (def : LineDef) (past : List Entry) (scripts : List (DriverNo × RowSee
       ∙ ap (λ (cs : List Call). with_count (slice_get cs (place_of scripts r)) (within_of scripts r)) (sym (calls r))
 
   pub due_is : (a : Actor) → IsValid def → IsLegalPast def past → next_past def past a ≡ due_by def (state_of def past) scripts a
-  due_is (actors.Thread line d) valid legal = ap (λ (o : Option Entry). cond (same_line line def.line) o None) (thread_due_is def past d valid legal)
+  due_is (actors.Thread d) valid legal = thread_is def past d valid legal
   due_is (actors.Cpu c) valid legal = cpu_due_is def past c valid legal
   due_is (actors.Driver r) valid legal = ap (next_of_call def r past) (call_is r) ∙ driver_due_is def past r (due_call_in scripts r) valid legal
 

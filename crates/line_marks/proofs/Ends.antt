@@ -3,7 +3,8 @@ use Rattle.std.proofs.Common.{◌≡◌, ℕ, ◌+◌, Bool, true, false, not, �
 use Rattle.std.proofs.lemmas.Bool.Decides.{nat_tests}
 use Rattle.irq_base.specs.Cell.{Cell, is_edge_trigger}
 use Rattle.irq_base.specs.declared.entries.Entry.{Entry}
-use Rattle.irq_base.specs.declared.entries.Entry.TheVariants as entries
+use Rattle.irq_base.specs.declared.entries.Entry.TheVariants as by
+use Rattle.irq_base.specs.declared.entries.CpuEntry.TheVariants as cpus
 use Rattle.irq_base.specs.declared.entries.Note.{Note}
 use Rattle.irq_base.specs.declared.entries.Note.TheVariants as notes
 use Rattle.irq_base.specs.declared.lines.FlowKind.{FlowKind}
@@ -143,9 +144,9 @@ module _ (def : LineDef) (c : CpuNo) (s : StateSeen) where
   to again d k = gone_on def again (record (noted_at s) { desc = d; cell = k })
 
   rest_is : (again unmask : Bool) (note : Note) (b : Bool) → (again && not (is_eoi_flow def.flow)) ≡ b
-      → state_after def (entries.End c again unmask note) s
-      ≡ to again (desc_after def (is_bare s.list.actions) (entries.End c again unmask note) s.desc)
-      (driven_by def (entries.End c again unmask note) s.desc false s.cell)
+      → state_after def (by.Cpu c (cpus.End again unmask note)) s
+      ≡ to again (desc_after def (is_bare s.list.actions) (by.Cpu c (cpus.End again unmask note)) s.desc)
+      (driven_by def (by.Cpu c (cpus.End again unmask note)) s.desc false s.cell)
   rest_is true unmask note true h = rw h refl
   rest_is true unmask note false h = rw h refl
   rest_is false unmask note b h = refl
@@ -179,8 +180,8 @@ module _ (def : LineDef) (c : CpuNo) (s : StateSeen) where
 
 -- an end that is as the state says
 pub end_is : (def : LineDef) (c : CpuNo) (again unmask : Bool) (note : Note) (s : StateSeen)
-    → entries.End c again unmask note ≡ end_with c (note_by s) (left_by def def.flow (is_held s) (killed_if (note_by s) s.desc))
-    → state_after def (entries.End c again unmask note) s ≡ gone_on def again (left_at def def.flow (is_held s) (killed_by note (noted_at s)))
+    → by.Cpu c (cpus.End again unmask note) ≡ end_with c (note_by s) (left_by def def.flow (is_held s) (killed_if (note_by s) s.desc))
+    → state_after def (by.Cpu c (cpus.End again unmask note)) s ≡ gone_on def again (left_at def def.flow (is_held s) (killed_by note (noted_at s)))
 end_is def c again unmask note s is =
     ap (λ (e : Entry). state_after def e s) is
     ∙ (end_with_is def c s (note_by s) ∙ (ap (λ a. gone_on def a
@@ -189,9 +190,9 @@ end_is def c again unmask note s is =
     (sym (ap note_of is))))
   where
     again_of : Entry → Bool
-    again_of (entries.End cpu a u n) = a
+    again_of (by.Cpu cpu (cpus.End a u n)) = a
     again_of _ = false
 
     note_of : Entry → Note
-    note_of (entries.End cpu a u n) = n
+    note_of (by.Cpu cpu (cpus.End a u n)) = n
     note_of _ = notes.Quiet

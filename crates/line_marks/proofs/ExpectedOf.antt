@@ -2,7 +2,11 @@
 use Rattle.std.proofs.Common.{◌≡◌, ◌≤◌, Bool, List, length, refl, sym, ap, ◌∙◌}
 use Rattle.irq_base.specs.declared.calls.Flags.{Flags}
 use Rattle.irq_base.specs.declared.entries.Entry.{Entry}
-use Rattle.irq_base.specs.declared.entries.Entry.TheVariants as entries
+use Rattle.irq_base.specs.declared.entries.Entry.TheVariants as by
+use Rattle.irq_base.specs.declared.entries.CpuEntry.TheVariants as cpus
+use Rattle.irq_base.specs.declared.entries.ThreadEntry.TheVariants as threads
+use Rattle.irq_base.specs.declared.entries.DriverEntry.TheVariants as drivers
+use Rattle.irq_base.specs.declared.entries.CallEntry.TheVariants as called
 use Rattle.irq_base.specs.declared.entries.LinkAnswer.{LinkAnswer}
 use Rattle.irq_base.specs.declared.entries.LinkAnswer.TheVariants as links
 use Rattle.irq_base.specs.declared.entries.Note.{Note}
@@ -11,6 +15,7 @@ use Rattle.irq_base.specs.declared.numbers.CpuNo.{CpuNo}
 use Rattle.irq_laws.proofs.ImpliesDriver.{request_due, unlink_due, enable_due, affinity_due, opened_with as opened_after}
 use Rattle.irq_laws.proofs.ImpliesFlow.{take_due, end_due, end_shape}
 use Rattle.irq_laws.proofs.KeptAlways.{kept}
+use Rattle.irq_laws.proofs.OwnLaws.{no_cpu_call, no_thread_call}
 use Rattle.irq_laws.proofs.WantedKept.{requested_unlinked}
 use Rattle.irq_model.specs.Legal.{IsDue, IsLegalPast}
 use Rattle.irq_model.specs.Next.{link_answer}
@@ -31,8 +36,8 @@ module _ (def : LineDef) (past : List Entry) (valid : IsValid def) (legal : IsLe
   space : HasSpace (state_of def past)
   space = has_space def past valid few
 
-  ended : (c : CpuNo) (again unmask : Bool) (note : Note) → IsDue def (entries.End c again unmask note) past
-      → entries.End c again unmask note ≡ end_with c (note_of def past)
+  ended : (c : CpuNo) (again unmask : Bool) (note : Note) → IsDue def (by.Cpu c (cpus.End again unmask note)) past
+      → by.Cpu c (cpus.End again unmask note) ≡ end_with c (note_of def past)
       (left_by def def.flow (is_held (state_of def past)) (killed_if (note_of def past) (state_of def past).desc))
   ended c again unmask note due =
       let e = end_due def c again unmask note past due in
@@ -43,18 +48,20 @@ module _ (def : LineDef) (past : List Entry) (valid : IsValid def) (legal : IsLe
   opened_so flags (links.Refused error) = refl
 
   pub expected : (e : Entry) → IsDue def e past → IsExpected def e (state_of def past)
-  expected (entries.Ask driver dev) due = space.asks dev
-  expected (entries.Take cpu way answer) due = ((take_due def cpu way answer past due).answer_is ∙ take_answer_is def cpu past valid legal, space.rounds)
-  expected (entries.End cpu again unmask note) due = (ended cpu again unmask note due, space.rounds, space.depth, is_open def past valid legal)
-  expected (entries.ThreadReturn dev served) due = space.handled
-  expected (entries.Disable driver) due = space.depth
-  expected (entries.Enable driver answer) due = (enable_due def driver answer past due).answer_is ∙ sym (enable_is def past valid legal)
-  expected (entries.Request driver dev flags answer opened) due =
+  expected (by.Driver driver (drivers.Ask edge dev)) due = space.asks dev
+  expected (by.Cpu cpu (cpus.Take way answer)) due = ((take_due def cpu way answer past due).answer_is ∙ take_answer_is def cpu past valid legal, space.rounds)
+  expected (by.Cpu cpu (cpus.End again unmask note)) due = (ended cpu again unmask note due, space.rounds, space.depth, is_open def past valid legal)
+  expected (by.Thread dev (threads.Return handled served)) due = space.handled
+  expected (by.CpuCall cpu call) due = no_cpu_call def cpu call past due
+  expected (by.ThreadCall dev call) due = no_thread_call def dev call past due
+  expected (by.DriverCall driver called.Disable) due = space.depth
+  expected (by.DriverCall driver (called.Enable answer)) due = (enable_due def driver answer past due).answer_is ∙ sym (enable_is def past valid legal)
+  expected (by.Driver driver (drivers.Request flags answer opened dev)) due =
       let r = request_due def driver dev flags answer opened past due in (
         sym (linked_known def past dev valid legal) ∙ requested_unlinked def driver dev flags r.count past valid (kept def past valid legal).wanted r.call,
         r.answer_is ∙ answer_is def past valid legal dev flags,
         r.opened_is ∙ (opened_so flags (link_answer def dev flags past) ∙ ap (opened_with def flags (state_of def past)) (sym r.answer_is)),
       )
-  expected (entries.Unlink driver dev answer) due = (unlink_due def driver dev answer past due).answer_is ∙ unlink_is def past valid legal dev
-  expected (entries.Affinity driver mask answer) due = (affinity_due def driver mask answer past due).answer_is
+  expected (by.DriverCall driver (called.Unlink answer dev)) due = (unlink_due def driver dev answer past due).answer_is ∙ unlink_is def past valid legal dev
+  expected (by.Driver driver (drivers.Affinity answer mask)) due = (affinity_due def driver mask answer past due).answer_is
   expected _ due = tt

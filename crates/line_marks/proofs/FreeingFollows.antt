@@ -1,7 +1,8 @@
 -- The free under way follows the history, and holds the request mutex.
 use Rattle.std.proofs.Common.{◌≡◌, Bool, true, false, is_some, Option, Some, None, List, ◌∷◌, refl, sym, ◌∙◌}
 use Rattle.irq_base.specs.declared.entries.Entry.{Entry}
-use Rattle.irq_base.specs.declared.entries.Entry.TheVariants as entries
+use Rattle.irq_base.specs.declared.entries.Entry.TheVariants as by
+use Rattle.irq_base.specs.declared.entries.CallEntry.TheVariants as called
 use Rattle.irq_base.specs.declared.entries.UnlinkAnswer.TheVariants as unlinks
 use Rattle.irq_base.specs.declared.lines.LineDef.{LineDef}
 use Rattle.irq_base.specs.declared.numbers.DevNo.{DevNo}
@@ -16,9 +17,9 @@ use Rattle.irq_model.specs.Valid.{IsValid}
 use Rattle.line_marks.specs.Freeing.{freeing_after}
 
 pub freeing_more : (e : Entry) (past : List Entry) → freeing (e ∷ past) ≡ freeing_after e (freeing past)
-freeing_more (entries.Unlink r d (unlinks.Unlinked last)) past = refl
-freeing_more (entries.Unlink r d unlinks.NotThere) past = refl
-freeing_more (entries.Freed r d) past = refl
+freeing_more (by.DriverCall r (called.Unlink (unlinks.Unlinked last) d)) past = refl
+freeing_more (by.DriverCall r (called.Unlink unlinks.NotThere d)) past = refl
+freeing_more (by.DriverCall r (called.Freed d)) past = refl
 freeing_more _ past = refl
 
 pub mutex_is : (def : LineDef) (past : List Entry) → IsValid def → IsLegalPast def past → holds_mutex past ≡ is_some (freeing past)

@@ -3,7 +3,8 @@ use Rattle.std.proofs.Common.{◌≡◌, ◌⊎◌, inl, inr, ℕ, ◌-◌, ◌�
 use Rattle.std.proofs.lemmas.Bool.{eqb-true, eqb-false, false≢true}
 use Rattle.irq_base.specs.declared.calls.Flags.{Flags}
 use Rattle.irq_base.specs.declared.entries.Entry.{Entry}
-use Rattle.irq_base.specs.declared.entries.Entry.TheVariants as entries
+use Rattle.irq_base.specs.declared.entries.Entry.TheVariants as by
+use Rattle.irq_base.specs.declared.entries.DriverEntry.TheVariants as drivers
 use Rattle.irq_base.specs.declared.entries.EnableAnswer.TheVariants as enables
 use Rattle.irq_base.specs.declared.entries.Errno.{Errno}
 use Rattle.irq_base.specs.declared.entries.LinkAnswer.TheVariants as links
@@ -94,15 +95,15 @@ less_one n h = omega (arith, h)
 
 module _ (def : LineDef) (r : DriverNo) (d : DevNo) (flags : Flags) where
   abbrev entry : Opened → Entry
-  entry opened = entries.Request r d flags links.Linked opened
+  entry opened = by.Driver r (drivers.Request flags links.Linked opened d)
 
-  masks_not : (f : FlowKind) (o : Bool) (opened : Opened) → take_masks_with def f o (entries.Request r d flags links.Linked opened) ≡ false
+  masks_not : (f : FlowKind) (o : Bool) (opened : Opened) → take_masks_with def f o (by.Driver r (drivers.Request flags links.Linked opened d)) ≡ false
   masks_not flows.Level o opened = refl
   masks_not flows.Edge o opened = refl
   masks_not flows.Eoi o opened = refl
 
   abbrev IsOpened : Opened → Bool → StateSeen → Type 0
-  IsOpened opened first s = state_after def (entries.Request r d flags links.Linked opened) s
+  IsOpened opened first s = state_after def (by.Driver r (drivers.Request flags links.Linked opened d)) s
       ≡ opened_to first opened (activated_if first (linked_at d flags s))
 
   by_first : (opened : Opened) (first : Bool) (s : StateSeen) → is_bare s.list.actions ≡ first → Fits def first opened s → IsOpened opened first s
@@ -141,16 +142,16 @@ module _ (def : LineDef) (r : DriverNo) (d : DevNo) (flags : Flags) where
       ) refl
 
   pub request_is : (opened : Opened) (s : StateSeen) → opened ≡ opened_by def flags s
-      → state_after def (entries.Request r d flags links.Linked opened) s
+      → state_after def (by.Driver r (drivers.Request flags links.Linked opened d)) s
       ≡ opened_to (is_bare s.list.actions) opened (activated_if (is_bare s.list.actions) (linked_at d flags s))
   request_is opened s is =
       by_first opened (is_bare s.list.actions) s refl (subst (λ (o : Opened). Fits def (is_bare s.list.actions) o s) (sym is) (fits def flags s))
 
   -- a refused one makes nothing
-  pub refused_is : (error : Errno) (s : StateSeen) → state_after def (entries.Request r d flags (links.Refused error) opens.No) s ≡ s
+  pub refused_is : (error : Errno) (s : StateSeen) → state_after def (by.Driver r (drivers.Request flags (links.Refused error) opens.No d)) s ≡ s
   refused_is error s = by_flow def.flow refl
     where
-      by_flow : (f : FlowKind) → def.flow ≡ f → state_after def (entries.Request r d flags (links.Refused error) opens.No) s ≡ s
+      by_flow : (f : FlowKind) → def.flow ≡ f → state_after def (by.Driver r (drivers.Request flags (links.Refused error) opens.No d)) s ≡ s
       by_flow flows.Level is = rw is refl
       by_flow flows.Edge is = rw is refl
       by_flow flows.Eoi is = rw is refl

@@ -2,7 +2,10 @@
 use Rattle.std.proofs.Common.{◌≡◌, Bool, true, false, ◌||◌, cond, List, [], ◌∷◌, refl, ap, ◌∙◌}
 use Rattle.irq_base.specs.declared.devices.DeviceDef.{DeviceDef}
 use Rattle.irq_base.specs.declared.entries.Entry.{Entry}
-use Rattle.irq_base.specs.declared.entries.Entry.TheVariants as entries
+use Rattle.irq_base.specs.declared.entries.Entry.TheVariants as by
+use Rattle.irq_base.specs.declared.entries.CpuEntry.TheVariants as cpus
+use Rattle.irq_base.specs.declared.entries.DriverEntry.TheVariants as drivers
+use Rattle.irq_base.specs.declared.entries.CallEntry.TheVariants as called
 use Rattle.irq_base.specs.declared.entries.LinkAnswer.TheVariants as links
 use Rattle.irq_base.specs.declared.entries.UnlinkAnswer.TheVariants as unlinks
 use Rattle.irq_base.specs.declared.lines.LineDef.{LineDef}
@@ -48,26 +51,18 @@ quiet def e past same h = by_test (begins_round def e) refl (λ d. begun_more de
         (same_table (has_begun def past) (has_begun def (e ∷ past)) def.devices (λ d. n d ∙ ap (λ b. b || has_begun def past d) (h d))) (rw is refl)
 
 pub list_more : (def : LineDef) (e : Entry) (past : List Entry) → IsValid def → list_of def (e ∷ past) ≡ list_after def e (list_of def past)
-list_more def (entries.Begin c x) past valid =
-    same_list (list_of def (entries.Begin c x ∷ past)) (list_after def (entries.Begin c x) (list_of def past)) refl
-    (change_any (has_begun def past) (has_begun def (entries.Begin c x ∷ past)) (λ b. true) def.devices x valid.distinct
+list_more def (by.Cpu c (cpus.Begin x)) past valid =
+    same_list (list_of def (by.Cpu c (cpus.Begin x) ∷ past)) (list_after def (by.Cpu c (cpus.Begin x)) (list_of def past)) refl
+    (change_any (has_begun def past) (has_begun def (by.Cpu c (cpus.Begin x) ∷ past)) (λ b. true) def.devices x valid.distinct
     (rw (same_self x) refl) (λ d apart. rw (same_both d x ∙ apart) refl)) refl
-list_more def (entries.Request r x flags links.Linked opened) past valid = refl
-list_more def (entries.Request r x flags (links.Refused error) opened) past valid = refl
-list_more def (entries.Unlink r x (unlinks.Unlinked last)) past valid = refl
-list_more def (entries.Unlink r x unlinks.NotThere) past valid = refl
-list_more def (entries.Take c way answer) past valid = quiet def (entries.Take c way answer) past refl (λ x. refl)
-list_more def (entries.End c again unmask note) past valid = quiet def (entries.End c again unmask note) past refl (λ x. refl)
-list_more def (entries.Ask r d) past valid = refl
-list_more def (entries.Return c d answer n) past valid = refl
-list_more def (entries.ThreadBegin d) past valid = refl
-list_more def (entries.ThreadReturn d n) past valid = refl
-list_more def (entries.Finish d kept unmask) past valid = refl
-list_more def (entries.Done d) past valid = refl
-list_more def (entries.Disable r) past valid = refl
-list_more def (entries.HardClear r) past valid = refl
-list_more def (entries.Synced r) past valid = refl
-list_more def (entries.Enable r answer) past valid = refl
-list_more def (entries.Freed r d) past valid = refl
-list_more def (entries.Affinity r mask answer) past valid = refl
-list_more def (entries.Moment r at) past valid = refl
+list_more def (by.Driver r (drivers.Request flags links.Linked opened x)) past valid = refl
+list_more def (by.Driver r (drivers.Request flags (links.Refused error) opened x)) past valid = refl
+list_more def (by.Cpu c (cpus.Take way answer)) past valid = quiet def (by.Cpu c (cpus.Take way answer)) past refl (λ x. refl)
+list_more def (by.Cpu c (cpus.End again unmask note)) past valid = quiet def (by.Cpu c (cpus.End again unmask note)) past refl (λ x. refl)
+list_more def (by.CpuCall c (called.Unlink (unlinks.Unlinked last) x)) past valid = refl
+list_more def (by.CpuCall c (called.Unlink unlinks.NotThere x)) past valid = refl
+list_more def (by.ThreadCall d (called.Unlink (unlinks.Unlinked last) x)) past valid = refl
+list_more def (by.ThreadCall d (called.Unlink unlinks.NotThere x)) past valid = refl
+list_more def (by.DriverCall r (called.Unlink (unlinks.Unlinked last) x)) past valid = refl
+list_more def (by.DriverCall r (called.Unlink unlinks.NotThere x)) past valid = refl
+list_more def _ past valid = refl

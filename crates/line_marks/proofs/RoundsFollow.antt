@@ -2,7 +2,8 @@
 use Rattle.std.proofs.Common.{◌≡◌, Bool, true, false, ◌||◌, cond, Some, List, [], ◌∷◌, refl}
 use Rattle.std.specs.List.{list_any}
 use Rattle.irq_base.specs.declared.entries.Entry.{Entry}
-use Rattle.irq_base.specs.declared.entries.Entry.TheVariants as entries
+use Rattle.irq_base.specs.declared.entries.Entry.TheVariants as by
+use Rattle.irq_base.specs.declared.entries.DriverEntry.TheVariants as drivers
 use Rattle.irq_base.specs.declared.lines.LineDef.{LineDef}
 use Rattle.irq_model.specs.Kinds.{is_begin_or_return, returns_wake, returns_handled}
 use Rattle.irq_model.specs.Places.{last_of}
@@ -26,7 +27,7 @@ in_round def p e past = by_test (begins_round def e)
     by_test false = refl
 
 now_more : (e : Entry) (past : List Entry) → now (e ∷ past) ≡ now_after e (now past)
-now_more (entries.Moment r at) past = refl
+now_more (by.Driver r (drivers.Moment at)) past = refl
 now_more _ past = refl
 
 same_round : (a b : RoundSeen) → a.working ≡ b.working → a.wakes ≡ b.wakes → a.handles ≡ b.handles → a.moment ≡ b.moment → a ≡ b

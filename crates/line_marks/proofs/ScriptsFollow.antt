@@ -6,7 +6,8 @@ use Rattle.irq_base.specs.declared.calls.Call.{Call}
 use Rattle.irq_base.specs.declared.calls.Call.TheVariants as calls
 use Rattle.irq_base.specs.declared.entries.Actor.TheVariants as actors
 use Rattle.irq_base.specs.declared.entries.Entry.{Entry}
-use Rattle.irq_base.specs.declared.entries.Entry.TheVariants as entries
+use Rattle.irq_base.specs.declared.entries.Entry.TheVariants as by
+use Rattle.irq_base.specs.declared.entries.CallEntry.TheVariants as called
 use Rattle.irq_base.specs.declared.entries.UnlinkAnswer.{UnlinkAnswer}
 use Rattle.irq_base.specs.declared.entries.UnlinkAnswer.TheVariants as unlinks
 use Rattle.irq_base.specs.declared.lines.LineDef.{LineDef}
@@ -47,7 +48,7 @@ free_three : (d : DevNo) (es : List Entry) (e : Entry) (n : ℕ) → length es �
 free_three d es e n len some h = makes_as_many (calls.Free d) es e (omega (arith, len, some)) ∙ three (begins_not_there es) n some h
 
 unlink_goes : (d : DevNo) (r : DriverNo) (answer : UnlinkAnswer) (es : List Entry) → length es ≡ 0
-    → Goes (completes (calls.Free d) (entries.Unlink r d answer)) (calls.Free d) es (entries.Unlink r d answer) 0
+    → Goes (completes (calls.Free d) (by.DriverCall r (called.Unlink answer d))) (calls.Free d) es (by.DriverCall r (called.Unlink answer d)) 0
 unlink_goes d r unlinks.NotThere [] h = omega arith
 unlink_goes d r (unlinks.Unlinked last) [] h = omega arith
 unlink_goes d r answer (x ∷ es) h = absurd (omega (arith, h))
@@ -81,7 +82,7 @@ step_of def r due past e (free_clear d is f same) =
       is = is;
       goes
           = subst (GoesBy (calls.Free d) 1) same (λ es len h. omega
-          (arith, free_three d es (entries.HardClear r) 1 len (omega arith) h));
+          (arith, free_three d es (by.DriverCall r called.HardClear) 1 len (omega arith) h));
     }
 step_of def r due past e (freed d n is a b w same) =
     record {
@@ -89,8 +90,8 @@ step_of def r due past e (freed d n is a b w same) =
       count = n;
       is = is;
       goes = subst (GoesBy (calls.Free d) n) same (λ es len h.
-          let t = free_three d es (entries.Freed r d) n len (some_there n a) h in
-          let u : n < 3 = omega (arith, makes_as_many (calls.Free d) es (entries.Freed r d) (omega (arith, len, some_there n a)), t, h) in
+          let t = free_three d es (by.DriverCall r (called.Freed d)) n len (some_there n a) h in
+          let u : n < 3 = omega (arith, makes_as_many (calls.Free d) es (by.DriverCall r (called.Freed d)) (omega (arith, len, some_there n a)), t, h) in
           two_left n a b u ∙ sym t);
     }
 step_of def r due past e (disable is same) = record {

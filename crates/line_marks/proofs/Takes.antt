@@ -1,6 +1,7 @@
 -- What a take makes of the state is what its parts make of it.
 use Rattle.std.proofs.Common.{◌≡◌, Bool, true, false, not, ◌||◌, ◌&&◌, refl, ap}
-use Rattle.irq_base.specs.declared.entries.Entry.TheVariants as entries
+use Rattle.irq_base.specs.declared.entries.Entry.TheVariants as by
+use Rattle.irq_base.specs.declared.entries.CpuEntry.TheVariants as cpus
 use Rattle.irq_base.specs.declared.entries.TakeAnswer.{TakeAnswer}
 use Rattle.irq_base.specs.declared.entries.TakeAnswer.TheVariants as takes
 use Rattle.irq_base.specs.declared.entries.Way.{Way}
@@ -28,7 +29,7 @@ either_way false false = refl
 
 module _ (def : LineDef) (cpu : CpuNo) (s : StateSeen) where
   abbrev IsTaken : FlowKind → Way → TakeAnswer → Type 0
-  IsTaken f way answer = state_after def (entries.Take cpu way answer) s ≡ handling_from answer (moved (entered def f answer cpu (arrived way s)))
+  IsTaken f way answer = state_after def (by.Cpu cpu (cpus.Take way answer)) s ≡ handling_from answer (moved (entered def f answer cpu (arrived way s)))
 
   on_level : (way : Way) (answer : TakeAnswer) → def.flow ≡ flows.Level → is_edge_line def ≡ false → IsTaken flows.Level way answer
   on_level ways.Line takes.Handle is edge = rw is refl
@@ -64,5 +65,5 @@ module _ (def : LineDef) (cpu : CpuNo) (s : StateSeen) where
   by_flow flows.Eoi way answer valid is = on_eoi way answer is
 
 pub take_is : (def : LineDef) (cpu : CpuNo) (way : Way) (answer : TakeAnswer) (s : StateSeen) → IsValid def
-    → state_after def (entries.Take cpu way answer) s ≡ handling_from answer (moved (entered def def.flow answer cpu (arrived way s)))
+    → state_after def (by.Cpu cpu (cpus.Take way answer)) s ≡ handling_from answer (moved (entered def def.flow answer cpu (arrived way s)))
 take_is def cpu way answer s valid = by_flow def cpu s def.flow way answer valid refl

@@ -2,7 +2,9 @@
 use Rattle.std.proofs.Common.{◌≡◌, ℕ, zero, suc, ◌+◌, ◌<◌, Bool, true, false, cond, Option, Some, None, List, ◌∷◌, refl, sym, ap, ◌∙◌, arith}
 use Rattle.irq_base.specs.declared.entries.AffinityAnswer.TheVariants as moves
 use Rattle.irq_base.specs.declared.entries.Entry.{Entry}
-use Rattle.irq_base.specs.declared.entries.Entry.TheVariants as entries
+use Rattle.irq_base.specs.declared.entries.Entry.TheVariants as by
+use Rattle.irq_base.specs.declared.entries.CpuEntry.TheVariants as cpus
+use Rattle.irq_base.specs.declared.entries.DriverEntry.TheVariants as drivers
 use Rattle.irq_base.specs.declared.lines.LineDef.{LineDef}
 use Rattle.irq_base.specs.declared.numbers.CpuNo.{CpuNo}
 use Rattle.irq_model.specs.Lines.{is_in_mask}
@@ -19,10 +21,10 @@ pub aimed_is : (def : LineDef) (past : List Entry) → aimed_of def past ≡ aim
 aimed_is def past = refl
 
 aimed_step : (e : Entry) (a : AimSeen) → aimed_by (aim_after e a) ≡ aimed_after e a (aimed_by a)
-aimed_step (entries.Affinity r m moves.Now) a = refl
-aimed_step (entries.Affinity r m moves.Later) a = refl
-aimed_step (entries.Affinity r m (moves.Refused error)) a = refl
-aimed_step (entries.Take c way answer) a = refl
+aimed_step (by.Driver r (drivers.Affinity moves.Now m)) a = refl
+aimed_step (by.Driver r (drivers.Affinity moves.Later m)) a = refl
+aimed_step (by.Driver r (drivers.Affinity (moves.Refused error) m)) a = refl
+aimed_step (by.Cpu c (cpus.Take way answer)) a = refl
 aimed_step _ a = refl
 
 pub aimed_more : (def : LineDef) (e : Entry) (past : List Entry) → aimed_of def (e ∷ past) ≡ aimed_after e (aim_of def past) (aimed_of def past)

@@ -5,7 +5,8 @@ use Rattle.std.proofs.lemmas.Bool.Decides.{nat_tests}
 use Rattle.std.specs.List.{list_any}
 use Rattle.irq_base.specs.declared.devices.DeviceDef.{DeviceDef}
 use Rattle.irq_base.specs.declared.entries.Entry.{Entry}
-use Rattle.irq_base.specs.declared.entries.Entry.TheVariants as entries
+use Rattle.irq_base.specs.declared.entries.Entry.TheVariants as by
+use Rattle.irq_base.specs.declared.entries.ThreadEntry.TheVariants as threads
 use Rattle.irq_base.specs.declared.lines.LineDef.{LineDef}
 use Rattle.irq_base.specs.declared.numbers.DevNo.{DevNo}
 use Rattle.irq_model.specs.Kinds.{same_dev}
@@ -120,15 +121,15 @@ by_stage : (def : LineDef) (past : List Entry) (d : DevNo) (r t f : Bool) → Is
     → next_of_thread def d past ≡ due_at_stage (stage_by r t f) (state_of def past) d (thread_of past d)
 by_stage def past d false t f valid there a b c = rw a refl
 by_stage def past d true false f valid there a b c = rw (a, b)
-    (ap (λ (o : Option AskRow). Some (entries.ThreadReturn d (met_in o)))
+    (ap (λ (o : Option AskRow). Some (by.Thread d (threads.Return (ltb 0 (met_in o)) (met_in o))))
     (sym (at_device (ask_row def past) def.devices d there)))
 by_stage def past d true true true valid there a b c = rw (a, b, c) (oneshot_done (is_oneshot past) _ _)
 by_stage def past d true true false valid there a b c =
     rw (a, b, c)
     (oneshot_on (is_oneshot past) (cond (has_flow def past) None
-    (Some (entries.Finish d (is_woken past d) (finish_unmasks def d past)))) (Some (entries.Done d))
-    ∙ ap (λ u. cond (is_oneshot past) (cond (has_flow def past) None (Some (entries.Finish d (is_woken past d) u)))
-    (Some (entries.Done d))) (opens_is def past d valid there))
+    (Some (by.Thread d (threads.Finish (is_woken past d) (finish_unmasks def d past))))) (Some (by.Thread d threads.Done))
+    ∙ ap (λ u. cond (is_oneshot past) (cond (has_flow def past) None (Some (by.Thread d (threads.Finish (is_woken past d) u))))
+    (Some (by.Thread d threads.Done))) (opens_is def past d valid there))
 
 pub thread_due_is : (def : LineDef) (past : List Entry) (d : DevNo) → IsValid def → IsLegalPast def past
     → next_of_thread def d past ≡ thread_due (state_of def past) d

@@ -4,7 +4,10 @@ use Rattle.std.specs.List.{list_any}
 use Rattle.irq_base.specs.declared.calls.Flags.{Flags}
 use Rattle.irq_base.specs.declared.devices.Answer.TheVariants as answers
 use Rattle.irq_base.specs.declared.entries.Entry.{Entry}
-use Rattle.irq_base.specs.declared.entries.Entry.TheVariants as entries
+use Rattle.irq_base.specs.declared.entries.Entry.TheVariants as by
+use Rattle.irq_base.specs.declared.entries.CpuEntry.TheVariants as cpus
+use Rattle.irq_base.specs.declared.entries.ThreadEntry.TheVariants as threads
+use Rattle.irq_base.specs.declared.entries.DriverEntry.TheVariants as drivers
 use Rattle.irq_base.specs.declared.entries.LinkAnswer.TheVariants as links
 use Rattle.irq_base.specs.declared.entries.Opened.{Opened}
 use Rattle.irq_base.specs.declared.lines.LineDef.{LineDef}
@@ -49,7 +52,7 @@ not_woken b h i = cc
 -- ---- the request of a device finds its thread at rest
 
 at_rest : (def : LineDef) (r : DriverNo) (x : DevNo) (flags : Flags) (opened : Opened) (past : List Entry) → IsValid def
-    → IsDue def (entries.Request r x flags links.Linked opened) past → Kept def past
+    → IsDue def (by.Driver r (drivers.Request flags links.Linked opened x)) past → Kept def past
     → (is_woken past x ≡ false) × (is_running past x ≡ false) × (is_unfinished past x ≡ false)
 at_rest def r x flags opened past valid due k =
     let u = request_due def r x flags links.Linked opened past due in
@@ -64,11 +67,12 @@ held_now true s = refl
 held_now false s = refl
 
 -- a wake of x, seen at d
-wakes_held : (def : LineDef) (c : CpuNo) (x : DevNo) (n : ℕ) (past : List Entry) → IsWokenHeld past → IsWokenHeld (entries.Return c x answers.Wake n ∷ past)
+wakes_held : (def : LineDef) (c : CpuNo) (x : DevNo) (n : ℕ) (past : List Entry) → IsWokenHeld past
+    → IsWokenHeld (by.Cpu c (cpus.Return answers.Wake x n) ∷ past)
 wakes_held def c x n past h d = by_test (same_dev d x) refl
   where
-    by_test : (b : Bool) → same_dev d x ≡ b → is_woken (entries.Return c x answers.Wake n ∷ past) d ≡ true
-        → is_unfinished (entries.Return c x answers.Wake n ∷ past) d ≡ (linking_flags (entries.Return c x answers.Wake n ∷ past) d).oneshot
+    by_test : (b : Bool) → same_dev d x ≡ b → is_woken (by.Cpu c (cpus.Return answers.Wake x n) ∷ past) d ≡ true
+        → is_unfinished (by.Cpu c (cpus.Return answers.Wake x n) ∷ past) d ≡ (linking_flags (by.Cpu c (cpus.Return answers.Wake x n) ∷ past) d).oneshot
     by_test true is = λ on. rw is (held_now (linking_flags past d).oneshot true)
     by_test false is = rw is (h d)
 
@@ -81,53 +85,50 @@ quiet_held f true s = refl
 quiet_held f false s = refl
 
 woken_held_more : (def : LineDef) (e : Entry) (past : List Entry) → IsValid def → IsDue def e past → Kept def past → IsWokenHeld past → IsWokenHeld (e ∷ past)
-woken_held_more def (entries.Return c x answers.Wake n) past valid due k h = wakes_held def c x n past h
-woken_held_more def (entries.Return c x answers.Handled n) past valid due k h = λ d on.
+woken_held_more def (by.Cpu c (cpus.Return answers.Wake x n)) past valid due k h = wakes_held def c x n past h
+woken_held_more def (by.Cpu c (cpus.Return answers.Handled x n)) past valid due k h = λ d on.
     rw (quiet_held (linking_flags past d).oneshot (same_dev d x)
     (stands (wakes d) (is_cleared_finish d) (since (links_dev d) past)))
     (h d (sym (answers_held (same_dev d x) (is_woken past d)) ∙ on))
-woken_held_more def (entries.Return c x answers.Nothing n) past valid due k h = λ d on.
+woken_held_more def (by.Cpu c (cpus.Return answers.Nothing x n)) past valid due k h = λ d on.
     rw (quiet_held (linking_flags past d).oneshot (same_dev d x)
     (stands (wakes d) (is_cleared_finish d) (since (links_dev d) past)))
     (h d (sym (answers_held (same_dev d x) (is_woken past d)) ∙ on))
-woken_held_more def (entries.ThreadBegin x) past valid due k h = λ d. by_test d (same_dev d x) refl
+woken_held_more def (by.Thread x threads.Begin) past valid due k h = λ d. by_test d (same_dev d x) refl
   where
-    by_test : (d : DevNo) (b : Bool) → same_dev d x ≡ b → is_woken (entries.ThreadBegin x ∷ past) d ≡ true
+    by_test : (d : DevNo) (b : Bool) → same_dev d x ≡ b → is_woken (by.Thread x threads.Begin ∷ past) d ≡ true
         → is_unfinished past d ≡ (linking_flags past d).oneshot
     by_test d true is = rw is (λ on. cc)
     by_test d false is = rw is (h d)
-woken_held_more def (entries.Finish x true unmask) past valid due k h = h
-woken_held_more def (entries.Finish x false unmask) past valid due k h = λ d. by_test d (same_dev d x) refl
+woken_held_more def (by.Thread x (threads.Finish true unmask)) past valid due k h = h
+woken_held_more def (by.Thread x (threads.Finish false unmask)) past valid due k h = λ d. by_test d (same_dev d x) refl
   where
     off : is_woken past x ≡ false
     off = sym (finish_due def x false unmask past due).kept_is
 
     by_test : (d : DevNo) (b : Bool) → same_dev d x ≡ b → is_woken past d ≡ true
-        → is_unfinished (entries.Finish x false unmask ∷ past) d ≡ (linking_flags past d).oneshot
+        → is_unfinished (by.Thread x (threads.Finish false unmask) ∷ past) d ≡ (linking_flags past d).oneshot
     by_test d true is = λ on. not_woken (is_woken past d) (ap (is_woken past) (dev_from_same d x is) ∙ off) on
     by_test d false is = rw is (h d)
-woken_held_more def (entries.Request r x flags links.Linked opened) past valid due k h = λ d. by_test d (same_dev d x) refl
+woken_held_more def (by.Driver r (drivers.Request flags links.Linked opened x)) past valid due k h = λ d. by_test d (same_dev d x) refl
   where
     by_test : (d : DevNo) (b : Bool) → same_dev d x ≡ b → is_woken past d ≡ true
-        → is_unfinished (entries.Request r x flags links.Linked opened ∷ past) d
-        ≡ (linking_flags (entries.Request r x flags links.Linked opened ∷ past) d).oneshot
+        → is_unfinished (by.Driver r (drivers.Request flags links.Linked opened x) ∷ past) d
+        ≡ (linking_flags (by.Driver r (drivers.Request flags links.Linked opened x) ∷ past) d).oneshot
     by_test d true is = λ on. not_woken (is_woken past d) (ap (is_woken past) (dev_from_same d x is) ∙ (at_rest def r x flags opened past valid due k).0) on
     by_test d false is = rw is (h d)
-woken_held_more def (entries.Request r x flags (links.Refused error) opened) past valid due k h = λ d. rw (no_part (same_dev d x)) (h d)
-woken_held_more def (entries.ThreadReturn x n) past valid due k h = h
-woken_held_more def (entries.Done x) past valid due k h = h
-woken_held_more def (entries.Ask r x) past valid due k h = h
-woken_held_more def (entries.Take c way answer) past valid due k h = h
-woken_held_more def (entries.Begin c x) past valid due k h = h
-woken_held_more def (entries.End c again unmask note) past valid due k h = h
-woken_held_more def (entries.Disable r) past valid due k h = h
-woken_held_more def (entries.HardClear r) past valid due k h = h
-woken_held_more def (entries.Synced r) past valid due k h = h
-woken_held_more def (entries.Enable r answer) past valid due k h = h
-woken_held_more def (entries.Unlink r x answer) past valid due k h = h
-woken_held_more def (entries.Freed r x) past valid due k h = h
-woken_held_more def (entries.Affinity r mask answer) past valid due k h = h
-woken_held_more def (entries.Moment r at) past valid due k h = h
+woken_held_more def (by.Driver r (drivers.Request flags (links.Refused error) opened x)) past valid due k h = λ d. rw (no_part (same_dev d x)) (h d)
+woken_held_more def (by.Thread x (threads.Return handled n)) past valid due k h = h
+woken_held_more def (by.Thread x threads.Done) past valid due k h = h
+woken_held_more def (by.Driver r (drivers.Ask edge x)) past valid due k h = h
+woken_held_more def (by.Cpu c (cpus.Take way answer)) past valid due k h = h
+woken_held_more def (by.Cpu c (cpus.Begin x)) past valid due k h = h
+woken_held_more def (by.Cpu c (cpus.End again unmask note)) past valid due k h = h
+woken_held_more def (by.CpuCall c call) past valid due k h = h
+woken_held_more def (by.ThreadCall x call) past valid due k h = h
+woken_held_more def (by.DriverCall r call) past valid due k h = h
+woken_held_more def (by.Driver r (drivers.Affinity answer mask)) past valid due k h = h
+woken_held_more def (by.Driver r (drivers.Moment at)) past valid due k h = h
 
 pub woken_held : (def : LineDef) (past : List Entry) → IsValid def → IsLegalPast def past → IsWokenHeld past
 woken_held def [] valid legal = λ d on. cc
@@ -172,84 +173,81 @@ row_ends r t false o w u a b h = by_test o h
 
 pub threads_more : (def : LineDef) (e : Entry) (past : List Entry) → IsValid def → IsDue def e past → Kept def past
     → IsWokenHeld past → threads_of def (e ∷ past) ≡ threads_after (is_oneshot past) e (threads_of def past)
-threads_more def (entries.Return c x answers.Wake n) past valid due k h =
+threads_more def (by.Cpu c (cpus.Return answers.Wake x n)) past valid due k h =
     let is = return_due def c x answers.Wake n past due in
     let on = called_there def past k x (k.runs.working x is.is_at_work).0 in
     let f = (linking_flags past x).oneshot in
     let s = stands (wakes x) (is_cleared_finish x) (since (links_dev x) past) in
     let st = stage_by (is_running past x) (has_returned past x) (has_finished past x) in
-    change_table (thread_of past) (thread_of (entries.Return c x answers.Wake n ∷ past)) (woken_row (is_oneshot past))
+    change_table (thread_of past) (thread_of (by.Cpu c (cpus.Return answers.Wake x n) ∷ past)) (woken_row (is_oneshot past))
     def.devices x valid.distinct (there def past x k on)
     (rw (same_self x) (woken_own (is_woken past x) (is_unfinished past x) s f (is_oneshot past) st (h x) refl (k.rest.flags x on)))
     (λ d apart. rw (other_way d x apart) refl)
-threads_more def (entries.Return c x answers.Handled n) past valid due k h
-    = same_table (thread_of past) (thread_of (entries.Return c x answers.Handled n ∷ past)) def.devices
+threads_more def (by.Cpu c (cpus.Return answers.Handled x n)) past valid due k h
+    = same_table (thread_of past) (thread_of (by.Cpu c (cpus.Return answers.Handled x n) ∷ past)) def.devices
     (λ d. rw (no_part (same_dev d x)) refl)
-threads_more def (entries.Return c x answers.Nothing n) past valid due k h
-    = same_table (thread_of past) (thread_of (entries.Return c x answers.Nothing n ∷ past)) def.devices
+threads_more def (by.Cpu c (cpus.Return answers.Nothing x n)) past valid due k h
+    = same_table (thread_of past) (thread_of (by.Cpu c (cpus.Return answers.Nothing x n) ∷ past)) def.devices
     (λ d. rw (no_part (same_dev d x)) refl)
-threads_more def (entries.ThreadBegin x) past valid due k h =
+threads_more def (by.Thread x threads.Begin) past valid due k h =
     let is = thread_begin_due def x past due in
-    change_table (thread_of past) (thread_of (entries.ThreadBegin x ∷ past)) begun_row def.devices x valid.distinct
+    change_table (thread_of past) (thread_of (by.Thread x threads.Begin ∷ past)) begun_row def.devices x valid.distinct
     (there def past x k (woken_there def past k x is.woken))
     (rw (same_self x, is.woken, is.not_running) refl) (λ d apart. rw (other_way d x apart) refl)
-threads_more def (entries.ThreadReturn x n) past valid due k h =
-    let is = thread_return_due def x n past due in
-    change_table (thread_of past) (thread_of (entries.ThreadReturn x n ∷ past)) returned_row def.devices x
+threads_more def (by.Thread x (threads.Return handled n)) past valid due k h =
+    let is = thread_return_due handled def x n past due in
+    change_table (thread_of past) (thread_of (by.Thread x (threads.Return handled n) ∷ past)) returned_row def.devices x
     valid.distinct (there def past x k (running_there def past k x is.running))
     (rw (same_self x, is.running, is.not_returned) refl) (λ d apart. rw (other_way d x apart) refl)
-threads_more def (entries.Finish x true unmask) past valid due k h =
+threads_more def (by.Thread x (threads.Finish true unmask)) past valid due k h =
     let is = finish_due def x true unmask past due in
     let f = (linking_flags past x).oneshot in
     let s = stands (wakes x) (is_cleared_finish x) (since (links_dev x) past) in
-    change_table (thread_of past) (thread_of (entries.Finish x true unmask ∷ past)) finished_row def.devices x
+    change_table (thread_of past) (thread_of (by.Thread x (threads.Finish true unmask) ∷ past)) finished_row def.devices x
     valid.distinct (there def past x k (running_there def past k x is.running))
     (rw (same_self x, is.running, is.returned, is.not_finished)
     (same_row (is_woken past x) (is_woken past x) stages.Finished stages.Finished (is_unfinished past x)
     (is_unfinished past x && is_woken past x) refl refl (finish_keeps f s (is_woken past x) (sym is.kept_is))))
     (λ d apart. rw (other_way d x apart) refl)
-threads_more def (entries.Finish x false unmask) past valid due k h =
+threads_more def (by.Thread x (threads.Finish false unmask)) past valid due k h =
     let is = finish_due def x false unmask past due in
     let f = (linking_flags past x).oneshot in
     let s = stands (wakes x) (is_cleared_finish x) (since (links_dev x) past) in
-    change_table (thread_of past) (thread_of (entries.Finish x false unmask ∷ past)) finished_row def.devices x
+    change_table (thread_of past) (thread_of (by.Thread x (threads.Finish false unmask) ∷ past)) finished_row def.devices x
     valid.distinct (there def past x k (running_there def past k x is.running))
     (rw (same_self x, is.running, is.returned, is.not_finished)
     (same_row (is_woken past x) (is_woken past x) stages.Finished stages.Finished (f && false)
     (is_unfinished past x && is_woken past x) refl refl
     (finish_clears f s (is_unfinished past x) (is_woken past x) (sym is.kept_is))))
     (λ d apart. rw (other_way d x apart) refl)
-threads_more def (entries.Done x) past valid due k h =
+threads_more def (by.Thread x threads.Done) past valid due k h =
     let is = done_due def x past due in
-    change_table (thread_of past) (thread_of (entries.Done x ∷ past)) (done_row (is_oneshot past)) def.devices x
+    change_table (thread_of past) (thread_of (by.Thread x threads.Done ∷ past)) (done_row (is_oneshot past)) def.devices x
     valid.distinct (there def past x k (running_there def past k x is.running))
     (rw (same_self x) (row_ends (is_running past x) (has_returned past x) (has_finished past x) (is_oneshot past)
     (is_woken past x) (is_unfinished past x) is.running is.returned is.all_done))
     (λ d apart. rw (other_way d x apart) refl)
-threads_more def (entries.Request r x flags links.Linked opened) past valid due k h =
-    same_table (thread_of past) (thread_of (entries.Request r x flags links.Linked opened ∷ past)) def.devices (λ d. by_test d (same_dev d x) refl)
+threads_more def (by.Driver r (drivers.Request flags links.Linked opened x)) past valid due k h =
+    same_table (thread_of past) (thread_of (by.Driver r (drivers.Request flags links.Linked opened x) ∷ past)) def.devices (λ d. by_test d (same_dev d x) refl)
   where
-    by_test : (d : DevNo) (b : Bool) → same_dev d x ≡ b → thread_of (entries.Request r x flags links.Linked opened ∷ past) d ≡ thread_of past d
+    by_test : (d : DevNo) (b : Bool) → same_dev d x ≡ b → thread_of (by.Driver r (drivers.Request flags links.Linked opened x) ∷ past) d ≡ thread_of past d
     by_test d true is =
         let e : d ≡ x = dev_from_same d x is in
         let off : is_unfinished past d ≡ false = ap (is_unfinished past) e ∙ (at_rest def r x flags opened past valid due k).2 in
         same_row (is_woken past d) (is_woken past d) _ _ _ (is_unfinished past d) refl refl (rw is (no_part flags.oneshot) ∙ sym off)
     by_test d false is = rw is refl
-threads_more def (entries.Request r x flags (links.Refused error) opened) past valid due k h
-    = same_table (thread_of past) (thread_of (entries.Request r x flags (links.Refused error) opened ∷ past))
+threads_more def (by.Driver r (drivers.Request flags (links.Refused error) opened x)) past valid due k h
+    = same_table (thread_of past) (thread_of (by.Driver r (drivers.Request flags (links.Refused error) opened x) ∷ past))
     def.devices (λ d. rw (no_part (same_dev d x)) refl)
-threads_more def (entries.Ask r x) past valid due k h = refl
-threads_more def (entries.Take c way answer) past valid due k h = refl
-threads_more def (entries.Begin c x) past valid due k h = refl
-threads_more def (entries.End c again unmask note) past valid due k h = refl
-threads_more def (entries.Disable r) past valid due k h = refl
-threads_more def (entries.HardClear r) past valid due k h = refl
-threads_more def (entries.Synced r) past valid due k h = refl
-threads_more def (entries.Enable r answer) past valid due k h = refl
-threads_more def (entries.Unlink r x answer) past valid due k h = refl
-threads_more def (entries.Freed r x) past valid due k h = refl
-threads_more def (entries.Affinity r mask answer) past valid due k h = refl
-threads_more def (entries.Moment r at) past valid due k h = refl
+threads_more def (by.Driver r (drivers.Ask edge x)) past valid due k h = refl
+threads_more def (by.Cpu c (cpus.Take way answer)) past valid due k h = refl
+threads_more def (by.Cpu c (cpus.Begin x)) past valid due k h = refl
+threads_more def (by.Cpu c (cpus.End again unmask note)) past valid due k h = refl
+threads_more def (by.CpuCall c call) past valid due k h = refl
+threads_more def (by.ThreadCall x call) past valid due k h = refl
+threads_more def (by.DriverCall r call) past valid due k h = refl
+threads_more def (by.Driver r (drivers.Affinity answer mask)) past valid due k h = refl
+threads_more def (by.Driver r (drivers.Moment at)) past valid due k h = refl
 
 pub threads_follow : (def : LineDef) (e : Entry) (past : List Entry) → IsValid def → IsLegalPast def (e ∷ past)
     → threads_of def (e ∷ past) ≡ threads_after (is_oneshot past) e (threads_of def past)

@@ -1,20 +1,25 @@
 -- The line's domains are active while something is linked or the last unlinked device is being
 -- freed.
 use Rattle.std.proofs.Common.{◌≡◌, ℕ, suc, zero, ◌+◌, ◌≤◌, ◌==◌, Bool, true, false, not, ◌||◌, ◌&&◌, cond, Option, Some}
-use Rattle.std.proofs.Common.{None, List, [], ◌∷◌, ◌++◌, filter, refl, sym, ap, ◌∙◌, arith}
+use Rattle.std.proofs.Common.{None, List, [], ◌∷◌, ◌++◌, filter, refl, sym, ap, subst, ◌∙◌, arith}
 use Rattle.std.specs.List.{list_any}
-use Rattle.std.proofs.lemmas.Bool.{or_left, or_right, or_parts}
+use Rattle.std.proofs.lemmas.Bool.{and_parts, and_from, or_left, or_right, or_parts}
 use Rattle.irq_base.specs.declared.calls.Call.TheVariants as calls
 use Rattle.irq_base.specs.declared.calls.Flags.{Flags}
+use Rattle.irq_base.specs.declared.entries.Actor.{Actor}
+use Rattle.irq_base.specs.declared.entries.Actor.TheVariants as actors
 use Rattle.irq_base.specs.declared.entries.Entry.{Entry}
-use Rattle.irq_base.specs.declared.entries.Entry.TheVariants as entries
+use Rattle.irq_base.specs.declared.entries.Entry.TheVariants as by
+use Rattle.irq_base.specs.declared.entries.DriverEntry.TheVariants as drivers
+use Rattle.irq_base.specs.declared.entries.CallEntry.TheVariants as called
 use Rattle.irq_base.specs.declared.entries.LinkAnswer.TheVariants as links
 use Rattle.irq_base.specs.declared.entries.Opened.{Opened}
 use Rattle.irq_base.specs.declared.entries.UnlinkAnswer.TheVariants as unlinks
 use Rattle.irq_base.specs.declared.lines.LineDef.{LineDef}
 use Rattle.irq_base.specs.declared.numbers.DevNo.{DevNo}
 use Rattle.irq_base.specs.declared.numbers.DriverNo.{DriverNo}
-use Rattle.irq_model.specs.Kinds.{same_dev, same_driver, is_last_unlink, is_freed_by}
+use Rattle.irq_base.specs.Who.{actor_of}
+use Rattle.irq_model.specs.Kinds.{same_dev, same_driver, is_by, is_call, ends_free, is_last_unlink, is_freed_by}
 use Rattle.irq_model.specs.Legal.{IsLegalPast}
 use Rattle.irq_model.specs.Links.{is_first_request, is_none_linked, is_linked, linked, is_empty}
 use Rattle.irq_model.specs.Next.{is_only}
@@ -23,10 +28,11 @@ use Rattle.irq_model.specs.Up.{is_up, is_some_entry, is_freed_last}
 use Rattle.irq_model.specs.Valid.{IsValid}
 use Rattle.irq_steps.proofs.LinkSteps.{linked_request, linked_unlink}
 use Rattle.irq_steps.proofs.ListSteps.{linked_refused, linked_not_there}
-use Rattle.irq_steps.proofs.Same.{same_self, same_self_driver, same_both, driver_from_same}
+use Rattle.irq_steps.proofs.Same.{same_self, same_self_driver, same_both, actor_from_same}
 use Rattle.irq_steps.proofs.Somewhere.{some_ext}
 use Rattle.irq_laws.proofs.ImpliesDriver.{unlink_due, freed_due}
 use Rattle.irq_laws.proofs.KeptAlways.{kept}
+use Rattle.irq_laws.proofs.OwnLaws.{no_cpu_call, no_thread_call}
 use Rattle.irq_laws.proofs.Requested.{of_linked}
 use Rattle.irq_laws.specs.Kept.{freeing}
 use Rattle.act_list.specs.Actions.{is_bare}
@@ -101,7 +107,7 @@ some_last [] d = refl
 some_last (x ∷ xs) d = refl
 
 pub some_after : (r : DriverNo) (x : DevNo) (flags : Flags) (opened : Opened) (past : List Entry)
-    → is_none_linked (entries.Request r x flags links.Linked opened ∷ past) ≡ false
+    → is_none_linked (by.Driver r (drivers.Request flags links.Linked opened x) ∷ past) ≡ false
 some_after r x flags opened past = ap is_empty (linked_request r x flags opened past) ∙ some_last (others x (linked past)) x
 
 -- a device that is taken off was there
@@ -116,16 +122,17 @@ some_before x past on = by_list (linked past) (of_linked (same_dev x) past x on 
 
 no_last : (def : LineDef) (past : List Entry) → IsLegalPast def past → is_none_linked past ≡ false → list_any is_last_unlink (since_first past) ≡ false
 no_last def [] legal some = refl
-no_last def (entries.Request r x flags links.Linked opened ∷ past) legal some
-    = any_since is_last_unlink (entries.Request r x flags links.Linked opened) past
+no_last def (by.Driver r (drivers.Request flags links.Linked opened x) ∷ past) legal some
+    = any_since is_last_unlink (by.Driver r (drivers.Request flags links.Linked opened x)) past
     ∙ by_test (is_none_linked past) (no_last def past legal.1)
   where
     by_test : (b : Bool) → (b ≡ false → list_any is_last_unlink (since_first past) ≡ false) → cond b false (list_any is_last_unlink (since_first past)) ≡ false
     by_test true rest = refl
     by_test false rest = rest refl
-no_last def (entries.Request r x flags (links.Refused error) opened ∷ past) legal some
+no_last def (by.Driver r (drivers.Request flags (links.Refused error) opened x) ∷ past) legal some
     = no_last def past legal.1 (sym (ap is_empty (linked_refused r x flags error opened past)) ∙ some)
-no_last def (entries.Unlink r x (unlinks.Unlinked last) ∷ past) legal some = by_test last refl (is_none_linked past) refl (no_last def past legal.1)
+no_last def (by.DriverCall r (called.Unlink (unlinks.Unlinked last) x) ∷ past) legal some
+    = by_test last refl (is_none_linked past) refl (no_last def past legal.1)
   where
     left : is_empty (others x (linked past)) ≡ false
     left = sym (ap is_empty (linked_unlink r x last past)) ∙ some
@@ -138,48 +145,51 @@ no_last def (entries.Unlink r x (unlinks.Unlinked last) ∷ past) legal some = b
         let w = last_when (is_linked past x) last (is_only x (linked past)) (unlink_due def r x (unlinks.Unlinked last) past legal.0).answer_is in
         both_ways (is_empty (others x (linked past))) (only_leaves x (linked past) (sym w.0 ∙ is)) left
     by_test false is false was rest = rest was
-no_last def (entries.Unlink r x unlinks.NotThere ∷ past) legal some = no_last def past legal.1 (sym (ap is_empty (linked_not_there r x past)) ∙ some)
+no_last def (by.DriverCall r (called.Unlink unlinks.NotThere x) ∷ past) legal some
+    = no_last def past legal.1 (sym (ap is_empty (linked_not_there r x past)) ∙ some)
+no_last def (by.CpuCall c call ∷ past) legal some = no_cpu_call def c call past legal.0
+no_last def (by.ThreadCall x call ∷ past) legal some = no_thread_call def x call past legal.0
 no_last def (e ∷ past) legal some = no_last def past legal.1 some
 
 -- ---- while nothing is linked, the driver that frees made the last unlink
 
-abbrev last_by : DriverNo → Entry → Bool
-last_by r (entries.Unlink driver dev (unlinks.Unlinked last)) = same_driver r driver && last
-last_by r _ = false
+abbrev last_by : Actor → Entry → Bool
+last_by a e = is_by a e && is_last_unlink e
 
 abbrev Frees : List Entry → DriverNo → DevNo → Type 0
 Frees past r d = freeing past ≡ Some (r, d)
 
 freed_last : (def : LineDef) (past : List Entry) (r : DriverNo) (d : DevNo) → IsLegalPast def past
-    → is_none_linked past ≡ true → freeing past ≡ Some (r, d) → list_any (last_by r) (since_first past) ≡ true
+    → is_none_linked past ≡ true → freeing past ≡ Some (r, d) → list_any (last_by (actors.Driver r)) (since_first past) ≡ true
 freed_last def [] r d legal none f = cc
-freed_last def (entries.Request s x flags links.Linked opened ∷ past) r d legal none f
-    = both_ways (is_none_linked (entries.Request s x flags links.Linked opened ∷ past)) none
+freed_last def (by.Driver s (drivers.Request flags links.Linked opened x) ∷ past) r d legal none f
+    = both_ways (is_none_linked (by.Driver s (drivers.Request flags links.Linked opened x) ∷ past)) none
     (some_after s x flags opened past)
-freed_last def (entries.Request s x flags (links.Refused error) opened ∷ past) r d legal none f
-    = freed_last def past r d legal.1 (sym (ap is_empty (linked_refused s x flags error opened past)) ∙ none) f
-freed_last def (entries.Unlink s x (unlinks.Unlinked last) ∷ past) r d legal none f =
+freed_last def (by.Driver s (drivers.Request flags (links.Refused error) opened x) ∷ past) r d legal none f
+    = or_right (same_driver r s && false) _
+    (freed_last def past r d legal.1 (sym (ap is_empty (linked_refused s x flags error opened past)) ∙ none) f)
+freed_last def (by.DriverCall s (called.Unlink (unlinks.Unlinked last) x) ∷ past) r d legal none f =
     let w = last_when (is_linked past x) last (is_only x (linked past)) (unlink_due def s x (unlinks.Unlinked last) past legal.0).answer_is in
     let left : is_empty (others x (linked past)) ≡ true = sym (ap is_empty (linked_unlink s x last past)) ∙ none in
     let is : last ≡ true = w.0 ∙ leaves_only x (linked past) (of_linked (same_dev x) past x w.1 (same_self x)) (linked_once x past) left in
     let own : r ≡ s = (let first : Option (DriverNo × DevNo) → DriverNo = λ o. driver_in r o in sym (ap first f)) in
-    or_left (same_driver r s && last) _ (rw is (ap (λ y. same_driver r y && true) (sym own) ∙ rw (same_self_driver r) refl))
+    or_left (same_driver r s && last) _ (and_from _ _ (subst (λ (y : DriverNo). same_driver r y ≡ true) own (same_self_driver r)) is)
   where
     driver_in : DriverNo → Option (DriverNo × DevNo) → DriverNo
     driver_in z None = z
     driver_in z (Some p) = p.0
-freed_last def (entries.Unlink s x unlinks.NotThere ∷ past) r d legal none f
-    = freed_last def past r d legal.1 (sym (ap is_empty (linked_not_there s x past)) ∙ none) f
-freed_last def (entries.Freed s x ∷ past) r d legal none f = cc
-freed_last def (e ∷ past) r d legal none f = freed_last def past r d legal.1 none f
+freed_last def (by.DriverCall s (called.Unlink unlinks.NotThere x) ∷ past) r d legal none f
+    = or_right (same_driver r s && false) _
+    (freed_last def past r d legal.1 (sym (ap is_empty (linked_not_there s x past)) ∙ none) f)
+freed_last def (by.DriverCall s (called.Freed x) ∷ past) r d legal none f = cc
+freed_last def (by.CpuCall c call ∷ past) r d legal none f = no_cpu_call def c call past legal.0
+freed_last def (by.ThreadCall x call ∷ past) r d legal none f = no_thread_call def x call past legal.0
+freed_last def (e ∷ past) r d legal none f = or_right (last_by (actors.Driver r) e) _ (freed_last def past r d legal.1 none f)
 
 -- ---- what an entry makes of it
 
 head_is : (a u : List Entry) (e : Entry) → is_last_unlink e ≡ false → is_freed_last a (e ∷ u) ≡ false
-head_is a u (entries.Unlink s x (unlinks.Unlinked true)) h = cc
-head_is a u (entries.Unlink s x (unlinks.Unlinked false)) h = refl
-head_is a u (entries.Unlink s x unlinks.NotThere) h = refl
-head_is a u e h = refl
+head_is a u e h = ap (λ b. b && list_any (is_freed_by (actor_of e)) a) h
 
 none_freed : (pre : List Entry → List Entry) (xs : List Entry) → list_any is_last_unlink xs ≡ false → some_place (λ a u. is_freed_last (pre a) u) xs ≡ false
 none_freed pre [] h = refl
@@ -187,55 +197,47 @@ none_freed pre (x ∷ xs) h =
     let n = or_parts (is_last_unlink x) (list_any is_last_unlink xs) h in
     rw (head_is (pre []) xs x n.0) (none_freed (λ a. pre (x ∷ a)) xs n.1)
 
-found : (r : DriverNo) (a u : List Entry) (e : Entry) → list_any (is_freed_by r) a ≡ true → last_by r e ≡ true → is_freed_last a (e ∷ u) ≡ true
-found r a u (entries.Unlink s x (unlinks.Unlinked true)) all h
-    = ap (λ y. list_any (is_freed_by y) a) (sym (driver_from_same r s (and_true (same_driver r s) h))) ∙ all
-  where
-    and_true : (b : Bool) → (b && true) ≡ true → b ≡ true
-    and_true true i = refl
-    and_true false i = cc
-found r a u (entries.Unlink s x (unlinks.Unlinked false)) all h = both_ways (same_driver r s && false) h (no_way (same_driver r s))
-  where
-    no_way : (b : Bool) → (b && false) ≡ false
-    no_way true = refl
-    no_way false = refl
-found r a u (entries.Unlink s x unlinks.NotThere) all h = cc
-found r a u e all h = cc
+found : (m : Actor) (a u : List Entry) (e : Entry) → list_any (is_freed_by m) a ≡ true → last_by m e ≡ true → is_freed_last a (e ∷ u) ≡ true
+found m a u e all h =
+    let p = and_parts (is_by m e) (is_last_unlink e) h in
+    and_from _ _ p.1 (subst (λ (y : Actor). list_any (is_freed_by y) a ≡ true) (actor_from_same m (actor_of e) p.0) all)
 
-some_freed : (r : DriverNo) (pre : List Entry → List Entry) (xs : List Entry)
-    → ((a : List Entry) → list_any (is_freed_by r) (pre a) ≡ true) → list_any (last_by r) xs ≡ true
+some_freed : (m : Actor) (pre : List Entry → List Entry) (xs : List Entry)
+    → ((a : List Entry) → list_any (is_freed_by m) (pre a) ≡ true) → list_any (last_by m) xs ≡ true
     → some_place (λ a u. is_freed_last (pre a) u) xs ≡ true
-some_freed r pre [] all h = cc
-some_freed r pre (x ∷ xs) all h = by_test (last_by r x) refl h (some_freed r (λ a. pre (x ∷ a)) xs (λ a. all (x ∷ a)))
+some_freed m pre [] all h = cc
+some_freed m pre (x ∷ xs) all h = by_test (last_by m x) refl h (some_freed m (λ a. pre (x ∷ a)) xs (λ a. all (x ∷ a)))
   where
-    by_test : (b : Bool) → last_by r x ≡ b → (b || list_any (last_by r) xs) ≡ true
-        → (list_any (last_by r) xs ≡ true → some_place (λ a u. is_freed_last (pre (x ∷ a)) u) xs ≡ true)
+    by_test : (b : Bool) → last_by m x ≡ b → (b || list_any (last_by m) xs) ≡ true
+        → (list_any (last_by m) xs ≡ true → some_place (λ a u. is_freed_last (pre (x ∷ a)) u) xs ≡ true)
         → some_place (λ a u. is_freed_last (pre a) u) (x ∷ xs) ≡ true
-    by_test true is i rest = or_left (is_freed_last (pre []) (x ∷ xs)) _ (found r (pre []) xs x (all []) is)
+    by_test true is i rest = or_left (is_freed_last (pre []) (x ∷ xs)) _ (found m (pre []) xs x (all []) is)
     by_test false is i rest = or_right (is_freed_last (pre []) (x ∷ xs)) _ (rest i)
 
 up_first : (e : Entry) (past : List Entry) → is_first_request (e ∷ past) ≡ true → is_up (e ∷ past) ≡ true
 up_first e past is = rw is refl
 
-not_yet : (e : Entry) (u : List Entry) → is_freed_last [] (e ∷ u) ≡ false
-not_yet (entries.Unlink s x (unlinks.Unlinked true)) u = refl
-not_yet (entries.Unlink s x (unlinks.Unlinked false)) u = refl
-not_yet (entries.Unlink s x unlinks.NotThere) u = refl
-not_yet e u = refl
+never : (b : Bool) → (b && false) ≡ false
+never true = refl
+never false = refl
 
-same_place : (e : Entry) (a u : List Entry) → ((r : DriverNo) → is_freed_by r e ≡ false) → is_freed_last (e ∷ a) u ≡ is_freed_last a u
+not_yet : (e : Entry) (u : List Entry) → is_freed_last [] (e ∷ u) ≡ false
+not_yet e u = never (is_last_unlink e)
+
+-- an entry that ends no free is the end of nobody's
+not_freed : (e : Entry) → is_call ends_free e ≡ false → (m : Actor) → is_freed_by m e ≡ false
+not_freed e h m = ap (λ b. is_by m e && b) h ∙ never (is_by m e)
+
+same_place : (e : Entry) (a u : List Entry) → is_call ends_free e ≡ false → is_freed_last (e ∷ a) u ≡ is_freed_last a u
 same_place e a [] h = refl
-same_place e a (entries.Unlink driver dev (unlinks.Unlinked true) ∷ u) h = rw (h driver) refl
-same_place e a (entries.Unlink driver dev (unlinks.Unlinked false) ∷ u) h = refl
-same_place e a (entries.Unlink driver dev unlinks.NotThere ∷ u) h = refl
-same_place e a (_ ∷ u) h = refl
+same_place e a (x ∷ u) h = ap (λ b. is_last_unlink x && (b || list_any (is_freed_by (actor_of x)) a)) (not_freed e h (actor_of x))
 
 up_later : (e : Entry) (past : List Entry) → is_first_request (e ∷ past) ≡ false
     → is_up (e ∷ past) ≡ (is_some_entry (upto_place is_first_request past) && not
     (some_place (λ a u. is_freed_last (e ∷ a) u) (since_first past)))
 up_later e past is = rw (is, not_yet e (since_first past)) refl
 
-up_quiet : (e : Entry) (past : List Entry) → is_first_request (e ∷ past) ≡ false → ((r : DriverNo) → is_freed_by r e ≡ false) → is_up (e ∷ past) ≡ is_up past
+up_quiet : (e : Entry) (past : List Entry) → is_first_request (e ∷ past) ≡ false → is_call ends_free e ≡ false → is_up (e ∷ past) ≡ is_up past
 up_quiet e past is h =
     up_later e past is
     ∙ ap (λ b. is_some_entry (upto_place is_first_request past) && not b)
@@ -248,7 +250,7 @@ some_count zero h = cc
 some_count (suc m) h = (m, refl)
 
 is_freeing : (def : LineDef) (r : DriverNo) (d : DevNo) (past : List Entry) → IsValid def
-    → IsLegalPast def (entries.Freed r d ∷ past) → freeing past ≡ Some (r, d)
+    → IsLegalPast def (by.DriverCall r (called.Freed d) ∷ past) → freeing past ≡ Some (r, d)
 is_freeing def r d past valid legal =
     let is = freed_due def r d past legal.0 in
     let n = some_count is.count is.not_first in
@@ -267,12 +269,12 @@ first_part true b h = refl
 first_part false b h = cc
 
 freed_ends : (def : LineDef) (r : DriverNo) (d : DevNo) (past : List Entry) → IsValid def
-    → IsLegalPast def (entries.Freed r d ∷ past) → is_up past ≡ true
-    → is_up (entries.Freed r d ∷ past) ≡ not (is_none_linked past)
+    → IsLegalPast def (by.DriverCall r (called.Freed d) ∷ past) → is_up past ≡ true
+    → is_up (by.DriverCall r (called.Freed d) ∷ past) ≡ not (is_none_linked past)
 freed_ends def r d past valid legal up = by_test (is_none_linked past) refl
   where
     e : Entry
-    e = entries.Freed r d
+    e = by.DriverCall r (called.Freed d)
 
     started : is_some_entry (upto_place is_first_request past) ≡ true
     started = first_part (is_some_entry (upto_place is_first_request past)) (not (some_place is_freed_last (since_first past))) up
@@ -281,8 +283,8 @@ freed_ends def r d past valid legal up = by_test (is_none_linked past) refl
     by_test true none =
         let last = freed_last def past r d legal.1 none (is_freeing def r d past valid legal) in
         let ended : some_place (λ a u. is_freed_last (e ∷ a) u) (since_first past)
-        ≡ true = some_freed r (λ a. e ∷ a) (since_first past)
-        (λ a. or_left (is_freed_by r e) _ (same_self_driver r)) last in
+        ≡ true = some_freed (actors.Driver r) (λ a. e ∷ a) (since_first past)
+        (λ a. or_left (is_freed_by (actors.Driver r) e) _ (and_from _ _ (same_self_driver r) refl)) last in
         up_later e past refl ∙ rw (started, ended) refl
     by_test false some =
         let stays : some_place (λ a u. is_freed_last (e ∷ a) u) (since_first past)
@@ -290,57 +292,61 @@ freed_ends def r d past valid legal up = by_test (is_none_linked past) refl
         up_later e past refl ∙ rw (started, stays) refl
 
 was_up : (def : LineDef) (r : DriverNo) (d : DevNo) (past : List Entry) → IsValid def
-    → IsLegalPast def (entries.Freed r d ∷ past) → is_up past ≡ up_by (is_none_linked past) (freeing past)
+    → IsLegalPast def (by.DriverCall r (called.Freed d) ∷ past) → is_up past ≡ up_by (is_none_linked past) (freeing past)
     → is_up past ≡ true
 was_up def r d past valid legal was = was ∙ (ap (λ o. up_by (is_none_linked past) o)
     (is_freeing def r d past valid legal) ∙ or_some (not (is_none_linked past)))
 
 pub up_is : (def : LineDef) (past : List Entry) → IsValid def → IsLegalPast def past → is_up past ≡ up_by (is_none_linked past) (freeing past)
 up_is def [] valid legal = refl
-up_is def (entries.Request r x flags links.Linked opened ∷ past) valid legal =
+up_is def (by.Driver r (drivers.Request flags links.Linked opened x) ∷ past) valid legal =
     by_test (is_none_linked past) refl (up_is def past valid legal.1) ∙ sym (ap (λ b. up_by b (freeing past)) (some_after r x flags opened past))
   where
     e : Entry
-    e = entries.Request r x flags links.Linked opened
+    e = by.Driver r (drivers.Request flags links.Linked opened x)
 
     by_test : (b : Bool) → is_none_linked past ≡ b → is_up past ≡ up_by (is_none_linked past) (freeing past) → is_up (e ∷ past) ≡ true
     by_test true none was = up_first e past none
-    by_test false some was = up_quiet e past some (λ s. refl) ∙ (was ∙ ap (λ b. up_by b (freeing past)) some)
-up_is def (entries.Request r x flags (links.Refused error) opened ∷ past) valid legal =
-    up_quiet (entries.Request r x flags (links.Refused error) opened) past refl (λ s. refl)
+    by_test false some was = up_quiet e past some refl ∙ (was ∙ ap (λ b. up_by b (freeing past)) some)
+up_is def (by.Driver r (drivers.Request flags (links.Refused error) opened x) ∷ past) valid legal =
+    up_quiet (by.Driver r (drivers.Request flags (links.Refused error) opened x)) past refl refl
     ∙ (up_is def past valid legal.1 ∙ sym (ap (λ b. up_by b (freeing past)) (ap is_empty (linked_refused r x flags error opened past))))
-up_is def (entries.Unlink r x (unlinks.Unlinked last) ∷ past) valid legal =
+up_is def (by.DriverCall r (called.Unlink (unlinks.Unlinked last) x) ∷ past) valid legal =
     let w = last_when (is_linked past x) last (is_only x (linked past)) (unlink_due def r x (unlinks.Unlinked last) past legal.0).answer_is in
-    up_quiet (entries.Unlink r x (unlinks.Unlinked last)) past refl (λ s. refl)
+    up_quiet (by.DriverCall r (called.Unlink (unlinks.Unlinked last) x)) past refl refl
     ∙ (up_is def past valid legal.1 ∙ (ap (λ b. up_by b (freeing past)) (some_before x past w.1)
-    ∙ sym (or_some (not (is_none_linked (entries.Unlink r x (unlinks.Unlinked last) ∷ past))))))
-up_is def (entries.Unlink r x unlinks.NotThere ∷ past) valid legal =
-    up_quiet (entries.Unlink r x unlinks.NotThere) past refl (λ s. refl)
+    ∙ sym (or_some (not (is_none_linked (by.DriverCall r (called.Unlink (unlinks.Unlinked last) x) ∷ past))))))
+up_is def (by.DriverCall r (called.Unlink unlinks.NotThere x) ∷ past) valid legal =
+    up_quiet (by.DriverCall r (called.Unlink unlinks.NotThere x)) past refl refl
     ∙ (up_is def past valid legal.1 ∙ sym (ap (λ b. up_by b (freeing past))
     (ap is_empty (linked_not_there r x past))))
-up_is def (entries.Freed r d ∷ past) valid legal = freed_ends def r d past valid legal
+up_is def (by.DriverCall r (called.Freed d) ∷ past) valid legal = freed_ends def r d past valid legal
     (was_up def r d past valid legal (up_is def past valid legal.1)) ∙ sym (or_none (not (is_none_linked past)))
-up_is def (e ∷ past) valid legal = up_quiet e past refl (λ s. refl) ∙ up_is def past valid legal.1
+up_is def (by.CpuCall c call ∷ past) valid legal = no_cpu_call def c call past legal.0
+up_is def (by.ThreadCall x call ∷ past) valid legal = no_thread_call def x call past legal.0
+up_is def (e ∷ past) valid legal = up_quiet e past refl refl ∙ up_is def past valid legal.1
 
 -- ---- what an entry makes of it
 
 active_by : (def : LineDef) (e : Entry) (past : List Entry) → IsValid def → IsLegalPast def (e ∷ past)
     → is_up (e ∷ past) ≡ active_after (is_none_linked past) e (is_up past)
-active_by def (entries.Request r x flags links.Linked opened) past valid legal = by_test (is_none_linked past) refl
+active_by def (by.Driver r (drivers.Request flags links.Linked opened x)) past valid legal = by_test (is_none_linked past) refl
   where
-    by_test : (b : Bool) → is_none_linked past ≡ b → is_up (entries.Request r x flags links.Linked opened ∷ past) ≡ (b || is_up past)
-    by_test true none = up_first (entries.Request r x flags links.Linked opened) past none
-    by_test false some = up_quiet (entries.Request r x flags links.Linked opened) past some (λ s. refl)
-active_by def (entries.Request r x flags (links.Refused error) opened) past valid legal
-    = up_quiet (entries.Request r x flags (links.Refused error) opened) past refl (λ s. refl)
-active_by def (entries.Freed r d) past valid legal =
+    by_test : (b : Bool) → is_none_linked past ≡ b → is_up (by.Driver r (drivers.Request flags links.Linked opened x) ∷ past) ≡ (b || is_up past)
+    by_test true none = up_first (by.Driver r (drivers.Request flags links.Linked opened x)) past none
+    by_test false some = up_quiet (by.Driver r (drivers.Request flags links.Linked opened x)) past some refl
+active_by def (by.Driver r (drivers.Request flags (links.Refused error) opened x)) past valid legal
+    = up_quiet (by.Driver r (drivers.Request flags (links.Refused error) opened x)) past refl refl
+active_by def (by.DriverCall r (called.Freed d)) past valid legal =
     let up = was_up def r d past valid legal (up_is def past valid legal.1) in
     freed_ends def r d past valid legal up ∙ (sym (and_some (not (is_none_linked past))) ∙ sym (ap (λ b. not (is_none_linked past) && b) up))
   where
     and_some : (b : Bool) → (b && true) ≡ b
     and_some true = refl
     and_some false = refl
-active_by def e past valid legal = up_quiet e past refl (λ s. refl)
+active_by def (by.CpuCall c call) past valid legal = no_cpu_call def c call past legal.0
+active_by def (by.ThreadCall x call) past valid legal = no_thread_call def x call past legal.0
+active_by def e past valid legal = up_quiet e past refl refl
 
 pub active_follows : (def : LineDef) (e : Entry) (past : List Entry) → IsValid def → IsLegalPast def (e ∷ past)
     → is_up (e ∷ past) ≡ active_after (is_bare (actions_of past)) e (is_up past)

@@ -3,7 +3,11 @@ use Rattle.std.specs.Prelude.{if◌then◌else◌, List, [], ◌∷◌, ◌++◌
 use Rattle.std.specs.Map.{remove_entry}
 use Rattle.irq_base.specs.declared.calls.Flags.{Flags}
 use Rattle.irq_base.specs.declared.entries.Entry.{Entry}
-use Rattle.irq_base.specs.declared.entries.Entry.TheVariants as entries
+use Rattle.irq_base.specs.declared.entries.Entry.TheVariants as by
+use Rattle.irq_base.specs.declared.entries.CpuEntry.TheVariants as cpus
+use Rattle.irq_base.specs.declared.entries.DriverEntry.TheVariants as drivers
+use Rattle.irq_base.specs.declared.entries.CallEntry.{CallEntry}
+use Rattle.irq_base.specs.declared.entries.CallEntry.TheVariants as called
 use Rattle.irq_base.specs.declared.entries.LinkAnswer.TheVariants as links
 use Rattle.irq_base.specs.declared.entries.UnlinkAnswer.TheVariants as unlinks
 use Rattle.irq_base.specs.declared.lines.LineDef.{LineDef}
@@ -26,11 +30,18 @@ flags_by f (d ∷ ds) = (d, f d) ∷ flags_by f ds
 abbrev pub linked_flags : List Entry → List (DevNo × Flags)
 linked_flags past = flags_by (linking_flags past) (linked past)
 
+-- what the step of a call makes of the actions, whoever makes it
+abbrev pub actions_by_call : CallEntry → List (DevNo × Action) → List (DevNo × Action)
+actions_by_call (called.Unlink (unlinks.Unlinked last) dev) t = remove_entry (same_dev dev) t
+actions_by_call _ t = t
+
 -- what an entry makes of the actions
 abbrev pub actions_after : Entry → List (DevNo × Action) → List (DevNo × Action)
-actions_after (entries.Request driver dev flags links.Linked opened) t =
+actions_after (by.Driver driver (drivers.Request flags links.Linked opened dev)) t =
     t ++ (dev, action_by flags t) ∷ []
-actions_after (entries.Unlink driver dev (unlinks.Unlinked last)) t = remove_entry (same_dev dev) t
+actions_after (by.CpuCall cpu call) t = actions_by_call call t
+actions_after (by.ThreadCall dev call) t = actions_by_call call t
+actions_after (by.DriverCall driver call) t = actions_by_call call t
 actions_after _ t = t
 
 -- the linked devices with their actions: a one-shot action got the lowest thread bit that was free
@@ -47,10 +58,17 @@ list_of def past = record {
   rounds = count_of (begins_round def) past;
 }
 
+abbrev pub list_by_call : CallEntry → ListSeen → ListSeen
+list_by_call (called.Unlink (unlinks.Unlinked last) dev) l = after_unlink dev l
+list_by_call _ l = l
+
 -- a linked request adds its action, an unlink takes an action out, a begin marks its device, and a
 -- new round clears all marks
 abbrev pub list_after : LineDef → Entry → ListSeen → ListSeen
-list_after def (entries.Request driver dev flags answer opened) l = after_link answer dev flags l
-list_after def (entries.Unlink driver dev (unlinks.Unlinked last)) l = after_unlink dev l
-list_after def (entries.Begin cpu dev) l = after_begin dev l
+list_after def (by.Driver driver (drivers.Request flags answer opened dev)) l
+    = after_link answer dev flags l
+list_after def (by.CpuCall cpu call) l = list_by_call call l
+list_after def (by.ThreadCall dev call) l = list_by_call call l
+list_after def (by.DriverCall driver call) l = list_by_call call l
+list_after def (by.Cpu cpu (cpus.Begin dev)) l = after_begin dev l
 list_after def e l = if begins_round def e then after_begin_round l else l

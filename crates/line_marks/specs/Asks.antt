@@ -3,7 +3,10 @@ use Rattle.std.specs.Prelude.{ℕ, Bool, true, false, List}
 use Rattle.irq_base.specs.declared.devices.Kind.{Kind}
 use Rattle.irq_base.specs.declared.devices.Kind.TheVariants as device_kinds
 use Rattle.irq_base.specs.declared.entries.Entry.{Entry}
-use Rattle.irq_base.specs.declared.entries.Entry.TheVariants as entries
+use Rattle.irq_base.specs.declared.entries.Entry.TheVariants as by
+use Rattle.irq_base.specs.declared.entries.CpuEntry.TheVariants as cpus
+use Rattle.irq_base.specs.declared.entries.ThreadEntry.TheVariants as threads
+use Rattle.irq_base.specs.declared.entries.DriverEntry.TheVariants as drivers
 use Rattle.irq_base.specs.declared.lines.LineDef.{LineDef}
 use Rattle.irq_base.specs.declared.numbers.DevNo.{DevNo}
 use Rattle.irq_model.specs.Asks.{begins_serving, unserved_by}
@@ -43,12 +46,13 @@ is_threaded _ = false
 
 -- an entry of a run counts as serving if the device's kind says so
 abbrev pub asks_after : List (DevNo × Kind) → Entry → List (DevNo × AskRow) → List (DevNo × AskRow)
-asks_after kinds (entries.Ask driver dev) t = change asked t dev
-asks_after kinds (entries.Begin cpu dev) t = change (called (is_direct (kind_at kinds dev))) t dev
-asks_after kinds (entries.Return cpu dev answer n) t =
+asks_after kinds (by.Driver driver (drivers.Ask edge dev)) t = change asked t dev
+asks_after kinds (by.Cpu cpu (cpus.Begin dev)) t
+    = change (called (is_direct (kind_at kinds dev))) t dev
+asks_after kinds (by.Cpu cpu (cpus.Return answer dev n)) t =
     change (served (is_direct (kind_at kinds dev))) t dev
-asks_after kinds (entries.ThreadBegin dev) t =
+asks_after kinds (by.Thread dev threads.Begin) t =
     change (begun (is_threaded (kind_at kinds dev))) t dev
-asks_after kinds (entries.ThreadReturn dev n) t =
+asks_after kinds (by.Thread dev (threads.Return handled n)) t =
     change (served (is_threaded (kind_at kinds dev))) t dev
 asks_after kinds _ t = t

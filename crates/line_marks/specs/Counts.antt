@@ -1,8 +1,11 @@
 -- The counts of the rule on spurious interrupts, read off a line's past, and what an entry makes of
 -- them.
-use Rattle.std.specs.Prelude.{if◌then◌else◌, nat_lt, List}
+use Rattle.std.specs.Prelude.{if◌then◌else◌, List}
 use Rattle.irq_base.specs.declared.entries.Entry.{Entry}
-use Rattle.irq_base.specs.declared.entries.Entry.TheVariants as entries
+use Rattle.irq_base.specs.declared.entries.Entry.TheVariants as by
+use Rattle.irq_base.specs.declared.entries.CpuEntry.TheVariants as cpus
+use Rattle.irq_base.specs.declared.entries.ThreadEntry.TheVariants as threads
+use Rattle.irq_base.specs.declared.entries.DriverEntry.TheVariants as drivers
 use Rattle.irq_base.specs.declared.entries.LinkAnswer.TheVariants as links
 use Rattle.irq_base.specs.declared.lines.LineDef.{LineDef}
 use Rattle.irq_model.specs.Spurious.{counts_of}
@@ -15,7 +18,8 @@ tally_of def past = record { window = def.window; limit = def.limit; counts = co
 
 -- what an entry makes of the counts; the round is the one before the entry
 abbrev pub tally_after : Entry → RoundSeen → CountsSeen → CountsSeen
-tally_after (entries.ThreadReturn dev served) r c = if nat_lt 0 served then after_thread c else c
-tally_after (entries.Request driver dev flags links.Linked opened) r c = after_reset c
-tally_after (entries.End cpu again unmask note) r c = after_note r.moment r.wakes r.handles c
+tally_after (by.Thread dev (threads.Return handled served)) r c
+    = if handled then after_thread c else c
+tally_after (by.Driver driver (drivers.Request flags links.Linked opened dev)) r c = after_reset c
+tally_after (by.Cpu cpu (cpus.End again unmask note)) r c = after_note r.moment r.wakes r.handles c
 tally_after _ r c = c

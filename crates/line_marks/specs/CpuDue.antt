@@ -4,7 +4,8 @@ use Rattle.irq_base.specs.Cell.{signals}
 use Rattle.irq_base.specs.Handlers.{answer_of}
 use Rattle.irq_base.specs.declared.devices.Part.TheVariants as parts
 use Rattle.irq_base.specs.declared.entries.Entry.{Entry}
-use Rattle.irq_base.specs.declared.entries.Entry.TheVariants as entries
+use Rattle.irq_base.specs.declared.entries.Entry.TheVariants as by
+use Rattle.irq_base.specs.declared.entries.CpuEntry.TheVariants as cpus
 use Rattle.irq_base.specs.declared.entries.Note.{Note}
 use Rattle.irq_base.specs.declared.entries.TakeAnswer.{TakeAnswer}
 use Rattle.irq_base.specs.declared.entries.Way.TheVariants as ways
@@ -36,8 +37,9 @@ met_by None = 0
 met_by (Some r) = r.met_by_handler
 
 abbrev pub return_by : StateSeen → CpuNo → DevNo → ℕ → Entry
-return_by s c d met = entries.Return c d (answer_of (kind_at s.kinds d) parts.Primary met)
-    (served_by_handler (kind_at s.kinds d) met)
+return_by s c d met =
+    by.Cpu c (cpus.Return (answer_of (kind_at s.kinds d) parts.Primary met) d
+    (served_by_handler (kind_at s.kinds d) met))
 
 -- the note of the round
 abbrev pub note_by : StateSeen → Note
@@ -45,7 +47,7 @@ note_by s = (noted_at s.round.moment s.round.wakes s.round.handles s.counts).not
 
 -- the end of the round, by what the flow handler leaves after the note
 abbrev pub end_with : CpuNo → Note → LeaveAnswer → Entry
-end_with c note left = entries.End c left.again left.unmask note
+end_with c note left = by.Cpu c (cpus.End left.again left.unmask note)
 
 abbrev pub end_by : LineDef → StateSeen → CpuNo → Entry
 end_by def s c =
@@ -53,7 +55,7 @@ end_by def s c =
 
 abbrev pub begin_or_end_by : LineDef → StateSeen → CpuNo → Option DevNo → Entry
 begin_or_end_by def s c None = end_by def s c
-begin_or_end_by def s c (Some d) = entries.Begin c d
+begin_or_end_by def s c (Some d) = by.Cpu c (cpus.Begin d)
 
 -- the handler that is at work returns; else the first handler that is left is called; else the
 -- round ends
@@ -69,8 +71,8 @@ take_by s = answer_by (not (is_bare s.list.actions)) s.desc
 abbrev pub next_take_by : StateSeen → CpuNo → Option Entry
 next_take_by s c =
     if not (is_cpu c (lowest_in s.aim.cpus s.aim.mask)) then None
-    else (if signals s.cell then Some (entries.Take c ways.Line (take_by s))
-    else (if s.desc.soft then Some (entries.Take c ways.Resend (take_by s)) else None))
+    else (if signals s.cell then Some (by.Cpu c (cpus.Take ways.Line (take_by s)))
+    else (if s.desc.soft then Some (by.Cpu c (cpus.Take ways.Resend (take_by s))) else None))
 
 abbrev pub cpu_due : LineDef → StateSeen → CpuNo → Option Entry
 cpu_due def s c =

@@ -1,10 +1,14 @@
 -- The entry that is due of a driver, read off its due call and the state of the line.
-use Rattle.std.specs.Prelude.{ℕ, ◌==◌, not, if◌then◌else◌, is_some, Option, Some, None}
+use Rattle.std.specs.Prelude.{ℕ, ◌==◌, true, not, if◌then◌else◌, is_some, Option, Some, None}
+use Rattle.std.specs.Prelude.{option_map}
 use Rattle.irq_base.specs.declared.calls.Call.{Call}
 use Rattle.irq_base.specs.declared.calls.Call.TheVariants as calls
 use Rattle.irq_base.specs.declared.calls.Flags.{Flags}
 use Rattle.irq_base.specs.declared.entries.Entry.{Entry}
-use Rattle.irq_base.specs.declared.entries.Entry.TheVariants as entries
+use Rattle.irq_base.specs.declared.entries.Entry.TheVariants as by
+use Rattle.irq_base.specs.declared.entries.DriverEntry.TheVariants as drivers
+use Rattle.irq_base.specs.declared.entries.CallEntry.{CallEntry}
+use Rattle.irq_base.specs.declared.entries.CallEntry.TheVariants as called
 use Rattle.irq_base.specs.declared.entries.LinkAnswer.{LinkAnswer}
 use Rattle.irq_base.specs.declared.entries.LinkAnswer.TheVariants as links
 use Rattle.irq_base.specs.declared.entries.Opened.{Opened}
@@ -33,41 +37,48 @@ opened_by def flags s =
 
 abbrev pub request_to : LineDef → DriverNo → DevNo → Flags → StateSeen → LinkAnswer → Entry
 request_to def r d flags s links.Linked =
-    entries.Request r d flags links.Linked (opened_by def flags s)
+    by.Driver r (drivers.Request flags links.Linked (opened_by def flags s) d)
 request_to def r d flags s (links.Refused error) =
-    entries.Request r d flags (links.Refused error) opens.No
+    by.Driver r (drivers.Request flags (links.Refused error) opens.No d)
 
 -- what a call waits for: the end of the flow, all threads at rest, the device's thread at rest, the
 -- mutex
-abbrev pub clear_by : DriverNo → StateSeen → Option Entry
-clear_by r s = if is_some s.desc.flow then None else Some (entries.HardClear r)
+abbrev pub clear_by : StateSeen → Option CallEntry
+clear_by s = if is_some s.desc.flow then None else Some called.HardClear
 
-abbrev pub synced_by : DriverNo → StateSeen → Option Entry
-synced_by r s = if active_in s.threads == 0 then Some (entries.Synced r) else None
+abbrev pub synced_by : StateSeen → Option CallEntry
+synced_by s = if active_in s.threads == 0 then Some called.Synced else None
 
-abbrev pub freed_by : DriverNo → DevNo → StateSeen → Option Entry
-freed_by r d s = if is_idle_at s.threads d then Some (entries.Freed r d) else None
+abbrev pub freed_by : DevNo → StateSeen → Option CallEntry
+freed_by d s = if is_idle_at s.threads d then Some (called.Freed d) else None
 
-abbrev pub free_by : DriverNo → DevNo → ℕ → StateSeen → Option Entry
-free_by r d n s =
+abbrev pub free_by : DevNo → ℕ → StateSeen → Option CallEntry
+free_by d n s =
     if n == 0
     then (if is_some s.freeing then None
-    else Some (entries.Unlink r d (unlink_by d s.list.actions)))
-    else (if n == 1 then clear_by r s else freed_by r d s)
+    else Some (called.Unlink (unlink_by d s.list.actions) d))
+    else (if n == 1 then clear_by s else freed_by d s)
+
+abbrev pub disable_by : ℕ → StateSeen → Option CallEntry
+disable_by n s =
+    if n == 0 then Some called.Disable else (if n == 1 then clear_by s else synced_by s)
+
+abbrev pub sync_by : ℕ → StateSeen → Option CallEntry
+sync_by n s = if n == 0 then clear_by s else synced_by s
 
 abbrev pub driver_due : LineDef → StateSeen → DriverNo → Option (Call × ℕ) → Option Entry
 driver_due def s r None = None
-driver_due def s r (Some (calls.Ask d, n)) = Some (entries.Ask r d)
+driver_due def s r (Some (calls.Ask d, n)) = Some (by.Driver r (drivers.Ask true d))
 driver_due def s r (Some (calls.Request d flags, n)) =
     if is_some s.freeing then None
     else Some (request_to def r d flags s (answer_by (kind_at s.kinds d) flags s.list.actions))
-driver_due def s r (Some (calls.Free d, n)) = free_by r d n s
-driver_due def s r (Some (calls.Disable, n)) =
-    if n == 0 then Some (entries.Disable r) else (if n == 1 then clear_by r s else synced_by r s)
-driver_due def s r (Some (calls.DisableNosync, n)) = Some (entries.Disable r)
+driver_due def s r (Some (calls.Free d, n)) = option_map (by.DriverCall r) (free_by d n s)
+driver_due def s r (Some (calls.Disable, n)) = option_map (by.DriverCall r) (disable_by n s)
+driver_due def s r (Some (calls.DisableNosync, n)) = Some (by.DriverCall r called.Disable)
 driver_due def s r (Some (calls.Enable, n)) =
-    Some (entries.Enable r (enable_by (not (is_bare s.list.actions)) def.trigger s.desc s.cell))
-driver_due def s r (Some (calls.Sync, n)) = if n == 0 then clear_by r s else synced_by r s
+    Some (by.DriverCall r (called.Enable
+    (enable_by (not (is_bare s.list.actions)) def.trigger s.desc s.cell)))
+driver_due def s r (Some (calls.Sync, n)) = option_map (by.DriverCall r) (sync_by n s)
 driver_due def s r (Some (calls.Affinity mask, n)) =
-    Some (entries.Affinity r mask (set_answer s.aim mask))
-driver_due def s r (Some (calls.Moment at, n)) = Some (entries.Moment r at)
+    Some (by.Driver r (drivers.Affinity (set_answer s.aim mask) mask))
+driver_due def s r (Some (calls.Moment at, n)) = Some (by.Driver r (drivers.Moment at))

@@ -2,8 +2,10 @@
 use Rattle.std.specs.Prelude.{ℕ, ◌-◌, Bool, not, ◌&&◌, if◌then◌else◌, nat_lt, is_some, Option}
 use Rattle.std.specs.Prelude.{Some, None}
 use Rattle.irq_base.specs.declared.entries.Entry.{Entry}
-use Rattle.irq_base.specs.declared.entries.Entry.TheVariants as entries
+use Rattle.irq_base.specs.declared.entries.Entry.TheVariants as by
+use Rattle.irq_base.specs.declared.entries.ThreadEntry.TheVariants as threads
 use Rattle.irq_base.specs.declared.numbers.DevNo.{DevNo}
+use Rattle.irq_model.specs.Next.{thread_return}
 use Rattle.device_table.specs.Rows.{at}
 use Rattle.device_table.specs.Sums.{one_if}
 use Rattle.act_thread.specs.Threads.{held_in}
@@ -32,13 +34,14 @@ abbrev pub after_return : StateSeen → DevNo → ThreadRow → Option Entry
 after_return s d r =
     if s.desc.oneshot
     then (if is_some s.desc.flow then None
-    else Some (entries.Finish d r.woken (finish_opens s r))) else Some (entries.Done d)
+    else Some (by.Thread d (threads.Finish r.woken (finish_opens s r))))
+    else Some (by.Thread d threads.Done)
 
 abbrev pub due_at_stage : Stage → StateSeen → DevNo → ThreadRow → Option Entry
-due_at_stage stages.Idle s d r = if r.woken then Some (entries.ThreadBegin d) else None
-due_at_stage stages.Begun s d r = Some (entries.ThreadReturn d (met_in (at s.asks d)))
+due_at_stage stages.Idle s d r = if r.woken then Some (by.Thread d threads.Begin) else None
+due_at_stage stages.Begun s d r = Some (thread_return d (met_in (at s.asks d)))
 due_at_stage stages.Returned s d r = after_return s d r
-due_at_stage stages.Finished s d r = Some (entries.Done d)
+due_at_stage stages.Finished s d r = Some (by.Thread d threads.Done)
 
 abbrev pub due_of_row : StateSeen → DevNo → Option ThreadRow → Option Entry
 due_of_row s d None = None

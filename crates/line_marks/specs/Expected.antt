@@ -2,7 +2,12 @@
 -- answers are the state's, and the counts have room.
 use Rattle.std.specs.Prelude.{◌≡◌, ◌<◌, ◌-◌, ◌^◌, true, false, not}
 use Rattle.irq_base.specs.declared.entries.Entry.{Entry}
-use Rattle.irq_base.specs.declared.entries.Entry.TheVariants as entries
+use Rattle.irq_base.specs.declared.entries.Entry.TheVariants as by
+use Rattle.irq_base.specs.declared.entries.CpuEntry.TheVariants as cpus
+use Rattle.irq_base.specs.declared.entries.ThreadEntry.TheVariants as threads
+use Rattle.irq_base.specs.declared.entries.DriverEntry.TheVariants as drivers
+use Rattle.irq_base.specs.declared.entries.CallEntry.{CallEntry}
+use Rattle.irq_base.specs.declared.entries.CallEntry.TheVariants as called
 use Rattle.irq_base.specs.declared.entries.LinkAnswer.{LinkAnswer}
 use Rattle.irq_base.specs.declared.entries.LinkAnswer.TheVariants as links
 use Rattle.irq_base.specs.declared.entries.Opened.{Opened}
@@ -40,21 +45,29 @@ abbrev pub opened_with : LineDef → Flags → StateSeen → LinkAnswer → Open
 opened_with def flags s links.Linked = opened_by def flags s
 opened_with def flags s (links.Refused error) = opens.No
 
+-- of the step of a call, whoever makes it
+abbrev pub IsExpectedCall : LineDef → CallEntry → StateSeen → Type 0
+IsExpectedCall def called.Disable s = HasDepth s
+IsExpectedCall def (called.Enable answer) s =
+    answer ≡ enable_by (not (is_bare s.list.actions)) def.trigger s.desc s.cell
+IsExpectedCall def (called.Unlink answer dev) s = answer ≡ unlink_by dev s.list.actions
+IsExpectedCall def _ s = Unit {0}
+
 abbrev pub IsExpected : LineDef → Entry → StateSeen → Type 0
-IsExpected def (entries.Ask driver dev) s = HasRoom (at s.asks dev)
-IsExpected def (entries.Take cpu way answer) s = (answer ≡ take_by s) × HasRounds s
-IsExpected def (entries.End cpu again unmask note) s =
-    (entries.End cpu again unmask note ≡ end_with cpu (note_by s)
+IsExpected def (by.Driver driver (drivers.Ask edge dev)) s = HasRoom (at s.asks dev)
+IsExpected def (by.Cpu cpu (cpus.Take way answer)) s = (answer ≡ take_by s) × HasRounds s
+IsExpected def (by.Cpu cpu (cpus.End again unmask note)) s =
+    (by.Cpu cpu (cpus.End again unmask note) ≡ end_with cpu (note_by s)
     (left_by def def.flow (is_held s) (killed_if (note_by s) s.desc)))
     × HasRounds s × HasDepth s × IsOpen def s
-IsExpected def (entries.ThreadReturn dev served) s = s.counts.counts.threads_handled < 2 ^ 32 - 1
-IsExpected def (entries.Disable driver) s = HasDepth s
-IsExpected def (entries.Enable driver answer) s =
-    answer ≡ enable_by (not (is_bare s.list.actions)) def.trigger s.desc s.cell
-IsExpected def (entries.Request driver dev flags answer opened) s =
+IsExpected def (by.Thread dev (threads.Return handled served)) s
+    = s.counts.counts.threads_handled < 2 ^ 32 - 1
+IsExpected def (by.Driver driver (drivers.Request flags answer opened dev)) s =
     (has dev s.list.actions ≡ false)
     × (answer ≡ link_answer_by (kind_at s.kinds dev) flags s.list.actions)
     × (opened ≡ opened_with def flags s answer)
-IsExpected def (entries.Unlink driver dev answer) s = answer ≡ unlink_by dev s.list.actions
-IsExpected def (entries.Affinity driver mask answer) s = answer ≡ set_answer s.aim mask
+IsExpected def (by.Driver driver (drivers.Affinity answer mask)) s = answer ≡ set_answer s.aim mask
+IsExpected def (by.CpuCall cpu call) s = IsExpectedCall def call s
+IsExpected def (by.ThreadCall dev call) s = IsExpectedCall def call s
+IsExpected def (by.DriverCall driver call) s = IsExpectedCall def call s
 IsExpected def _ s = Unit {0}

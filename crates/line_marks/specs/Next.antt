@@ -1,12 +1,11 @@
 -- The entry that is due of an actor, read off the state of the line and the driver's due call.
-use Rattle.std.specs.Prelude.{ℕ, if◌then◌else◌, Option, None, List}
+use Rattle.std.specs.Prelude.{ℕ, Option, List}
 use Rattle.irq_base.specs.declared.calls.Call.{Call}
 use Rattle.irq_base.specs.declared.entries.Actor.{Actor}
 use Rattle.irq_base.specs.declared.entries.Actor.TheVariants as actors
 use Rattle.irq_base.specs.declared.entries.Entry.{Entry}
 use Rattle.irq_base.specs.declared.lines.LineDef.{LineDef}
 use Rattle.irq_base.specs.declared.numbers.DriverNo.{DriverNo}
-use Rattle.irq_model.specs.Kinds.{same_line}
 use Rattle.irq_steps.specs.Laid.{with_count}
 use Rattle.line_scripts.specs.Rows.{RowSeen, call_of, within_of}
 use Rattle.line_marks.specs.CpuDue.{cpu_due}
@@ -19,7 +18,6 @@ abbrev pub due_call_in : List (DriverNo × RowSeen) → DriverNo → Option (Cal
 due_call_in scripts r = with_count (call_of scripts r) (within_of scripts r)
 
 abbrev pub due_by : LineDef → StateSeen → List (DriverNo × RowSeen) → Actor → Option Entry
-due_by def s scripts (actors.Thread line d) =
-    if same_line line def.line then thread_due s d else None
+due_by def s scripts (actors.Thread d) = thread_due s d
 due_by def s scripts (actors.Cpu c) = cpu_due def s c
 due_by def s scripts (actors.Driver r) = driver_due def s r (due_call_in scripts r)

@@ -1,7 +1,8 @@
 -- The round of a line's flow, read off its past, and what an entry makes of it.
 use Rattle.std.specs.Prelude.{ℕ, Bool, false, ◌||◌, if◌then◌else◌, max, Option, Some, List}
 use Rattle.irq_base.specs.declared.entries.Entry.{Entry}
-use Rattle.irq_base.specs.declared.entries.Entry.TheVariants as entries
+use Rattle.irq_base.specs.declared.entries.Entry.TheVariants as by
+use Rattle.irq_base.specs.declared.entries.DriverEntry.TheVariants as drivers
 use Rattle.irq_base.specs.declared.lines.LineDef.{LineDef}
 use Rattle.irq_base.specs.declared.numbers.DevNo.{DevNo}
 use Rattle.irq_model.specs.Kinds.{is_begin_or_return, returns_wake, returns_handled}
@@ -28,7 +29,7 @@ round_of def past = record {
 
 -- a moment moves on, never back
 abbrev pub now_after : Entry → ℕ → ℕ
-now_after (entries.Moment driver at) n = max at n
+now_after (by.Driver driver (drivers.Moment at)) n = max at n
 now_after _ n = n
 
 -- a round's marks: an entry that begins a round clears them, a return sets what its handler

@@ -4,11 +4,17 @@ use Rattle.std.specs.Prelude.{◌≡◌, ℕ, Bool, false, ◌&&◌, if◌then�
 use Rattle.irq_base.specs.Cell.{Cell, fresh_cell, after_edge, after_high}
 use Rattle.irq_base.specs.declared.devices.Kind.{Kind}
 use Rattle.irq_base.specs.declared.entries.Entry.{Entry}
-use Rattle.irq_base.specs.declared.entries.Entry.TheVariants as entries
+use Rattle.irq_base.specs.declared.entries.Entry.TheVariants as by
+use Rattle.irq_base.specs.declared.entries.CpuEntry.TheVariants as cpus
+use Rattle.irq_base.specs.declared.entries.ThreadEntry.TheVariants as threads
+use Rattle.irq_base.specs.declared.entries.DriverEntry.TheVariants as drivers
+use Rattle.irq_base.specs.declared.entries.CallEntry.{CallEntry}
+use Rattle.irq_base.specs.declared.entries.CallEntry.TheVariants as called
 use Rattle.irq_base.specs.declared.lines.LineDef.{LineDef}
 use Rattle.irq_base.specs.declared.numbers.DevNo.{DevNo}
 use Rattle.irq_base.specs.declared.numbers.DriverNo.{DriverNo}
-use Rattle.irq_model.specs.Kinds.{is_kill, is_last_unlink, is_chip_start, is_start}
+use Rattle.irq_model.specs.Kinds.{is_kill, is_chip_start, is_start, unlinks_last}
+use Rattle.irq_model.specs.Kinds.{opened_by_enable, is_chip_opened, is_started_opened}
 use Rattle.irq_model.specs.Lines.{is_edge_line, is_level_line, serves}
 use Rattle.irq_model.specs.Signal.{lowest_in}
 use Rattle.irq_model.specs.Spurious.{no_counts}
@@ -94,30 +100,35 @@ first_state def = record {
 abbrev pub high_in : List (DevNo × AskRow) → Bool
 high_in t = nat_lt 0 (how_many is_waiting t)
 
+-- what the step of a call does to the cell, whoever makes it
+abbrev pub called_to : CallEntry → DescSeen → Cell → Cell
+called_to called.Disable d c = masked_if d.unlazy c
+called_to (called.Unlink answer dev) d c = masked_if (unlinks_last (called.Unlink answer dev)) c
+called_to (called.Enable answer) d c = retriggered_if (is_chip_opened (opened_by_enable answer))
+    (unmasked_if (is_started_opened (opened_by_enable answer)) c)
+called_to _ d c = c
+
 -- what the entry does to the cell, given the descriptor before it, and whether some ask is unserved
 -- after it
 abbrev pub driven_by : LineDef → Entry → DescSeen → Bool → Cell → Cell
-driven_by def (entries.Ask driver dev) d high c =
-    if is_edge_line def then after_edge c else after_high high c
-driven_by def (entries.Return cpu dev answer count) d high c =
+driven_by def (by.Driver driver (drivers.Ask edge dev)) d high c =
+    if is_edge_line def then (if edge then after_edge c else c) else after_high high c
+driven_by def (by.Cpu cpu (cpus.Return answer dev count)) d high c =
     if is_level_line def && nat_lt 0 count then after_high high c else c
-driven_by def (entries.ThreadReturn dev count) d high c =
+driven_by def (by.Thread dev (threads.Return handled count)) d high c =
     if is_level_line def && nat_lt 0 count then after_high high c else c
-driven_by def (entries.Take cpu way answer) d high c =
+driven_by def (by.Cpu cpu (cpus.Take way answer)) d high c =
     taken def def.flow d.oneshot answer (accepted way c)
-driven_by def (entries.End cpu again unmask note) d high c
+driven_by def (by.Cpu cpu (cpus.End again unmask note)) d high c
     = ended def def.flow again unmask (masked_if
-    (is_kill (entries.End cpu again unmask note) && d.unlazy) c)
-driven_by def (entries.Finish dev kept unmask) d high c = unmasked_if unmask c
-driven_by def (entries.Disable driver) d high c = masked_if d.unlazy c
-driven_by def (entries.Unlink driver dev answer) d high c =
-    masked_if (is_last_unlink (entries.Unlink driver dev answer)) c
-driven_by def (entries.Request driver dev flags answer opened) d high c =
-    retriggered_if (is_chip_start (entries.Request driver dev flags answer opened))
-    (unmasked_if (is_start (entries.Request driver dev flags answer opened)) c)
-driven_by def (entries.Enable driver answer) d high c =
-    retriggered_if (is_chip_start (entries.Enable driver answer))
-    (unmasked_if (is_start (entries.Enable driver answer)) c)
+    (is_kill (by.Cpu cpu (cpus.End again unmask note)) && d.unlazy) c)
+driven_by def (by.Thread dev (threads.Finish kept unmask)) d high c = unmasked_if unmask c
+driven_by def (by.Driver driver (drivers.Request flags answer opened dev)) d high c =
+    retriggered_if (is_chip_start (by.Driver driver (drivers.Request flags answer opened dev)))
+    (unmasked_if (is_start (by.Driver driver (drivers.Request flags answer opened dev))) c)
+driven_by def (by.CpuCall cpu call) d high c = called_to call d c
+driven_by def (by.ThreadCall dev call) d high c = called_to call d c
+driven_by def (by.DriverCall driver call) d high c = called_to call d c
 driven_by def _ d high c = c
 
 -- what an entry makes of each part

@@ -6,7 +6,9 @@ ghost use Rattle.irq_base.specs.declared.calls.Flags.{Flags};
 ghost use Rattle.irq_base.specs.declared.entries.Actor.{Actor};
 ghost use Rattle.irq_base.specs.declared.entries.Actor.TheVariants as actors;
 ghost use Rattle.irq_base.specs.declared.entries.Entry.{Entry};
-ghost use Rattle.irq_base.specs.declared.entries.Entry.TheVariants as entries;
+ghost use Rattle.irq_base.specs.declared.entries.Entry.TheVariants as by;
+ghost use Rattle.irq_base.specs.declared.entries.CpuEntry.TheVariants as cpus;
+ghost use Rattle.irq_base.specs.declared.entries.DriverEntry.TheVariants as drivers;
 ghost use Rattle.irq_base.specs.declared.entries.LinkAnswer.TheVariants as links;
 ghost use Rattle.irq_base.specs.declared.entries.Note.{Note};
 ghost use Rattle.irq_base.specs.declared.entries.Opened.{Opened};
@@ -40,7 +42,7 @@ ghost use Rattle.line_marks.specs.State.{StateSeen, state_of, state_after};
 pub fn thread_due_is_told()
     ensures law { (def : LineDef) (past : List Entry) (d : DevNo) → IsValid def
         → IsLegalPast def past
-        → next_past def past (actors.Thread def.line d) ≡ thread_due (state_of def past) d }
+        → next_past def past (actors.Thread d) ≡ thread_due (state_of def past) d }
 {}
 
 /// What is due of a processor: in its flow the return of the handler at work, the next handler's
@@ -100,7 +102,7 @@ pub fn due_is_expected()
 pub fn take_is_its_parts()
     ensures law { (def : LineDef) (cpu : CpuNo) (way : Way) (answer : TakeAnswer) (s : StateSeen)
         → IsValid def
-        → state_after def (entries.Take cpu way answer) s
+        → state_after def (by.Cpu cpu (cpus.Take way answer)) s
         ≡ handling_from answer (moved (entered def def.flow answer cpu (arrived way s))) }
 {}
 
@@ -108,9 +110,9 @@ pub fn take_is_its_parts()
 #[tactic(auto, using(crate::proofs::Ends::end_is))]
 pub fn end_is_its_parts()
     ensures law { (def : LineDef) (c : CpuNo) (again unmask : Bool) (note : Note) (s : StateSeen)
-        → entries.End c again unmask note
+        → by.Cpu c (cpus.End again unmask note)
         ≡ end_with c (note_by s) (left_by def def.flow (is_held s) (killed_if (note_by s) s.desc))
-        → state_after def (entries.End c again unmask note) s
+        → state_after def (by.Cpu c (cpus.End again unmask note)) s
         ≡ gone_on def again (left_at def def.flow (is_held s) (killed_by note (noted_at s))) }
 {}
 
@@ -120,7 +122,7 @@ pub fn end_is_its_parts()
 pub fn request_is_its_parts()
     ensures law { (def : LineDef) (r : DriverNo) (d : DevNo) (flags : Flags) (opened : Opened)
         (s : StateSeen) → opened ≡ opened_by def flags s
-        → state_after def (entries.Request r d flags links.Linked opened) s
+        → state_after def (by.Driver r (drivers.Request flags links.Linked opened d)) s
         ≡ opened_to (is_bare s.list.actions) opened
         (activated_if (is_bare s.list.actions) (linked_at d flags s)) }
 {}

@@ -1,20 +1,22 @@
 -- Whether an entry is the last of its call.
 use Rattle.std.proofs.Common.{◌≡◌, ◌⊎◌, inl, inr, ℕ, zero, suc, ◌+◌, ◌==◌, Bool, true, false, not, cond, if◌then◌else◌}
-use Rattle.std.proofs.Common.{Some, None, List, [], ◌∷◌, ◌++◌, length, drop, min, nat_lt, nat_le, refl, sym, ap, subst}
+use Rattle.std.proofs.Common.{Option, option_map, Some, None, List, [], ◌∷◌, ◌++◌, length, drop, min, nat_lt, nat_le, refl, sym, ap, subst}
 use Rattle.std.proofs.Common.{◌∙◌, arith, length-append}
 use Rattle.std.proofs.lemmas.Bool.{ltb-true, le-ltb}
 use Rattle.std.proofs.lemmas.Bool.Decides.{nat_tests}
 use Rattle.irq_base.specs.declared.calls.Call.{Call}
 use Rattle.irq_base.specs.declared.calls.Call.TheVariants as calls
 use Rattle.irq_base.specs.declared.entries.Entry.{Entry}
-use Rattle.irq_base.specs.declared.entries.Entry.TheVariants as entries
+use Rattle.irq_base.specs.declared.entries.Entry.TheVariants as by
+use Rattle.irq_base.specs.declared.entries.CallEntry.{CallEntry}
+use Rattle.irq_base.specs.declared.entries.CallEntry.TheVariants as called
 use Rattle.irq_base.specs.declared.entries.UnlinkAnswer.{UnlinkAnswer}
 use Rattle.irq_base.specs.declared.entries.UnlinkAnswer.TheVariants as unlinks
 use Rattle.irq_base.specs.declared.lines.LineDef.{LineDef}
 use Rattle.irq_base.specs.declared.numbers.DevNo.{DevNo}
 use Rattle.irq_base.specs.declared.numbers.DriverNo.{DriverNo}
-use Rattle.irq_model.specs.Due.{calls_by, entries_by, begins_not_there, entries_of_call, due_of, due_call, holds_mutex}
-use Rattle.irq_model.specs.Kinds.{is_by_driver}
+use Rattle.irq_model.specs.Due.{finds_nothing, calls_by, entries_by, begins_not_there, entries_of_call, due_of, due_call, holds_mutex}
+use Rattle.irq_model.specs.Kinds.{is_call, is_by_driver}
 use Rattle.irq_model.specs.Next.{next_of_call, unlink_answer, hard_clear_of, synced_of, freed_of, next_of_free, next_of_disable, next_of_sync}
 use Rattle.irq_laws.proofs.Chosen.{the_same, from_else, from_then}
 use Rattle.irq_laws.proofs.Lists.{both_ways}
@@ -22,8 +24,7 @@ use Rattle.irq_laws.proofs.Progress.{Standing, standing, same_count, due_at, ent
 use Rattle.line_scripts.specs.Endings.{completes}
 
 abbrev is_not_there : Entry → Bool
-is_not_there (entries.Unlink driver dev unlinks.NotThere) = true
-is_not_there _ = false
+is_not_there e = is_call finds_nothing e
 
 -- by the number of the entries that stand before it: the entry is the last of its call
 abbrev pub completes_at : Call → ℕ → Entry → Bool
@@ -34,84 +35,99 @@ completes_at _ n e = true
 
 -- ---- what the entry itself tells
 
-of_unlink : (r : DriverNo) (d dev : DevNo) (a : UnlinkAnswer) → completes (calls.Free dev) (entries.Unlink r d a) ≡ is_not_there (entries.Unlink r d a)
+of_unlink : (r : DriverNo) (d dev : DevNo) (a : UnlinkAnswer)
+    → completes (calls.Free dev) (by.DriverCall r (called.Unlink a d)) ≡ is_not_there (by.DriverCall r (called.Unlink a d))
 of_unlink r d dev unlinks.NotThere = refl
 of_unlink r d dev (unlinks.Unlinked last) = refl
 
-hard : (def : LineDef) (r : DriverNo) (past : List Entry) (e : Entry) → hard_clear_of def r past ≡ Some e → entries.HardClear r ≡ e
-hard def r past e is = (from_else _ (entries.HardClear r) e is).1
+hard : (def : LineDef) (past : List Entry) (k : CallEntry) → hard_clear_of def past ≡ Some k → called.HardClear ≡ k
+hard def past k is = (from_else _ called.HardClear k is).1
 
-synced : (def : LineDef) (r : DriverNo) (past : List Entry) (e : Entry) → synced_of def r past ≡ Some e → entries.Synced r ≡ e
-synced def r past e is = (from_then _ (entries.Synced r) e is).1
+synced : (def : LineDef) (past : List Entry) (k : CallEntry) → synced_of def past ≡ Some k → called.Synced ≡ k
+synced def past k is = (from_then _ called.Synced k is).1
 
 -- of the entries that a free makes after the first, the second isn't the last and the third is
-free_next : (def : LineDef) (r : DriverNo) (dev : DevNo) (n : ℕ) (past : List Entry) (e : Entry)
-    → next_of_free def r dev n past ≡ Some e → completes (calls.Free dev) e ≡ completes_at (calls.Free dev) n e
-free_next def r dev zero past e is =
-    let u : entries.Unlink r dev (unlink_answer dev past) ≡ e = (from_else (holds_mutex past) (entries.Unlink r dev (unlink_answer dev past)) e is).1 in
-    subst (λ (f : Entry). completes (calls.Free dev) f ≡ is_not_there f) u (of_unlink r dev dev (unlink_answer dev past))
-free_next def r dev (suc zero) past e is = subst (λ (f : Entry). completes (calls.Free dev) f ≡ false) (hard def r past e is) refl
-free_next def r dev (suc (suc n)) past e is = later (suc (suc n) == 0) (suc (suc n) == 1) (grind (arith, nat_tests)) (grind (arith, nat_tests)) is
+free_next : (def : LineDef) (r : DriverNo) (dev : DevNo) (n : ℕ) (past : List Entry) (k : CallEntry)
+    → next_of_free def dev n past ≡ Some k
+    → completes (calls.Free dev) (by.DriverCall r k) ≡ completes_at (calls.Free dev) n (by.DriverCall r k)
+free_next def r dev zero past k is =
+    let u : called.Unlink (unlink_answer dev past) dev ≡ k = (from_else (holds_mutex past) (called.Unlink (unlink_answer dev past) dev) k is).1 in
+    subst (λ (f : CallEntry). completes (calls.Free dev) (by.DriverCall r f) ≡ is_not_there (by.DriverCall r f)) u
+    (of_unlink r dev dev (unlink_answer dev past))
+free_next def r dev (suc zero) past k is =
+    subst (λ (f : CallEntry). completes (calls.Free dev) (by.DriverCall r f) ≡ false) (hard def past k is) refl
+free_next def r dev (suc (suc n)) past k is = later (suc (suc n) == 0) (suc (suc n) == 1) (grind (arith, nat_tests)) (grind (arith, nat_tests)) is
   where
     later : (a b : Bool) → a ≡ false → b ≡ false → cond a
-        (cond (holds_mutex past) None (Some (entries.Unlink r dev (unlink_answer dev past))))
-        (cond b (hard_clear_of def r past) (freed_of r dev past)) ≡ Some e
-        → completes (calls.Free dev) e ≡ completes_at (calls.Free dev) (suc (suc n)) e
+        (cond (holds_mutex past) None (Some (called.Unlink (unlink_answer dev past) dev)))
+        (cond b (hard_clear_of def past) (freed_of dev past)) ≡ Some k
+        → completes (calls.Free dev) (by.DriverCall r k) ≡ completes_at (calls.Free dev) (suc (suc n)) (by.DriverCall r k)
     later false false x y is =
-        let f : entries.Freed r dev ≡ e = (from_else _ (entries.Freed r dev) e is).1 in
-        subst (λ (f : Entry). completes (calls.Free dev) f ≡ true) f refl
+        let f : called.Freed dev ≡ k = (from_else _ (called.Freed dev) k is).1 in
+        subst (λ (f : CallEntry). completes (calls.Free dev) (by.DriverCall r f) ≡ true) f refl
         ∙ sym (third (suc (suc n) == 0) (grind (arith, nat_tests)) (nat_le 2 (suc (suc n)))
         (grind (arith, nat_tests)))
       where
-        third : (a : Bool) → a ≡ false → (b : Bool) → b ≡ true → cond a (is_not_there e) b ≡ true
+        third : (a : Bool) → a ≡ false → (b : Bool) → b ≡ true → cond a (is_not_there (by.DriverCall r k)) b ≡ true
         third true x b y = cc
         third false x b y = y
     later true b x y is = cc
     later false true x y is = cc
 
-disable_next : (def : LineDef) (r : DriverNo) (n : ℕ) (past : List Entry) (e : Entry)
-    → next_of_disable def r n past ≡ Some e → completes calls.Disable e ≡ completes_at calls.Disable n e
-disable_next def r zero past e is = subst (λ (f : Entry). completes calls.Disable f ≡ false) (the_same (entries.Disable r) e is) refl
-disable_next def r (suc zero) past e is = subst (λ (f : Entry). completes calls.Disable f ≡ false) (hard def r past e is) refl
-disable_next def r (suc (suc n)) past e is = later (suc (suc n) == 0) (suc (suc n) == 1) (grind (arith, nat_tests)) (grind (arith, nat_tests)) is
+disable_next : (def : LineDef) (r : DriverNo) (n : ℕ) (past : List Entry) (k : CallEntry)
+    → next_of_disable def n past ≡ Some k
+    → completes calls.Disable (by.DriverCall r k) ≡ completes_at calls.Disable n (by.DriverCall r k)
+disable_next def r zero past k is =
+    subst (λ (f : CallEntry). completes calls.Disable (by.DriverCall r f) ≡ false) (the_same called.Disable k is) refl
+disable_next def r (suc zero) past k is =
+    subst (λ (f : CallEntry). completes calls.Disable (by.DriverCall r f) ≡ false) (hard def past k is) refl
+disable_next def r (suc (suc n)) past k is = later (suc (suc n) == 0) (suc (suc n) == 1) (grind (arith, nat_tests)) (grind (arith, nat_tests)) is
   where
-    later : (a b : Bool) → a ≡ false → b ≡ false → cond a (Some (entries.Disable r))
-        (cond b (hard_clear_of def r past) (synced_of def r past)) ≡ Some e
-        → completes calls.Disable e ≡ nat_le 2 (suc (suc n))
+    later : (a b : Bool) → a ≡ false → b ≡ false → cond a (Some called.Disable)
+        (cond b (hard_clear_of def past) (synced_of def past)) ≡ Some k
+        → completes calls.Disable (by.DriverCall r k) ≡ nat_le 2 (suc (suc n))
     later false false x y is =
-        subst (λ (f : Entry). completes calls.Disable f ≡ true) (synced def r past e is) refl
+        subst (λ (f : CallEntry). completes calls.Disable (by.DriverCall r f) ≡ true) (synced def past k is) refl
         ∙ sym (let t : nat_le 2 (suc (suc n)) ≡ true = grind (arith, nat_tests) in t)
     later true b x y is = cc
     later false true x y is = cc
 
-sync_next : (def : LineDef) (r : DriverNo) (n : ℕ) (past : List Entry) (e : Entry) → next_of_sync def r n past ≡ Some e
-    → completes calls.Sync e ≡ completes_at calls.Sync n e
-sync_next def r zero past e is = subst (λ (f : Entry). completes calls.Sync f ≡ false) (hard def r past e is) refl
-sync_next def r (suc n) past e is = later (suc n == 0) (grind (arith, nat_tests)) is
+sync_next : (def : LineDef) (r : DriverNo) (n : ℕ) (past : List Entry) (k : CallEntry) → next_of_sync def n past ≡ Some k
+    → completes calls.Sync (by.DriverCall r k) ≡ completes_at calls.Sync n (by.DriverCall r k)
+sync_next def r zero past k is =
+    subst (λ (f : CallEntry). completes calls.Sync (by.DriverCall r f) ≡ false) (hard def past k is) refl
+sync_next def r (suc n) past k is = later (suc n == 0) (grind (arith, nat_tests)) is
   where
-    later : (a : Bool) → a ≡ false → cond a (hard_clear_of def r past) (synced_of def r past) ≡ Some e → completes calls.Sync e ≡ nat_le 1 (suc n)
-    later false x is = subst (λ (f : Entry). completes calls.Sync f ≡ true) (synced def r past e is) refl
+    later : (a : Bool) → a ≡ false → cond a (hard_clear_of def past) (synced_of def past) ≡ Some k
+        → completes calls.Sync (by.DriverCall r k) ≡ nat_le 1 (suc n)
+    later false x is = subst (λ (f : CallEntry). completes calls.Sync (by.DriverCall r f) ≡ true) (synced def past k is) refl
         ∙ sym (let t : nat_le 1 (suc n) ≡ true = grind (arith, nat_tests) in t)
     later true x is = cc
+
+-- the same of the driver's entry
+of_call : (c : Call) (n : ℕ) (r : DriverNo) (o : Option CallEntry) (e : Entry)
+    → ((k : CallEntry) → o ≡ Some k → completes c (by.DriverCall r k) ≡ completes_at c n (by.DriverCall r k))
+    → option_map (by.DriverCall r) o ≡ Some e → completes c e ≡ completes_at c n e
+of_call c n r None e each is = cc
+of_call c n r (Some k) e each is =
+    subst (λ (f : Entry). completes c f ≡ completes_at c n f) (the_same (by.DriverCall r k) e is) (each k refl)
 
 -- whether the entry that is due is the last one
 pub last_is : (def : LineDef) (r : DriverNo) (past : List Entry) (c : Call) (n : ℕ) (e : Entry)
     → next_of_call def r past (Some (c, n)) ≡ Some e → completes c e ≡ completes_at c n e
 last_is def r past (calls.Ask dev) n e is = refl
 last_is def r past (calls.Request dev flags) n e is = refl
-last_is def r past (calls.Free dev) n e is = free_next def r dev n past e is
-last_is def r past calls.Disable n e is = disable_next def r n past e is
+last_is def r past (calls.Free dev) n e is = of_call (calls.Free dev) n r (next_of_free def dev n past) e (free_next def r dev n past) is
+last_is def r past calls.Disable n e is = of_call calls.Disable n r (next_of_disable def n past) e (disable_next def r n past) is
 last_is def r past calls.DisableNosync n e is = refl
 last_is def r past calls.Enable n e is = refl
-last_is def r past calls.Sync n e is = sync_next def r n past e is
+last_is def r past calls.Sync n e is = of_call calls.Sync n r (next_of_sync def n past) e (sync_next def r n past) is
 last_is def r past (calls.Affinity mask) n e is = refl
 last_is def r past (calls.Moment at) n e is = refl
 
 -- ---- what is due behind it
 
 begins_is : (e : Entry) → begins_not_there (e ∷ []) ≡ is_not_there e
-begins_is (entries.Unlink driver dev unlinks.NotThere) = refl
-begins_is (entries.Unlink driver dev (unlinks.Unlinked last)) = refl
 begins_is e = refl
 
 -- with one entry more than n, a call of 1, 2 or 3 entries is incomplete or not

@@ -1,8 +1,9 @@
 //! Which entry of a call is its last.
 ghost use Rattle.std.specs.Prelude.{◌≡◌};
-ghost use Rattle.line_scripts.specs.Endings.{completes, ends_free};
+ghost use Rattle.irq_model.specs.Kinds.{is_synced};
+ghost use Rattle.line_scripts.specs.Endings.{completes, ends_free, finishes_free};
 
-use irq_base::{Call, Entry, UnlinkAnswer};
+use irq_base::{Call, CallEntry, Entry, UnlinkAnswer};
 
 /// Whether this entry, one of the call's, completes the call. A disable or a synchronisation ends
 /// with `Synced`, a free with `Freed` or with an unlink that found nothing; any other call makes
@@ -11,7 +12,7 @@ pub fn completes(call: Call, entry: &Entry) -> bool
     ensures { result ≡ completes call entry.now }
 {
     match call {
-        Call::Disable | Call::Sync => matches!(*entry, Entry::Synced { .. }),
+        Call::Disable | Call::Sync => is_synced(entry),
         Call::Free { .. } => ends_free(entry),
         Call::Ask { .. }
         | Call::Request { .. }
@@ -22,28 +23,44 @@ pub fn completes(call: Call, entry: &Entry) -> bool
     }
 }
 
+/// Whether the entry is the last step of a synchronisation.
+fn is_synced(entry: &Entry) -> bool
+    ensures { result ≡ is_synced entry.now }
+{
+    match *entry {
+        Entry::CpuCall(_, call) | Entry::ThreadCall(_, call) | Entry::DriverCall(_, call) => {
+            matches!(call, CallEntry::Synced)
+        }
+        Entry::Cpu(_, _) | Entry::Thread(_, _) | Entry::Driver(_, _) => false,
+    }
+}
+
 /// Whether the entry ends a free.
 fn ends_free(entry: &Entry) -> bool
     ensures { result ≡ ends_free entry.now }
 {
     match *entry {
-        Entry::Freed { .. } => true,
-        Entry::Unlink { answer, .. } => answer == UnlinkAnswer::NotThere,
-        Entry::Take { .. }
-        | Entry::Begin { .. }
-        | Entry::Return { .. }
-        | Entry::End { .. }
-        | Entry::ThreadBegin { .. }
-        | Entry::ThreadReturn { .. }
-        | Entry::Finish { .. }
-        | Entry::Done { .. }
-        | Entry::Ask { .. }
-        | Entry::Request { .. }
-        | Entry::Disable { .. }
-        | Entry::HardClear { .. }
-        | Entry::Synced { .. }
-        | Entry::Enable { .. }
-        | Entry::Affinity { .. }
-        | Entry::Moment { .. } => false,
+        Entry::CpuCall(_, call) | Entry::ThreadCall(_, call) | Entry::DriverCall(_, call) => {
+            ends_free_call(call)
+        }
+        Entry::Cpu(_, _) | Entry::Thread(_, _) | Entry::Driver(_, _) => false,
+    }
+}
+
+/// Whether the step ends a free, whoever makes it.
+fn ends_free_call(call: CallEntry) -> bool
+    ensures { result ≡ finishes_free call }
+{
+    match call {
+        CallEntry::Freed { .. } => true,
+        CallEntry::Unlink { answer, .. } => answer == UnlinkAnswer::NotThere,
+        CallEntry::Disable
+        | CallEntry::HardClear
+        | CallEntry::Synced
+        | CallEntry::Enable { .. }
+        | CallEntry::Wake { .. }
+        | CallEntry::Quiet { .. }
+        | CallEntry::Arm { .. }
+        | CallEntry::Serve { .. } => false,
     }
 }

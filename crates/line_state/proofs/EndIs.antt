@@ -1,6 +1,7 @@
 -- The end that is due makes of the state what its parts make of it, one after the other.
 use Rattle.std.proofs.Common.{◌≡◌, Bool, true, false, cond, refl, sym, ap, ◌∙◌}
-use Rattle.irq_base.specs.declared.entries.Entry.TheVariants as entries
+use Rattle.irq_base.specs.declared.entries.Entry.TheVariants as by
+use Rattle.irq_base.specs.declared.entries.CpuEntry.TheVariants as cpus
 use Rattle.irq_base.specs.declared.entries.Note.{Note}
 use Rattle.irq_base.specs.declared.entries.Note.TheVariants as notes
 use Rattle.irq_base.specs.declared.lines.FlowKind.TheVariants as flows
@@ -36,10 +37,10 @@ module _ (def : LineDef) (s noted killed last : StateSeen) (note : Note) (left :
   leaves = by_left ∙ (ap (λ (t : StateSeen). left_by def def.flow (is_held t) t.desc) kills ∙ killed_left def (note_by s) (noted_at s))
 
   -- the entry is the one that is due
-  pub entry_joined : entries.End c left.again left.unmask note ≡ end_by def s c
+  pub entry_joined : by.Cpu c (cpus.End left.again left.unmask note) ≡ end_by def s c
   entry_joined = ap (λ (n : Note). end_with c n left) by_note ∙ ap (λ (l : LeaveAnswer). end_with c (note_by s) l) leaves
 
-  pub end_joined : last ≡ state_after def (entries.End c left.again left.unmask note) s
+  pub end_joined : last ≡ state_after def (by.Cpu c (cpus.End left.again left.unmask note)) s
   end_joined =
       by_last
       ∙ (ap (λ (t : StateSeen). gone_on def left.again (left_at def def.flow (is_held t) t)) kills

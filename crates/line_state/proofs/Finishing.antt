@@ -1,6 +1,7 @@
 -- A finish that is due finds what the row says.
 use Rattle.std.proofs.Common.{◌≡◌, ℕ, ◌-◌, Bool, true, false, ◌&&◌, not, ltb, Some, refl, sym, ap, ◌∙◌, arith}
-use Rattle.irq_base.specs.declared.entries.Entry.TheVariants as entries
+use Rattle.irq_base.specs.declared.entries.Entry.TheVariants as by
+use Rattle.irq_base.specs.declared.entries.ThreadEntry.TheVariants as threads
 use Rattle.irq_base.specs.declared.numbers.DevNo.{DevNo}
 use Rattle.device_table.proofs.Weights.{weight_put}
 use Rattle.device_table.specs.Rows.{at, put, change}
@@ -32,14 +33,15 @@ less s d row there returned idle =
     omega (arith, both, gone)
 
 pub finish_is : (s : StateSeen) (d : DevNo) (row : ThreadRow) → at s.threads d ≡ Some row → row.stage ≡ stages.Returned
-    → finish_by s d ≡ entries.Finish d row.woken (finish_opens s row)
+    → finish_by s d ≡ by.Thread d (threads.Finish row.woken (finish_opens s row))
 finish_is s d row there returned = by_woken row.woken refl
   where
-    by_woken : (w : Bool) → row.woken ≡ w → finish_by s d ≡ entries.Finish d row.woken (finish_opens s row)
+    by_woken : (w : Bool) → row.woken ≡ w → finish_by s d ≡ by.Thread d (threads.Finish row.woken (finish_opens s row))
     by_woken true is = rw (there, returned, is) refl
     by_woken false is =
         let found : finishes_at s.threads d ≡ finishes.Cleared = rw (there, returned, is) refl in
         let held : held_in (change finished_row s.threads d) ≡ held_in s.threads - one_if row.held = rw there (less s d row there returned is) in
-        ap (λ (x : Finished). entries.Finish d (is_kept x) (is_cleared x && may_open (ltb 0 (held_in (change finished_row s.threads d))) s.desc)) found
-        ∙ (ap (λ n. entries.Finish d false (may_open (ltb 0 n) s.desc)) held
-        ∙ ap (λ w. entries.Finish d w (not w && may_open (ltb 0 (held_in s.threads - one_if row.held)) s.desc)) (sym is))
+        ap (λ (x : Finished). by.Thread d (threads.Finish (is_kept x)
+        (is_cleared x && may_open (ltb 0 (held_in (change finished_row s.threads d))) s.desc))) found
+        ∙ (ap (λ n. by.Thread d (threads.Finish false (may_open (ltb 0 n) s.desc))) held
+        ∙ ap (λ w. by.Thread d (threads.Finish w (not w && may_open (ltb 0 (held_in s.threads - one_if row.held)) s.desc))) (sym is))

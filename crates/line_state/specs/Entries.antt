@@ -2,12 +2,17 @@
 use Rattle.std.specs.Prelude.{◌≡◌, ◌<◌, ◌^◌, ◌-◌, Bool, true, false, ◌&&◌, not, nat_lt}
 use Rattle.irq_base.specs.declared.calls.Flags.{Flags}
 use Rattle.irq_base.specs.declared.entries.Entry.{Entry}
-use Rattle.irq_base.specs.declared.entries.Entry.TheVariants as entries
+use Rattle.irq_base.specs.declared.entries.Entry.TheVariants as by
+use Rattle.irq_base.specs.declared.entries.CpuEntry.TheVariants as cpus
+use Rattle.irq_base.specs.declared.entries.ThreadEntry.TheVariants as threads
+use Rattle.irq_base.specs.declared.entries.DriverEntry.TheVariants as drivers
+use Rattle.irq_base.specs.declared.entries.CallEntry.TheVariants as called
 use Rattle.irq_base.specs.declared.lines.LineDef.{LineDef}
 use Rattle.irq_base.specs.declared.numbers.CpuNo.{CpuNo}
 use Rattle.irq_base.specs.declared.numbers.DevNo.{DevNo}
 use Rattle.irq_base.specs.declared.numbers.DriverNo.{DriverNo}
 use Rattle.irq_model.specs.Kinds.{is_linked_answer}
+use Rattle.irq_model.specs.Next.{thread_return}
 use Rattle.device_table.specs.Rows.{at, change}
 use Rattle.act_list.specs.Actions.{has, is_bare, answer_by}
 use Rattle.act_list.specs.Lists.{unlink_by}
@@ -27,13 +32,13 @@ use Rattle.line_marks.specs.Kinds.{kind_at}
 use Rattle.line_marks.specs.State.{StateSeen}
 use Rattle.spurious.specs.Seen.{after_reset}
 use Rattle.line_state.specs.declared.due.CallStep.{CallStep}
-use Rattle.line_state.specs.declared.due.CallStep.TheVariants as calls
+use Rattle.line_state.specs.declared.due.CallStep.TheVariants as call_steps
 use Rattle.line_state.specs.declared.due.CpuStep.{CpuStep}
-use Rattle.line_state.specs.declared.due.CpuStep.TheVariants as cpus
+use Rattle.line_state.specs.declared.due.CpuStep.TheVariants as cpu_steps
 use Rattle.line_state.specs.declared.due.DueStep.{DueStep}
 use Rattle.line_state.specs.declared.due.DueStep.TheVariants as steps
 use Rattle.line_state.specs.declared.due.ThreadStep.{ThreadStep}
-use Rattle.line_state.specs.declared.due.ThreadStep.TheVariants as threads
+use Rattle.line_state.specs.declared.due.ThreadStep.TheVariants as thread_steps
 
 -- the thread is to run again, or gives its bit up (`irq_finalize_oneshot`)
 abbrev pub is_kept : Finished → Bool
@@ -50,37 +55,38 @@ opens_by s d = is_cleared (finishes_at s.threads d) && may_open
     (nat_lt 0 (held_in (change finished_row s.threads d))) s.desc
 
 abbrev pub finish_by : StateSeen → DevNo → Entry
-finish_by s d = entries.Finish d (is_kept (finishes_at s.threads d)) (opens_by s d)
+finish_by s d = by.Thread d (threads.Finish (is_kept (finishes_at s.threads d)) (opens_by s d))
 
 -- the entry that a step of a processor makes in that state
 abbrev pub cpu_entry : LineDef → StateSeen → CpuNo → CpuStep → Entry
-cpu_entry def s cpu (cpus.Take way) = entries.Take cpu way (take_by s)
-cpu_entry def s cpu (cpus.Begin dev) = entries.Begin cpu dev
-cpu_entry def s cpu (cpus.Return dev) = return_by s cpu dev (met_by (at s.asks dev))
-cpu_entry def s cpu cpus.End = end_by def s cpu
+cpu_entry def s cpu (cpu_steps.Take way) = by.Cpu cpu (cpus.Take way (take_by s))
+cpu_entry def s cpu (cpu_steps.Begin dev) = by.Cpu cpu (cpus.Begin dev)
+cpu_entry def s cpu (cpu_steps.Return dev) = return_by s cpu dev (met_by (at s.asks dev))
+cpu_entry def s cpu cpu_steps.End = end_by def s cpu
 
 -- that a step of a device's thread makes
 abbrev pub thread_entry : StateSeen → DevNo → ThreadStep → Entry
-thread_entry s dev threads.Begin = entries.ThreadBegin dev
-thread_entry s dev threads.Return = entries.ThreadReturn dev (met_in (at s.asks dev))
-thread_entry s dev threads.Finish = finish_by s dev
-thread_entry s dev threads.Done = entries.Done dev
+thread_entry s dev thread_steps.Begin = by.Thread dev threads.Begin
+thread_entry s dev thread_steps.Return = thread_return dev (met_in (at s.asks dev))
+thread_entry s dev thread_steps.Finish = finish_by s dev
+thread_entry s dev thread_steps.Done = by.Thread dev threads.Done
 
 -- that a step of a driver's call makes
 abbrev pub call_entry : LineDef → StateSeen → DriverNo → CallStep → Entry
-call_entry def s driver (calls.Ask dev) = entries.Ask driver dev
-call_entry def s driver calls.Disable = entries.Disable driver
-call_entry def s driver calls.HardClear = entries.HardClear driver
-call_entry def s driver calls.Synced = entries.Synced driver
-call_entry def s driver calls.Enable =
-    entries.Enable driver (enable_by (not (is_bare s.list.actions)) def.trigger s.desc s.cell)
-call_entry def s driver (calls.Request dev flags)
+call_entry def s driver (call_steps.Ask dev) = by.Driver driver (drivers.Ask true dev)
+call_entry def s driver call_steps.Disable = by.DriverCall driver called.Disable
+call_entry def s driver call_steps.HardClear = by.DriverCall driver called.HardClear
+call_entry def s driver call_steps.Synced = by.DriverCall driver called.Synced
+call_entry def s driver call_steps.Enable = by.DriverCall driver (called.Enable
+    (enable_by (not (is_bare s.list.actions)) def.trigger s.desc s.cell))
+call_entry def s driver (call_steps.Request dev flags)
     = request_to def driver dev flags s (answer_by (kind_at s.kinds dev) flags s.list.actions)
-call_entry def s driver (calls.Unlink dev) =
-    entries.Unlink driver dev (unlink_by dev s.list.actions)
-call_entry def s driver (calls.Freed dev) = entries.Freed driver dev
-call_entry def s driver (calls.Affinity mask) = entries.Affinity driver mask (set_answer s.aim mask)
-call_entry def s driver (calls.Moment at) = entries.Moment driver at
+call_entry def s driver (call_steps.Unlink dev) =
+    by.DriverCall driver (called.Unlink (unlink_by dev s.list.actions) dev)
+call_entry def s driver (call_steps.Freed dev) = by.DriverCall driver (called.Freed dev)
+call_entry def s driver (call_steps.Affinity mask) =
+    by.Driver driver (drivers.Affinity (set_answer s.aim mask) mask)
+call_entry def s driver (call_steps.Moment at) = by.Driver driver (drivers.Moment at)
 
 -- that a step makes
 abbrev pub entry_by : LineDef → StateSeen → DueStep → Entry
@@ -90,7 +96,7 @@ entry_by def s (steps.Call driver step) = call_entry def s driver step
 
 -- the step links an action
 abbrev pub links_by_call : StateSeen → CallStep → Bool
-links_by_call s (calls.Request dev flags) =
+links_by_call s (call_steps.Request dev flags) =
     is_linked_answer (answer_by (kind_at s.kinds dev) flags s.list.actions)
 links_by_call s _ = false
 
@@ -107,20 +113,20 @@ taken_over flags s = record s {
 
 -- what a step of a processor asks for: each count that it raises has room for one more
 abbrev pub CanMakeOfCpu : LineDef → CpuStep → StateSeen → Type 0
-CanMakeOfCpu def (cpus.Take way) s = HasRounds s
-CanMakeOfCpu def cpus.End s = HasRounds s × HasDepth s × IsOpen def s
+CanMakeOfCpu def (cpu_steps.Take way) s = HasRounds s
+CanMakeOfCpu def cpu_steps.End s = HasRounds s × HasDepth s × IsOpen def s
 CanMakeOfCpu def _ s = Unit {0}
 
 -- a step of a thread
 abbrev pub CanMakeOfThread : ThreadStep → StateSeen → Type 0
-CanMakeOfThread threads.Return s = s.counts.counts.threads_handled < 2 ^ 32 - 1
+CanMakeOfThread thread_steps.Return s = s.counts.counts.threads_handled < 2 ^ 32 - 1
 CanMakeOfThread _ s = Unit {0}
 
 -- a step of a driver's call: besides, a device that is requested isn't linked
 abbrev pub CanMakeOfCall : CallStep → StateSeen → Type 0
-CanMakeOfCall (calls.Ask dev) s = HasRoom (at s.asks dev)
-CanMakeOfCall calls.Disable s = HasDepth s
-CanMakeOfCall (calls.Request dev flags) s = has dev s.list.actions ≡ false
+CanMakeOfCall (call_steps.Ask dev) s = HasRoom (at s.asks dev)
+CanMakeOfCall call_steps.Disable s = HasDepth s
+CanMakeOfCall (call_steps.Request dev flags) s = has dev s.list.actions ≡ false
 CanMakeOfCall _ s = Unit {0}
 
 abbrev pub CanMake : LineDef → DueStep → StateSeen → Type 0

@@ -1,10 +1,10 @@
 //! The step that is due of a driver.
-ghost use Rattle.std.specs.Prelude.{◌≡◌, ◌==◌, if◌then◌else◌, is_some, Some, None, option_map};
-ghost use Rattle.irq_base.specs.declared.entries.Entry.TheVariants as entries;
+ghost use Rattle.std.specs.Prelude.{◌≡◌, if◌then◌else◌, is_some, Some, None, option_map};
+ghost use Rattle.irq_base.specs.declared.entries.Entry.TheVariants as by;
 ghost use Rattle.irq_base.specs.declared.lines.LineDef.{LineDef};
 ghost use Rattle.act_list.specs.Actions.{answer_by};
 ghost use Rattle.line_marks.specs.DriversDue.{request_to, clear_by, synced_by, freed_by, free_by};
-ghost use Rattle.line_marks.specs.DriversDue.{driver_due};
+ghost use Rattle.line_marks.specs.DriversDue.{disable_by, sync_by, driver_due};
 ghost use Rattle.line_marks.specs.Kinds.{kind_at};
 ghost use Rattle.line_state.specs.Entries.{call_entry};
 
@@ -49,7 +49,7 @@ impl<C: Chip> LineState<C> {
     /// hard clear and the wait for its thread.
     fn due_of_free(&self, driver: DriverNo, dev: DevNo, within: u32) -> Option<CallStep>
         ensures { (def : LineDef) → option_map (call_entry def self.now.state driver) result
-            ≡ free_by driver dev within self.now.state }
+            ≡ option_map (by.DriverCall driver) (free_by dev within self.now.state) }
     {
         match within {
             0 if self.freeing.is_some() => None,
@@ -62,7 +62,7 @@ impl<C: Chip> LineState<C> {
     /// The end of a free, once the device's thread is at rest.
     fn due_freed(&self, driver: DriverNo, dev: DevNo) -> Option<CallStep>
         ensures { (def : LineDef) → option_map (call_entry def self.now.state driver) result
-            ≡ freed_by driver dev self.now.state }
+            ≡ option_map (by.DriverCall driver) (freed_by dev self.now.state) }
     {
         if !self.threads.idle(dev) {
             return None;
@@ -73,9 +73,7 @@ impl<C: Chip> LineState<C> {
     /// `disable_irq`.
     fn due_of_disable(&self, driver: DriverNo, within: u32) -> Option<CallStep>
         ensures { (def : LineDef) → option_map (call_entry def self.now.state driver) result
-            ≡ (if within == 0 then Some (entries.Disable driver)
-            else (if within == 1 then clear_by driver self.now.state
-            else synced_by driver self.now.state)) }
+            ≡ option_map (by.DriverCall driver) (disable_by within self.now.state) }
     {
         match within {
             0 => Some(CallStep::Disable),
@@ -87,8 +85,7 @@ impl<C: Chip> LineState<C> {
     /// `synchronize_irq`.
     fn due_of_sync(&self, driver: DriverNo, within: u32) -> Option<CallStep>
         ensures { (def : LineDef) → option_map (call_entry def self.now.state driver) result
-            ≡ (if within == 0 then clear_by driver self.now.state
-            else synced_by driver self.now.state) }
+            ≡ option_map (by.DriverCall driver) (sync_by within self.now.state) }
     {
         match within {
             0 => self.due_clear(driver),
@@ -100,7 +97,7 @@ impl<C: Chip> LineState<C> {
     fn due_clear(&self, driver: DriverNo) -> Option<CallStep>
         ensures { (def : LineDef)
             → option_map (call_entry def self.now.state driver) result
-            ≡ clear_by driver self.now.state }
+            ≡ option_map (by.DriverCall driver) (clear_by self.now.state) }
     {
         if self.desc.flow().is_some() {
             return None;
@@ -112,7 +109,7 @@ impl<C: Chip> LineState<C> {
     fn due_synced(&self, driver: DriverNo) -> Option<CallStep>
         ensures { (def : LineDef)
             → option_map (call_entry def self.now.state driver) result
-            ≡ synced_by driver self.now.state }
+            ≡ option_map (by.DriverCall driver) (synced_by self.now.state) }
     {
         if self.threads.active() > 0 {
             return None;

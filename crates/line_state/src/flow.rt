@@ -1,7 +1,8 @@
 //! Takes and ends: the two parts of a flow handler (`kernel/irq/chip.c`), before its handlers and
 //! after them.
 ghost use Rattle.std.specs.Prelude.{◌≡◌, ◌≤◌, if◌then◌else◌};
-ghost use Rattle.irq_base.specs.declared.entries.Entry.TheVariants as entries;
+ghost use Rattle.irq_base.specs.declared.entries.Entry.TheVariants as by;
+ghost use Rattle.irq_base.specs.declared.entries.CpuEntry.TheVariants as cpus;
 ghost use Rattle.irq_base.specs.declared.lines.FlowKind.TheVariants as flows;
 ghost use Rattle.irq_base.specs.declared.lines.LineDef.{LineDef};
 ghost use Rattle.irq_model.specs.Valid.{IsValid};
@@ -15,7 +16,7 @@ ghost use Rattle.line_marks.specs.State.{state_after};
 
 use crate::state::LineState;
 use flow_handlers::{LeaveAnswer, edge, fasteoi, level};
-use irq_base::{Chip, CpuNo, Entry, FlowKind, LineDef, Note, TakeAnswer, Way};
+use irq_base::{Chip, CpuEntry, CpuNo, Entry, FlowKind, LineDef, Note, TakeAnswer, Way};
 
 impl<C: Chip> LineState<C> {
     /// A take, by the line's flow. Whatever its answer, a waiting mask is put in force.
@@ -24,7 +25,7 @@ impl<C: Chip> LineState<C> {
         requires valid { IsValid def.now }
         requires few { self.old.state.aim.cpus ≤ 32 }
         requires rounds { HasRounds self.old.state }
-        ensures entry { result ≡ entries.Take cpu way (take_by self.old.state) }
+        ensures entry { result ≡ by.Cpu cpu (cpus.Take way (take_by self.old.state)) }
         ensures state { self.new.state ≡ state_after def.now result self.old.state }
         ensures wiring { self.new.wiring ≡ self.old.wiring }
     {
@@ -32,7 +33,7 @@ impl<C: Chip> LineState<C> {
         let answer = self.enter(def, cpu);
         self.move_affinity();
         self.begin_round_if(answer);
-        Entry::Take { cpu, way, answer }
+        Entry::Cpu(cpu, CpuEntry::Take { way, answer })
     }
 
     /// What is presented is accepted; what the software resends waits no more (`resend_irqs`,
@@ -125,12 +126,14 @@ impl<C: Chip> LineState<C> {
         let note = self.note_round();
         self.kill_by(note);
         let left = self.leave(def);
-        Entry::End {
+        Entry::Cpu(
             cpu,
-            again: left.again,
-            unmask: left.unmask,
-            note,
-        }
+            CpuEntry::End {
+                again: left.again,
+                unmask: left.unmask,
+                note,
+            },
+        )
     }
 
     /// The rule on spurious interrupts counts the round (`note_interrupt`,

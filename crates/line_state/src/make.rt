@@ -9,7 +9,7 @@ ghost use Rattle.line_state.specs.Seen.{IsAimOf};
 
 use crate::due::{CallStep, CpuStep, DueStep, ThreadStep};
 use crate::state::LineState;
-use irq_base::{Chip, CpuNo, DevNo, DriverNo, Entry, LineDef, LinkAnswer};
+use irq_base::{CallEntry, Chip, CpuNo, DevNo, DriverNo, Entry, LineDef, LinkAnswer};
 
 impl<C: Chip> LineState<C> {
     /// Whether the step links an action.
@@ -97,8 +97,8 @@ impl<C: Chip> LineState<C> {
         match step {
             CallStep::Ask { dev } => self.ask(def, driver, dev),
             CallStep::Disable => self.disable(driver),
-            CallStep::HardClear => Entry::HardClear { driver },
-            CallStep::Synced => Entry::Synced { driver },
+            CallStep::HardClear => Entry::DriverCall(driver, CallEntry::HardClear),
+            CallStep::Synced => Entry::DriverCall(driver, CallEntry::Synced),
             CallStep::Enable => self.enable(def, driver),
             CallStep::Request { dev, flags } => self.request(def, driver, dev, flags),
             CallStep::Unlink { dev } => self.unlink(driver, dev),

@@ -13,7 +13,8 @@ ghost use Rattle.line_state.specs.Entries.{taken_over};
 
 use crate::state::LineState;
 use irq_base::{
-    Chip, DevNo, DriverNo, EnableAnswer, Entry, Flags, LineDef, LinkAnswer, Opened, Trigger,
+    Chip, DevNo, DriverEntry, DriverNo, EnableAnswer, Entry, Flags, LineDef, LinkAnswer, Opened,
+    Trigger,
 };
 
 impl<C: Chip> LineState<C> {
@@ -42,13 +43,15 @@ impl<C: Chip> LineState<C> {
         } else {
             Opened::No
         };
-        Entry::Request {
+        Entry::Driver(
             driver,
-            dev,
-            flags,
-            answer,
-            opened,
-        }
+            DriverEntry::Request {
+                flags,
+                answer,
+                opened,
+                dev,
+            },
+        )
     }
 
     /// The action is linked, or refused.
@@ -72,8 +75,8 @@ impl<C: Chip> LineState<C> {
     }
 
     /// What the line takes over of a linked action: one-shot by its flags, the mark of a storm is
-    /// cleared, and the window of the rule on spurious interrupts begins anew. The first action starts
-    /// the line; a further one gives a line that a storm disabled another chance.
+    /// cleared, and the window of the rule on spurious interrupts begins anew. The first action
+    /// starts the line; a further one gives a line that a storm disabled another chance.
     fn set_up(&mut self, trigger: Trigger, first: bool, flags: Flags) -> Opened
         ensures opened { result ≡ (if first then
             (if flags.noauto then opens.No else opens.Started

@@ -1,10 +1,13 @@
 //! Asks, and the runs of handlers and threads.
-ghost use Rattle.std.specs.Prelude.{◌≡◌, ◌-◌, ◌<◌, ◌^◌};
+ghost use Rattle.std.specs.Prelude.{◌≡◌, ◌-◌, ◌<◌, ◌^◌, true};
 ghost use Rattle.irq_base.specs.Handlers.{answer_of};
 ghost use Rattle.irq_base.specs.declared.devices.Part.TheVariants as parts;
-ghost use Rattle.irq_base.specs.declared.entries.Entry.TheVariants as entries;
+ghost use Rattle.irq_base.specs.declared.entries.Entry.TheVariants as by;
+ghost use Rattle.irq_base.specs.declared.entries.CpuEntry.TheVariants as cpus;
+ghost use Rattle.irq_base.specs.declared.entries.ThreadEntry.TheVariants as threads;
+ghost use Rattle.irq_base.specs.declared.entries.DriverEntry.TheVariants as drivers;
 ghost use Rattle.irq_base.specs.declared.lines.LineDef.{LineDef};
-ghost use Rattle.irq_model.specs.Next.{served_by_handler};
+ghost use Rattle.irq_model.specs.Next.{served_by_handler, thread_return};
 ghost use Rattle.act_thread.specs.Steps.{woken_row};
 ghost use Rattle.device_table.specs.Rows.{at, change};
 ghost use Rattle.ask_counts.specs.Rows.{HasRoom};
@@ -20,8 +23,8 @@ ghost use Rattle.line_state.specs.Ended.{device_at, handler_run, thread_run};
 use crate::state::LineState;
 use act_thread::Finished;
 use irq_base::{
-    Answer, Chip, CpuNo, DevNo, DeviceDef, DriverNo, Entry, Kind, LineDef, LineNo, Part, Run,
-    Trigger,
+    Answer, Chip, CpuEntry, CpuNo, DevNo, DeviceDef, DriverEntry, DriverNo, Entry, Kind, LineDef,
+    LineNo, Part, Run, ThreadEntry, Trigger,
 };
 
 impl<C: Chip> LineState<C> {
@@ -29,7 +32,7 @@ impl<C: Chip> LineState<C> {
     pub fn ask(&mut self, def: &LineDef, driver: DriverNo, dev: DevNo) -> Entry
         requires is_of { IsOf def.now self.old.state }
         requires room { HasRoom (at self.old.state.asks dev) }
-        ensures entry { result ≡ entries.Ask driver dev }
+        ensures entry { result ≡ by.Driver driver (drivers.Ask true dev) }
         ensures state { self.new.state ≡ state_after def.now result self.old.state }
         ensures wiring { self.new.wiring ≡ self.old.wiring }
     {
@@ -38,13 +41,13 @@ impl<C: Chip> LineState<C> {
             Trigger::Edge => self.chip.edge(),
             Trigger::Level => self.chip.set_high(self.asks.is_high()),
         }
-        Entry::Ask { driver, dev }
+        Entry::Driver(driver, DriverEntry::Ask { edge: true, dev })
     }
 
     /// The device's handler is called.
     #[inline(always)]
     pub(crate) fn begin(&mut self, cpu: CpuNo, dev: DevNo) -> Entry
-        ensures entry { result ≡ entries.Begin cpu dev }
+        ensures entry { result ≡ by.Cpu cpu (cpus.Begin dev) }
         ensures state { (def : LineDef)
             → self.new.state ≡ state_after def result self.old.state }
         ensures wiring { self.new.wiring ≡ self.old.wiring }
@@ -53,7 +56,7 @@ impl<C: Chip> LineState<C> {
         self.asks.called(dev, serves);
         self.round.called(dev);
         self.actions.begin(dev);
-        Entry::Begin { cpu, dev }
+        Entry::Cpu(cpu, CpuEntry::Begin { dev })
     }
 
     /// The run of the handler that returns: its device, and what it met.
@@ -114,12 +117,14 @@ impl<C: Chip> LineState<C> {
             self.threads.wake(dev, oneshot);
         }
         self.round.returned(answer);
-        Entry::Return {
+        Entry::Cpu(
             cpu,
-            dev,
-            answer,
-            served,
-        }
+            CpuEntry::Return {
+                answer,
+                dev,
+                served,
+            },
+        )
     }
 
     /// The level is what the asks make of it, once a run has served.
@@ -136,7 +141,7 @@ impl<C: Chip> LineState<C> {
     /// The device's thread begins a run (`irq_wait_for_interrupt`, `kernel/irq/manage.c`).
     #[inline(always)]
     pub(crate) fn thread_begin(&mut self, dev: DevNo) -> Entry
-        ensures entry { result ≡ entries.ThreadBegin dev }
+        ensures entry { result ≡ by.Thread dev threads.Begin }
         ensures state { (def : LineDef)
             → self.new.state ≡ state_after def result self.old.state }
         ensures wiring { self.new.wiring ≡ self.old.wiring }
@@ -144,7 +149,7 @@ impl<C: Chip> LineState<C> {
         let serves = is_threaded(self.kind(dev));
         self.threads.begin(dev);
         self.asks.begun(dev, serves);
-        Entry::ThreadBegin { dev }
+        Entry::Thread(dev, ThreadEntry::Begin)
     }
 
     /// The handler of this run returns: what the run met is served (`irq_thread_fn`,
@@ -154,8 +159,8 @@ impl<C: Chip> LineState<C> {
         requires is_of { IsOf def.now self.old.state }
         requires room { self.old.state.counts.counts.threads_handled < 2 ^ 32 - 1 }
         requires run { run ≡ thread_run self.old.state run.def.line run.def.dev }
-        ensures entry { result ≡ entries.ThreadReturn run.def.dev
-            (met_in (at self.old.state.asks run.def.dev)) }
+        ensures entry { result
+            ≡ thread_return run.def.dev (met_in (at self.old.state.asks run.def.dev)) }
         ensures state { self.new.state ≡ state_after def.now result self.old.state }
         ensures wiring { self.new.wiring ≡ self.old.wiring }
     {
@@ -164,10 +169,11 @@ impl<C: Chip> LineState<C> {
         self.threads.returned(dev);
         self.asks.served(dev, is_threaded(kind));
         self.lower(def, served);
-        if served > 0 {
+        let handled = served > 0;
+        if handled {
             self.counts.thread_handled();
         }
-        Entry::ThreadReturn { dev, served }
+        Entry::Thread(dev, ThreadEntry::Return { handled, served })
     }
 
     /// Its run is finalized (`irq_finalize_oneshot`, `kernel/irq/manage.c`): if the thread gives
@@ -188,24 +194,26 @@ impl<C: Chip> LineState<C> {
         if unmask {
             self.desc.unmask(&mut self.chip);
         }
-        Entry::Finish {
+        Entry::Thread(
             dev,
-            kept: found == Finished::Kept,
-            unmask,
-        }
+            ThreadEntry::Finish {
+                kept: found == Finished::Kept,
+                unmask,
+            },
+        )
     }
 
     /// Its run is over (`wake_threads_waitq`, `kernel/irq/manage.c`).
     #[inline(always)]
     pub(crate) fn done(&mut self, dev: DevNo) -> Entry
-        ensures entry { result ≡ entries.Done dev }
+        ensures entry { result ≡ by.Thread dev threads.Done }
         ensures state { (def : LineDef)
             → self.new.state ≡ state_after def result self.old.state }
         ensures wiring { self.new.wiring ≡ self.old.wiring }
     {
         let oneshot = self.desc.oneshot();
         self.threads.done(dev, oneshot);
-        Entry::Done { dev }
+        Entry::Thread(dev, ThreadEntry::Done)
     }
 }
 

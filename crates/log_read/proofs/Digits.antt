@@ -15,9 +15,10 @@ use Rattle.irq_base.specs.declared.numbers.CpuNo.{CpuNo}
 use Rattle.irq_base.specs.declared.numbers.DevNo.{DevNo}
 use Rattle.irq_base.specs.declared.numbers.DriverNo.{DriverNo}
 use Rattle.log_read.specs.Takes.{Reads}
-use Rattle.log_read.specs.Who.{who_word, IsWho}
-use Rattle.log_read.specs.declared.numbers.Who.{Who}
-use Rattle.log_read.specs.declared.numbers.Who.TheVariants as whos
+use Rattle.log_text.specs.EntryWords.{actor_word}
+use Rattle.log_read.specs.Who.{HasSmallActor}
+use Rattle.irq_base.specs.declared.entries.Actor.{Actor}
+use Rattle.irq_base.specs.declared.entries.Actor.TheVariants as actors
 
 abbrev AreDigits : List ℕ → Type 0
 AreDigits word = list_all is_digit word ≡ true
@@ -132,13 +133,13 @@ abbrev driver_no : ℕ → DriverNo
 driver_no n = record { 0 = n }
 
 -- and so are those who make entries
-pub who_tells : (a b : Who) → IsWho a → IsWho b → who_word a ≡ who_word b → a ≡ b
-who_tells (whos.Thread d) (whos.Thread e) small low same = ap (λ n. whos.Thread (dev_no n)) (same_digits 116 d.0 e.0 small low same)
-who_tells (whos.Cpu d) (whos.Cpu e) small low same = ap (λ n. whos.Cpu (cpu_no n)) (same_digits 99 d.0 e.0 small low same)
-who_tells (whos.Driver d) (whos.Driver e) small low same = ap (λ n. whos.Driver (driver_no n)) (same_digits 100 d.0 e.0 small low same)
-who_tells (whos.Thread d) (whos.Cpu e) small low same = absurd (apart 116 99 _ _ (λ i. omega (arith, i)) same)
-who_tells (whos.Thread d) (whos.Driver e) small low same = absurd (apart 116 100 _ _ (λ i. omega (arith, i)) same)
-who_tells (whos.Cpu d) (whos.Thread e) small low same = absurd (apart 99 116 _ _ (λ i. omega (arith, i)) same)
-who_tells (whos.Cpu d) (whos.Driver e) small low same = absurd (apart 99 100 _ _ (λ i. omega (arith, i)) same)
-who_tells (whos.Driver d) (whos.Thread e) small low same = absurd (apart 100 116 _ _ (λ i. omega (arith, i)) same)
-who_tells (whos.Driver d) (whos.Cpu e) small low same = absurd (apart 100 99 _ _ (λ i. omega (arith, i)) same)
+pub actor_tells : (a b : Actor) → HasSmallActor a → HasSmallActor b → actor_word a ≡ actor_word b → a ≡ b
+actor_tells (actors.Thread d) (actors.Thread e) small low same = ap (λ n. actors.Thread (dev_no n)) (same_digits 116 d.0 e.0 small low same)
+actor_tells (actors.Cpu d) (actors.Cpu e) small low same = ap (λ n. actors.Cpu (cpu_no n)) (same_digits 99 d.0 e.0 small low same)
+actor_tells (actors.Driver d) (actors.Driver e) small low same = ap (λ n. actors.Driver (driver_no n)) (same_digits 100 d.0 e.0 small low same)
+actor_tells (actors.Thread d) (actors.Cpu e) small low same = absurd (apart 116 99 _ _ (λ i. omega (arith, i)) same)
+actor_tells (actors.Thread d) (actors.Driver e) small low same = absurd (apart 116 100 _ _ (λ i. omega (arith, i)) same)
+actor_tells (actors.Cpu d) (actors.Thread e) small low same = absurd (apart 99 116 _ _ (λ i. omega (arith, i)) same)
+actor_tells (actors.Cpu d) (actors.Driver e) small low same = absurd (apart 99 100 _ _ (λ i. omega (arith, i)) same)
+actor_tells (actors.Driver d) (actors.Thread e) small low same = absurd (apart 100 116 _ _ (λ i. omega (arith, i)) same)
+actor_tells (actors.Driver d) (actors.Cpu e) small low same = absurd (apart 100 99 _ _ (λ i. omega (arith, i)) same)

@@ -25,10 +25,10 @@ use Rattle.log_read.specs.declared.kinds.Moving.TheVariants as movings
 use Rattle.log_read.specs.declared.words.Words.{Words}
 
 -- what is read of an answer
-abbrev Sound : {X : Type 0} → (X → Type 0) → (X → List (List ℕ)) → Words → Words → X → Type 0
+abbrev pub Sound : {X : Type 0} → (X → Type 0) → (X → List (List ℕ)) → Words → Words → X → Type 0
 Sound {X} Fits write old new y = (rest : List (List ℕ)) → left_of new ≡ Some rest → (x : X) × Fits x × (y ≡ x) × (left_of old ≡ Some (write x ++ rest))
 
-abbrev Complete : {X : Type 0} → (X → Type 0) → (X → List (List ℕ)) → Words → Words → X → Type 0
+abbrev pub Complete : {X : Type 0} → (X → Type 0) → (X → List (List ℕ)) → Words → Words → X → Type 0
 Complete {X} Fits write old new y = (x : X) (rest : List (List ℕ)) → Fits x → left_of old ≡ Some (write x ++ rest) → (y ≡ x) × (left_of new ≡ Some rest)
 
 module _ (old mid new : Words) where

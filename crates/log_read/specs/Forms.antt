@@ -1,41 +1,52 @@
 -- What follows the verb of a row, verb by verb; and what follows the first word of an answer.
-use Rattle.std.specs.Prelude.{◌≡◌, ℕ, None, List, [], codes, drop}
+use Rattle.std.specs.Prelude.{◌≡◌, ℕ, nat_lt, true, None, List, [], codes}
+use Rattle.irq_base.specs.Who.{actor_of}
+use Rattle.irq_base.specs.declared.entries.Actor.{Actor}
 use Rattle.irq_base.specs.declared.entries.AffinityAnswer.{AffinityAnswer}
 use Rattle.irq_base.specs.declared.entries.AffinityAnswer.TheVariants as affinities
+use Rattle.irq_base.specs.declared.entries.CallEntry.{CallEntry}
+use Rattle.irq_base.specs.declared.entries.CallEntry.TheVariants as called
+use Rattle.irq_base.specs.declared.entries.CpuEntry.{CpuEntry}
+use Rattle.irq_base.specs.declared.entries.CpuEntry.TheVariants as cpus
+use Rattle.irq_base.specs.declared.entries.DriverEntry.{DriverEntry}
+use Rattle.irq_base.specs.declared.entries.DriverEntry.TheVariants as drivers
 use Rattle.irq_base.specs.declared.entries.EnableAnswer.{EnableAnswer}
 use Rattle.irq_base.specs.declared.entries.EnableAnswer.TheVariants as enables
 use Rattle.irq_base.specs.declared.entries.Entry.{Entry}
-use Rattle.irq_base.specs.declared.entries.Entry.TheVariants as entries
+use Rattle.irq_base.specs.declared.entries.Entry.TheVariants as by
 use Rattle.irq_base.specs.declared.entries.Errno.TheVariants as errnos
 use Rattle.irq_base.specs.declared.entries.LinkAnswer.{LinkAnswer}
 use Rattle.irq_base.specs.declared.entries.LinkAnswer.TheVariants as links
 use Rattle.irq_base.specs.declared.entries.Opened.{Opened}
 use Rattle.irq_base.specs.declared.entries.Opened.TheVariants as opens
-use Rattle.irq_base.specs.declared.numbers.CpuNo.{CpuNo}
+use Rattle.irq_base.specs.declared.entries.ThreadEntry.{ThreadEntry}
+use Rattle.irq_base.specs.declared.entries.ThreadEntry.TheVariants as threads
 use Rattle.irq_base.specs.declared.numbers.DevNo.{DevNo}
 use Rattle.irq_base.specs.declared.numbers.DriverNo.{DriverNo}
-use Rattle.log_text.specs.EntryWords.{entry_words}
-use Rattle.log_text.specs.Formed.{IsSmall, IsWritable}
+use Rattle.log_text.specs.EntryWords.{IsPrintableThread}
+use Rattle.log_text.specs.Formed.{IsSmall, IsWritable, HasSmallThread}
 use Rattle.log_text.specs.Words.{way_word, take_word, answer_word, loop_word, mask_word}
 use Rattle.log_text.specs.Words.{note_word, bit_word, resend_word, error_word, flags_word}
 use Rattle.log_text.specs.Words.{unlink_word, enable_words, opened_words, link_words}
 use Rattle.log_text.specs.Words.{affinity_words}
 use Rattle.log_read.specs.Left.{left_of}
 use Rattle.log_read.specs.Takes.{TakesAs, Any, one, number_words, Both, then, text_words}
-use Rattle.log_read.specs.Who.{who_of}
-use Rattle.log_read.specs.declared.kinds.CpuVerb.{CpuVerb}
-use Rattle.log_read.specs.declared.kinds.CpuVerb.TheVariants as cpu_verbs
-use Rattle.log_read.specs.declared.kinds.ThreadVerb.{ThreadVerb}
-use Rattle.log_read.specs.declared.kinds.ThreadVerb.TheVariants as thread_verbs
-use Rattle.log_read.specs.declared.kinds.DriverVerb.{DriverVerb}
-use Rattle.log_read.specs.declared.kinds.DriverVerb.TheVariants as driver_verbs
+use Rattle.log_read.specs.declared.cpus.CpuVerb.{CpuVerb}
+use Rattle.log_read.specs.declared.cpus.CpuVerb.TheVariants as cpu_verbs
+use Rattle.log_read.specs.declared.threads.ThreadVerb.{ThreadVerb}
+use Rattle.log_read.specs.declared.threads.ThreadVerb.TheVariants as thread_verbs
+use Rattle.log_read.specs.declared.drivers.DriverVerb.{DriverVerb}
+use Rattle.log_read.specs.declared.drivers.DriverVerb.TheVariants as driver_verbs
+use Rattle.log_read.specs.declared.drivers.DriverAct.{DriverAct}
+use Rattle.log_read.specs.declared.drivers.DriverAct.TheVariants as acts
+use Rattle.log_read.specs.declared.calls.CallVerb.{CallVerb}
+use Rattle.log_read.specs.declared.calls.CallVerb.TheVariants as call_verbs
 use Rattle.log_read.specs.declared.kinds.Opening.{Opening}
 use Rattle.log_read.specs.declared.kinds.Opening.TheVariants as openings
 use Rattle.log_read.specs.declared.kinds.Linking.{Linking}
 use Rattle.log_read.specs.declared.kinds.Linking.TheVariants as linkings
 use Rattle.log_read.specs.declared.kinds.Moving.{Moving}
 use Rattle.log_read.specs.declared.kinds.Moving.TheVariants as movings
-use Rattle.log_read.specs.declared.numbers.Who.{Who}
 use Rattle.log_read.specs.declared.words.Words.{Words}
 
 abbrev pub dev_no : ℕ → DevNo
@@ -89,60 +100,67 @@ TakesMoving movings.Later old new answer =
 TakesMoving movings.Refused old new answer =
     TakesAs Any (text_words (codes "22")) (λ u. affinities.Refused errnos.Inval) old new answer
 
--- entries, by their verb
+-- what an actor did, by its verb
 
-abbrev pub TakesCpu : CpuNo → CpuVerb → Words → Words → Entry → Type 0
-TakesCpu cpu cpu_verbs.Take old new e = TakesAs (Both Any Any)
-    (then (one way_word) (one take_word)) (λ p. entries.Take cpu p.0 p.1) old new e
-TakesCpu cpu cpu_verbs.Begin old new e =
-    TakesAs IsSmall number_words (λ n. entries.Begin cpu (dev_no n)) old new e
-TakesCpu cpu cpu_verbs.Return old new e =
+abbrev pub TakesCpu : CpuVerb → Words → Words → CpuEntry → Type 0
+TakesCpu cpu_verbs.Take old new e = TakesAs (Both Any Any)
+    (then (one way_word) (one take_word)) (λ p. cpus.Take p.0 p.1) old new e
+TakesCpu cpu_verbs.Begin old new e =
+    TakesAs IsSmall number_words (λ n. cpus.Begin (dev_no n)) old new e
+TakesCpu cpu_verbs.Return old new e =
     TakesAs (Both IsSmall (Both Any IsSmall))
     (then number_words (then (one answer_word) number_words))
-    (λ p. entries.Return cpu (dev_no p.0) p.1.0 p.1.1) old new e
-TakesCpu cpu cpu_verbs.End old new e =
+    (λ p. cpus.Return p.1.0 (dev_no p.0) p.1.1) old new e
+TakesCpu cpu_verbs.End old new e =
     TakesAs (Both Any (Both Any Any)) (then (one loop_word)
-    (then (one mask_word) (one note_word))) (λ p. entries.End cpu p.0 p.1.0 p.1.1) old new e
+    (then (one mask_word) (one note_word))) (λ p. cpus.End p.0 p.1.0 p.1.1) old new e
 
-abbrev pub TakesThread : DevNo → ThreadVerb → Words → Words → Entry → Type 0
-TakesThread dev thread_verbs.Begin old new e =
-    TakesAs Any no_words (λ u. entries.ThreadBegin dev) old new e
-TakesThread dev thread_verbs.Return old new e =
-    TakesAs IsSmall number_words (λ n. entries.ThreadReturn dev n) old new e
-TakesThread dev thread_verbs.Finish old new e
+-- a thread's number tells whether its answer is that it handled something
+abbrev pub TakesThread : ThreadVerb → Words → Words → ThreadEntry → Type 0
+TakesThread thread_verbs.Begin old new e = TakesAs Any no_words (λ u. threads.Begin) old new e
+TakesThread thread_verbs.Return old new e =
+    TakesAs IsSmall number_words (λ n. threads.Return (nat_lt 0 n) n) old new e
+TakesThread thread_verbs.Finish old new e
     = TakesAs (Both Any Any) (then (one bit_word) (one mask_word))
-    (λ p. entries.Finish dev p.0 p.1) old new e
-TakesThread dev thread_verbs.Done old new e = TakesAs Any no_words (λ u. entries.Done dev) old new e
+    (λ p. threads.Finish p.0 p.1) old new e
+TakesThread thread_verbs.Done old new e = TakesAs Any no_words (λ u. threads.Done) old new e
 
-abbrev pub TakesDriver : DriverNo → DriverVerb → Words → Words → Entry → Type 0
-TakesDriver driver driver_verbs.Ask old new e =
-    TakesAs IsSmall number_words (λ n. entries.Ask driver (dev_no n)) old new e
-TakesDriver driver driver_verbs.Disable old new e =
-    TakesAs Any no_words (λ u. entries.Disable driver) old new e
-TakesDriver driver driver_verbs.HardClear old new e =
-    TakesAs Any no_words (λ u. entries.HardClear driver) old new e
-TakesDriver driver driver_verbs.Synced old new e =
-    TakesAs Any no_words (λ u. entries.Synced driver) old new e
-TakesDriver driver driver_verbs.Enable old new e =
-    TakesAs Any enable_words (λ answer. entries.Enable driver answer) old new e
-TakesDriver driver driver_verbs.Request old new e =
+-- an ask has a row if it makes an edge
+abbrev pub TakesDriver : DriverVerb → Words → Words → DriverEntry → Type 0
+TakesDriver driver_verbs.Ask old new e =
+    TakesAs IsSmall number_words (λ n. drivers.Ask true (dev_no n)) old new e
+TakesDriver driver_verbs.Request old new e =
     TakesAs (Both IsSmall (Both Any IsLink)) (then number_words (then (one flags_word) link_said))
-    (λ p. entries.Request driver (dev_no p.0) p.1.0 p.1.1.0 p.1.1.1) old new e
-TakesDriver driver driver_verbs.Unlink old new e =
-    TakesAs (Both IsSmall Any) (then number_words (one unlink_word))
-    (λ p. entries.Unlink driver (dev_no p.0) p.1) old new e
-TakesDriver driver driver_verbs.Freed old new e =
-    TakesAs IsSmall number_words (λ n. entries.Freed driver (dev_no n)) old new e
-TakesDriver driver driver_verbs.Affinity old new e =
+    (λ p. drivers.Request p.1.0 p.1.1.0 p.1.1.1 (dev_no p.0)) old new e
+TakesDriver driver_verbs.Affinity old new e =
     TakesAs (Both IsSmall IsMoved) (then number_words affinity_words)
-    (λ p. entries.Affinity driver p.0 p.1) old new e
-TakesDriver driver driver_verbs.Moment old new e =
-    TakesAs IsSmall number_words (λ n. entries.Moment driver n) old new e
+    (λ p. drivers.Affinity p.1 p.0) old new e
+TakesDriver driver_verbs.Moment old new e =
+    TakesAs IsSmall number_words (λ n. drivers.Moment n) old new e
+
+abbrev pub TakesCall : CallVerb → Words → Words → CallEntry → Type 0
+TakesCall call_verbs.Disable old new e = TakesAs Any no_words (λ u. called.Disable) old new e
+TakesCall call_verbs.HardClear old new e = TakesAs Any no_words (λ u. called.HardClear) old new e
+TakesCall call_verbs.Synced old new e = TakesAs Any no_words (λ u. called.Synced) old new e
+TakesCall call_verbs.Enable old new e =
+    TakesAs Any enable_words (λ answer. called.Enable answer) old new e
+TakesCall call_verbs.Unlink old new e =
+    TakesAs (Both IsSmall Any) (then number_words (one unlink_word))
+    (λ p. called.Unlink p.1 (dev_no p.0)) old new e
+TakesCall call_verbs.Freed old new e =
+    TakesAs IsSmall number_words (λ n. called.Freed (dev_no n)) old new e
+
+-- what only a driver does, or a call that it makes
+abbrev pub TakesAct : DriverNo → DriverAct → Words → Words → Entry → Type 0
+TakesAct driver (acts.Own verb) old new e =
+    (own : DriverEntry) × TakesDriver verb old new own × (e ≡ by.Driver driver own)
+TakesAct driver (acts.Call verb) old new e =
+    (call : CallEntry) × TakesCall verb old new call × (e ≡ by.DriverCall driver call)
+
+-- what a thread did has a row
+abbrev pub FitsThread : ThreadEntry → Type 0
+FitsThread e = IsPrintableThread e × HasSmallThread e
 
 -- this actor made the entry
-abbrev pub IsBy : Who → Entry → Type 0
-IsBy who e = IsWritable e × (who_of e ≡ who)
-
--- the words behind the word that says who made the entry
-abbrev pub behind : Entry → List (List ℕ)
-behind e = drop 1 (entry_words e)
+abbrev pub IsBy : Actor → Entry → Type 0
+IsBy actor e = IsWritable e × (actor_of e ≡ actor)

@@ -1,11 +1,15 @@
 -- The words for the kinds of entries, and the first words of answers, which tell what follows.
 use Rattle.std.specs.Prelude.{ℕ, List, codes}
-use Rattle.log_read.specs.declared.kinds.CpuVerb.{CpuVerb}
-use Rattle.log_read.specs.declared.kinds.CpuVerb.TheVariants as cpu_verbs
-use Rattle.log_read.specs.declared.kinds.ThreadVerb.{ThreadVerb}
-use Rattle.log_read.specs.declared.kinds.ThreadVerb.TheVariants as thread_verbs
-use Rattle.log_read.specs.declared.kinds.DriverVerb.{DriverVerb}
-use Rattle.log_read.specs.declared.kinds.DriverVerb.TheVariants as driver_verbs
+use Rattle.log_read.specs.declared.cpus.CpuVerb.{CpuVerb}
+use Rattle.log_read.specs.declared.cpus.CpuVerb.TheVariants as cpu_verbs
+use Rattle.log_read.specs.declared.threads.ThreadVerb.{ThreadVerb}
+use Rattle.log_read.specs.declared.threads.ThreadVerb.TheVariants as thread_verbs
+use Rattle.log_read.specs.declared.drivers.DriverVerb.{DriverVerb}
+use Rattle.log_read.specs.declared.drivers.DriverVerb.TheVariants as driver_verbs
+use Rattle.log_read.specs.declared.drivers.DriverAct.{DriverAct}
+use Rattle.log_read.specs.declared.drivers.DriverAct.TheVariants as acts
+use Rattle.log_read.specs.declared.calls.CallVerb.{CallVerb}
+use Rattle.log_read.specs.declared.calls.CallVerb.TheVariants as call_verbs
 use Rattle.log_read.specs.declared.kinds.Opening.{Opening}
 use Rattle.log_read.specs.declared.kinds.Opening.TheVariants as openings
 use Rattle.log_read.specs.declared.kinds.Linking.{Linking}
@@ -27,15 +31,21 @@ thread_verb_word thread_verbs.Done = codes "done"
 
 abbrev pub driver_verb_word : DriverVerb → List ℕ
 driver_verb_word driver_verbs.Ask = codes "ask"
-driver_verb_word driver_verbs.Disable = codes "disable"
-driver_verb_word driver_verbs.HardClear = codes "hardclear"
-driver_verb_word driver_verbs.Synced = codes "synced"
-driver_verb_word driver_verbs.Enable = codes "enable"
 driver_verb_word driver_verbs.Request = codes "request"
-driver_verb_word driver_verbs.Unlink = codes "unlink"
-driver_verb_word driver_verbs.Freed = codes "freed"
 driver_verb_word driver_verbs.Affinity = codes "affinity"
 driver_verb_word driver_verbs.Moment = codes "moment"
+
+abbrev pub call_verb_word : CallVerb → List ℕ
+call_verb_word call_verbs.Disable = codes "disable"
+call_verb_word call_verbs.HardClear = codes "hardclear"
+call_verb_word call_verbs.Synced = codes "synced"
+call_verb_word call_verbs.Enable = codes "enable"
+call_verb_word call_verbs.Unlink = codes "unlink"
+call_verb_word call_verbs.Freed = codes "freed"
+
+abbrev pub driver_act_word : DriverAct → List ℕ
+driver_act_word (acts.Own verb) = driver_verb_word verb
+driver_act_word (acts.Call verb) = call_verb_word verb
 
 abbrev pub opening_word : Opening → List ℕ
 opening_word openings.No = codes "no"

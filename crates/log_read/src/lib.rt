@@ -7,12 +7,16 @@
 #![tactic(auto)]
 
 mod answers;
+mod calls;
+mod cpus;
+mod drivers;
 mod entries;
 mod kinds;
 mod numbers;
 pub mod reading;
 pub mod rows;
 mod said;
+mod threads;
 mod words;
 
 pub use numbers::number_of;

@@ -1,22 +1,12 @@
 //! Numbers of a row, and who made an entry.
 ghost use Rattle.std.specs.Prelude.{◌≡◌, ◌∷◌, codes, decimal, MatchOption};
+ghost use Rattle.log_text.specs.EntryWords.{actor_word};
 ghost use Rattle.log_text.specs.Formed.{IsSmall};
 ghost use Rattle.log_read.specs.Takes.{Any, Reads, Takes, TakesAs, number_words, one, text_words};
-ghost use Rattle.log_read.specs.Who.{who_word, IsWho};
+ghost use Rattle.log_read.specs.Who.{HasSmallActor};
 
 use crate::words::Words;
-use irq_base::{CpuNo, DevNo, DriverNo};
-
-/// Who made an entry.
-#[derive(Clone, Copy)]
-pub(crate) enum Who {
-    /// The thread of a device.
-    Thread(DevNo),
-    /// A processor.
-    Cpu(CpuNo),
-    /// A driver.
-    Driver(DriverNo),
-}
+use irq_base::{Actor, CpuNo, DevNo, DriverNo};
 
 /// Takes a number of 32 bits.
 pub(crate) fn number(words: &mut Words<'_>) -> u32
@@ -35,21 +25,21 @@ pub fn number_of(word: &[u8]) -> Option<u32>
 }
 
 /// Takes a letter, and the number right behind it.
-pub(crate) fn made_by(words: &mut Words<'_>) -> Who
-    ensures { TakesAs IsWho (one who_word) (λ w. w) words.old words.new result }
+pub(crate) fn made_by(words: &mut Words<'_>) -> Actor
+    ensures { TakesAs HasSmallActor (one actor_word) (λ a. a) words.old words.new result }
 {
     let word = words.next();
-    words.fit(who_of(word), Who::Cpu(CpuNo(0)))
+    words.fit(actor_named(word), Actor::Cpu(CpuNo(0)))
 }
 
-fn who_of(word: &[u8]) -> Option<Who>
-    ensures { Reads IsWho who_word word.now result }
+fn actor_named(word: &[u8]) -> Option<Actor>
+    ensures { Reads HasSmallActor actor_word word.now result }
 {
     let (letter, digits) = word.split_first()?;
     match *letter {
-        b'c' => Some(Who::Cpu(CpuNo(number_of(digits)?))),
-        b'd' => Some(Who::Driver(DriverNo(number_of(digits)?))),
-        b't' => Some(Who::Thread(DevNo(number_of(digits)?))),
+        b'c' => Some(Actor::Cpu(CpuNo(number_of(digits)?))),
+        b'd' => Some(Actor::Driver(DriverNo(number_of(digits)?))),
+        b't' => Some(Actor::Thread(DevNo(number_of(digits)?))),
         _ => None,
     }
 }

@@ -1,8 +1,10 @@
 -- A legal history says which of its unlinks are last ones.
 use Rattle.std.proofs.Common.{◌≡◌, ◌+◌, ◌≤◌, Bool, true, false, not, ◌&&◌, cond, List, [], ◌∷◌, filter, reverse, refl, sym, ap, ◌∙◌, arith}
 use Rattle.std.specs.List.{list_any}
+use Rattle.std.proofs.lemmas.Bool.{false≢true}
 use Rattle.irq_base.specs.declared.entries.Entry.{Entry}
-use Rattle.irq_base.specs.declared.entries.Entry.TheVariants as entries
+use Rattle.irq_base.specs.declared.entries.Entry.TheVariants as by
+use Rattle.irq_base.specs.declared.entries.CallEntry.TheVariants as called
 use Rattle.irq_base.specs.declared.entries.UnlinkAnswer.TheVariants as unlinks
 use Rattle.irq_base.specs.declared.lines.LineDef.{LineDef}
 use Rattle.irq_base.specs.declared.numbers.DevNo.{DevNo}
@@ -16,6 +18,7 @@ use Rattle.irq_steps.proofs.LinkSteps.{linked_unlink}
 use Rattle.irq_steps.proofs.ListSteps.{count_filter, requested_once}
 use Rattle.irq_steps.proofs.Same.{same_self, same_both}
 use Rattle.irq_laws.proofs.ImpliesDriver.{unlink_due}
+use Rattle.irq_laws.proofs.OwnLaws.{no_cpu_call, no_thread_call}
 use Rattle.irq_laws.proofs.Requested.{of_linked}
 use Rattle.log_summary.specs.Lasts.{TellsLast, TellsLasts}
 
@@ -47,8 +50,9 @@ answer_of : (b last only : Bool) → unlinks.Unlinked last ≡ cond b (unlinks.U
 answer_of true last only h = (cc, refl)
 answer_of false last only h = cc
 
-last_told : (def : LineDef) (r : DriverNo) (d : DevNo) (last : Bool) (past : List Entry) → IsDue def (entries.Unlink r d (unlinks.Unlinked last)) past
-    → is_none_linked (entries.Unlink r d (unlinks.Unlinked last) ∷ past) ≡ last
+last_told : (def : LineDef) (r : DriverNo) (d : DevNo) (last : Bool) (past : List Entry)
+    → IsDue def (by.DriverCall r (called.Unlink (unlinks.Unlinked last) d)) past
+    → is_none_linked (by.DriverCall r (called.Unlink (unlinks.Unlinked last) d) ∷ past) ≡ last
 last_told def r d last past due =
     let answer = answer_of (is_linked past d) last (is_only d (linked past)) (unlink_due def r d (unlinks.Unlinked last) past due).answer_is in
     let there : list_any (same_dev d) (linked past) ≡ true = of_linked (same_dev d) past d answer.1 (same_self d) in
@@ -58,8 +62,10 @@ last_told def r d last past due =
     ap is_empty (linked_unlink r d last past) ∙ left_without d (linked past) there once ∙ sym answer.0
 
 tells : (def : LineDef) (e : Entry) (past : List Entry) → IsDue def e past → TellsLast e past
-tells def (entries.Unlink r d (unlinks.Unlinked last)) past due = last_told def r d last past due
-tells def e past due = tt
+tells def (by.DriverCall r (called.Unlink (unlinks.Unlinked last) d)) past due = λ unlinks. last_told def r d last past due
+tells def (by.CpuCall c call) past due = no_cpu_call def c call past due
+tells def (by.ThreadCall c call) past due = no_thread_call def c call past due
+tells def e past due = λ unlinks. absurd (false≢true unlinks)
 
 each_tells : (def : LineDef) (past : List Entry) → IsLegalPast def past → EachEntry TellsLast past
 each_tells def [] legal = tt

@@ -7,15 +7,21 @@ use Rattle.std.proofs.lemmas.List.{reverse-append}
 use Rattle.std.proofs.lemmas.List.Sums.{sum_by-append, count_by-le-length, count_by_more_yes, count_by_more_no}
 use Rattle.std.proofs.lemmas.Option.{slice_get_within, get_or_from_slice_get}
 use Rattle.irq_base.specs.declared.entries.Entry.{Entry}
-use Rattle.irq_base.specs.declared.entries.Entry.TheVariants as entries
+use Rattle.irq_base.specs.declared.entries.Entry.TheVariants as by
+use Rattle.irq_base.specs.declared.entries.CpuEntry.TheVariants as cpus
+use Rattle.irq_base.specs.declared.entries.ThreadEntry.TheVariants as threads
+use Rattle.irq_base.specs.declared.entries.DriverEntry.TheVariants as drivers
+use Rattle.irq_base.specs.declared.entries.CallEntry.{CallEntry}
+use Rattle.irq_base.specs.declared.entries.CallEntry.TheVariants as called
 use Rattle.irq_base.specs.declared.entries.LinkAnswer.TheVariants as links
 use Rattle.irq_base.specs.declared.entries.UnlinkAnswer.TheVariants as unlinks
 use Rattle.irq_base.specs.declared.entries.Note.TheVariants as notes
 use Rattle.irq_base.specs.declared.kinds.EntryKind.{EntryKind}
 use Rattle.irq_base.specs.declared.kinds.EntryKind.TheVariants as kinds
 use Rattle.irq_base.specs.declared.numbers.DevNo.{DevNo}
-use Rattle.irq_base.specs.EntryKinds.{kind_of_entry}
-use Rattle.irq_model.specs.Kinds.{is_any_ask, is_take, is_start, is_last_unlink, is_linked_request}
+use Rattle.irq_base.specs.declared.numbers.DriverNo.{DriverNo}
+use Rattle.irq_base.specs.EntryKinds.{kind_of_entry, kind_of_call}
+use Rattle.irq_model.specs.Kinds.{is_any_ask, is_take, is_start, is_unlink, is_last_unlink, is_linked_request}
 use Rattle.irq_model.specs.Links.{is_none_linked, is_empty, is_reset, is_deepening, is_lowering}
 use Rattle.irq_model.specs.Places.{EachEntry}
 use Rattle.irq_steps.proofs.LinkSteps.{linked_request}
@@ -24,7 +30,7 @@ use Rattle.irq_steps.proofs.DepthSteps.{raised_reset, raised_more}
 use Rattle.log_summary.specs.Counted.{is_run, is_thread_run, served_by}
 use Rattle.log_summary.specs.Gained.{AreCountsOf, one_if, asks_of, takes_of, runs_of, thread_runs_of, served_of, counts_with}
 use Rattle.log_summary.specs.Lasts.{TellsLast, TellsLasts}
-use Rattle.log_summary.specs.Standings.{StandsAfter, raised, lowered, resets, is_unlinking, standing_with}
+use Rattle.log_summary.specs.Standings.{StandsAfter, raised, lowered, resets, standing_with}
 use Rattle.log_summary.specs.declared.counts.Counts.{Counts}
 use Rattle.log_summary.specs.declared.standing.Standing.{Standing}
 
@@ -62,27 +68,38 @@ record IsCountedAs (e : Entry) (k : EntryKind) : Type 0 where
   threads : cond (is_thread_run e) 1 0 ≡ thread_runs_of k
   served : served_by e ≡ served_of k
 
+call_counted : (r : DriverNo) (call : CallEntry) → IsCountedAs (by.DriverCall r call) (kind_of_call call)
+call_counted r called.Disable = record { asks = refl; takes = refl; runs = refl; threads = refl; served = refl }
+call_counted r called.HardClear = record { asks = refl; takes = refl; runs = refl; threads = refl; served = refl }
+call_counted r called.Synced = record { asks = refl; takes = refl; runs = refl; threads = refl; served = refl }
+call_counted r (called.Enable a) = record { asks = refl; takes = refl; runs = refl; threads = refl; served = refl }
+call_counted r (called.Unlink a b) = record { asks = refl; takes = refl; runs = refl; threads = refl; served = refl }
+call_counted r (called.Freed a) = record { asks = refl; takes = refl; runs = refl; threads = refl; served = refl }
+call_counted r (called.Wake a b) = record { asks = refl; takes = refl; runs = refl; threads = refl; served = refl }
+call_counted r (called.Quiet a) = record { asks = refl; takes = refl; runs = refl; threads = refl; served = refl }
+call_counted r (called.Arm a b) = record { asks = refl; takes = refl; runs = refl; threads = refl; served = refl }
+call_counted r (called.Serve a b) = record { asks = refl; takes = refl; runs = refl; threads = refl; served = refl }
+
 counted : (e : Entry) → IsCountedAs e (kind_of_entry e)
-counted (entries.Ask a b) = record { asks = refl; takes = refl; runs = refl; threads = refl; served = refl }
-counted (entries.Take a b c) = record { asks = refl; takes = refl; runs = refl; threads = refl; served = refl }
-counted (entries.Begin a b) = record { asks = refl; takes = refl; runs = refl; threads = refl; served = refl }
-counted (entries.Return a b c d) = record { asks = refl; takes = refl; runs = refl; threads = refl; served = refl }
-counted (entries.End a b c notes.Quiet) = record { asks = refl; takes = refl; runs = refl; threads = refl; served = refl }
-counted (entries.End a b c notes.Counted) = record { asks = refl; takes = refl; runs = refl; threads = refl; served = refl }
-counted (entries.End a b c notes.Killed) = record { asks = refl; takes = refl; runs = refl; threads = refl; served = refl }
-counted (entries.ThreadBegin a) = record { asks = refl; takes = refl; runs = refl; threads = refl; served = refl }
-counted (entries.ThreadReturn a b) = record { asks = refl; takes = refl; runs = refl; threads = refl; served = refl }
-counted (entries.Finish a b c) = record { asks = refl; takes = refl; runs = refl; threads = refl; served = refl }
-counted (entries.Done a) = record { asks = refl; takes = refl; runs = refl; threads = refl; served = refl }
-counted (entries.Disable a) = record { asks = refl; takes = refl; runs = refl; threads = refl; served = refl }
-counted (entries.HardClear a) = record { asks = refl; takes = refl; runs = refl; threads = refl; served = refl }
-counted (entries.Synced a) = record { asks = refl; takes = refl; runs = refl; threads = refl; served = refl }
-counted (entries.Enable a b) = record { asks = refl; takes = refl; runs = refl; threads = refl; served = refl }
-counted (entries.Request a b c d f) = record { asks = refl; takes = refl; runs = refl; threads = refl; served = refl }
-counted (entries.Unlink a b c) = record { asks = refl; takes = refl; runs = refl; threads = refl; served = refl }
-counted (entries.Freed a b) = record { asks = refl; takes = refl; runs = refl; threads = refl; served = refl }
-counted (entries.Affinity a b c) = record { asks = refl; takes = refl; runs = refl; threads = refl; served = refl }
-counted (entries.Moment a b) = record { asks = refl; takes = refl; runs = refl; threads = refl; served = refl }
+counted (by.Driver a (drivers.Ask edge b)) = record { asks = refl; takes = refl; runs = refl; threads = refl; served = refl }
+counted (by.Cpu a (cpus.Take b c)) = record { asks = refl; takes = refl; runs = refl; threads = refl; served = refl }
+counted (by.Cpu a (cpus.Begin b)) = record { asks = refl; takes = refl; runs = refl; threads = refl; served = refl }
+counted (by.Cpu a (cpus.Return c b d)) = record { asks = refl; takes = refl; runs = refl; threads = refl; served = refl }
+counted (by.Cpu a (cpus.End b c notes.Quiet)) = record { asks = refl; takes = refl; runs = refl; threads = refl; served = refl }
+counted (by.Cpu a (cpus.End b c notes.Counted)) = record { asks = refl; takes = refl; runs = refl; threads = refl; served = refl }
+counted (by.Cpu a (cpus.End b c notes.Killed)) = record { asks = refl; takes = refl; runs = refl; threads = refl; served = refl }
+counted (by.Thread a threads.Begin) = record { asks = refl; takes = refl; runs = refl; threads = refl; served = refl }
+counted (by.Thread a (threads.Return handled b)) = record { asks = refl; takes = refl; runs = refl; threads = refl; served = refl }
+counted (by.Thread a (threads.Finish b c)) = record { asks = refl; takes = refl; runs = refl; threads = refl; served = refl }
+counted (by.Thread a threads.Done) = record { asks = refl; takes = refl; runs = refl; threads = refl; served = refl }
+counted (by.Driver a (drivers.Request c d f b)) = record { asks = refl; takes = refl; runs = refl; threads = refl; served = refl }
+counted (by.Driver a (drivers.Affinity c b)) = record { asks = refl; takes = refl; runs = refl; threads = refl; served = refl }
+counted (by.Driver a (drivers.Moment b)) = record { asks = refl; takes = refl; runs = refl; threads = refl; served = refl }
+counted (by.CpuCall a call) =
+    let k = call_counted (record { 0 = 0 }) call in record { asks = k.asks; takes = k.takes; runs = k.runs; threads = k.threads; served = k.served }
+counted (by.ThreadCall a call) =
+    let k = call_counted (record { 0 = 0 }) call in record { asks = k.asks; takes = k.takes; runs = k.runs; threads = k.threads; served = k.served }
+counted (by.DriverCall a call) = call_counted a call
 
 pub counts_more : (h : List Entry) (n : ℕ) (e : Entry) (c : Counts) → slice_get h n ≡ Some e → AreCountsOf (take n h) c
     → AreCountsOf (take (n + 1) h) (counts_with c (kind_of_entry e))
@@ -126,13 +143,21 @@ one_more true = refl
 one_more false = refl
 
 -- whether a device is linked
+
+call_linked : (r : DriverNo) (call : CallEntry) (past : List Entry) (b : Bool) → b ≡ not (is_none_linked past) → TellsLast (by.DriverCall r call) past
+    → cond (is_unlink (by.DriverCall r call)) (not (is_last_unlink (by.DriverCall r call))) (b || false) ≡ not (is_none_linked (by.DriverCall r call ∷ past))
+call_linked r (called.Unlink (unlinks.Unlinked last) d) past b is told = ap not (sym (told refl))
+call_linked r (called.Unlink unlinks.NotThere d) past b is told = no_more b ∙ (is ∙ ap (λ ds. not (is_empty ds)) (sym (linked_not_there r d past)))
+call_linked r call past b is told = no_more b ∙ is
+
 linked_more : (e : Entry) (past : List Entry) (b : Bool) → b ≡ not (is_none_linked past) → TellsLast e past
-    → cond (is_unlinking e) (not (is_last_unlink e)) (b || is_linked_request e) ≡ not (is_none_linked (e ∷ past))
-linked_more (entries.Unlink r d (unlinks.Unlinked last)) past b is told = ap not (sym told)
-linked_more (entries.Unlink r d unlinks.NotThere) past b is told = no_more b ∙ (is ∙ ap (λ ds. not (is_empty ds)) (sym (linked_not_there r d past)))
-linked_more (entries.Request r d flags links.Linked opened) past b is told =
+    → cond (is_unlink e) (not (is_last_unlink e)) (b || is_linked_request e) ≡ not (is_none_linked (e ∷ past))
+linked_more (by.CpuCall c call) past b is told = call_linked (record { 0 = 0 }) call past b is told
+linked_more (by.ThreadCall c call) past b is told = call_linked (record { 0 = 0 }) call past b is told
+linked_more (by.DriverCall r call) past b is told = call_linked r call past b is told
+linked_more (by.Driver r (drivers.Request flags links.Linked opened d)) past b is told =
     one_more b ∙ ap not (sym (ap is_empty (linked_request r d flags opened past) ∙ some_last _ d))
-linked_more (entries.Request r d flags (links.Refused error) opened) past b is told =
+linked_more (by.Driver r (drivers.Request flags (links.Refused error) opened d)) past b is told =
     no_more b ∙ (is ∙ ap (λ ds. not (is_empty ds)) (sym (linked_refused r d flags error opened past)))
 linked_more e past b is told = no_more b ∙ is
 
@@ -210,28 +235,37 @@ lowered_small e s n h = by_tests (resets s e) (is_lowering e)
 
 -- ---- an entry of another kind changes nothing of how the line stands
 
-unmoved : (e : Entry) (s : Standing) → is_unlinking e ≡ false → is_last_unlink e ≡ false → is_linked_request e ≡ false
+unmoved : (e : Entry) (s : Standing) → is_unlink e ≡ false → is_last_unlink e ≡ false → is_linked_request e ≡ false
     → is_deepening e ≡ false → is_lowering e ≡ false → standing_with s e ≡ s
 unmoved e s a b c d f = rw (a, b, c, d, f) (let n = no_more s.linked in search (rules, n))
 
+call_same : (r : DriverNo) (call : CallEntry) (s : Standing) → (kind_of_call call ≡ kinds.Standing → ⊥) → standing_with s (by.DriverCall r call) ≡ s
+call_same r called.Disable s other = absurd (other refl)
+call_same r called.HardClear s other = unmoved (by.DriverCall r called.HardClear) s refl refl refl refl refl
+call_same r called.Synced s other = unmoved (by.DriverCall r called.Synced) s refl refl refl refl refl
+call_same r (called.Enable a) s other = absurd (other refl)
+call_same r (called.Unlink a b) s other = absurd (other refl)
+call_same r (called.Freed a) s other = unmoved (by.DriverCall r (called.Freed a)) s refl refl refl refl refl
+call_same r (called.Wake a b) s other = unmoved (by.DriverCall r (called.Wake a b)) s refl refl refl refl refl
+call_same r (called.Quiet a) s other = unmoved (by.DriverCall r (called.Quiet a)) s refl refl refl refl refl
+call_same r (called.Arm a b) s other = unmoved (by.DriverCall r (called.Arm a b)) s refl refl refl refl refl
+call_same r (called.Serve a b) s other = unmoved (by.DriverCall r (called.Serve a b)) s refl refl refl refl refl
+
 pub stands_same : (e : Entry) (s : Standing) → (kind_of_entry e ≡ kinds.Standing → ⊥) → standing_with s e ≡ s
-stands_same (entries.Ask a b) s other = unmoved (entries.Ask a b) s refl refl refl refl refl
-stands_same (entries.Take a b c) s other = unmoved (entries.Take a b c) s refl refl refl refl refl
-stands_same (entries.Begin a b) s other = unmoved (entries.Begin a b) s refl refl refl refl refl
-stands_same (entries.Return a b c d) s other = unmoved (entries.Return a b c d) s refl refl refl refl refl
-stands_same (entries.End a b c notes.Quiet) s other = unmoved (entries.End a b c notes.Quiet) s refl refl refl refl refl
-stands_same (entries.End a b c notes.Counted) s other = unmoved (entries.End a b c notes.Counted) s refl refl refl refl refl
-stands_same (entries.End a b c notes.Killed) s other = absurd (other refl)
-stands_same (entries.ThreadBegin a) s other = unmoved (entries.ThreadBegin a) s refl refl refl refl refl
-stands_same (entries.ThreadReturn a b) s other = unmoved (entries.ThreadReturn a b) s refl refl refl refl refl
-stands_same (entries.Finish a b c) s other = unmoved (entries.Finish a b c) s refl refl refl refl refl
-stands_same (entries.Done a) s other = unmoved (entries.Done a) s refl refl refl refl refl
-stands_same (entries.Disable a) s other = absurd (other refl)
-stands_same (entries.HardClear a) s other = unmoved (entries.HardClear a) s refl refl refl refl refl
-stands_same (entries.Synced a) s other = unmoved (entries.Synced a) s refl refl refl refl refl
-stands_same (entries.Enable a b) s other = absurd (other refl)
-stands_same (entries.Request a b c d f) s other = absurd (other refl)
-stands_same (entries.Unlink a b c) s other = absurd (other refl)
-stands_same (entries.Freed a b) s other = unmoved (entries.Freed a b) s refl refl refl refl refl
-stands_same (entries.Affinity a b c) s other = unmoved (entries.Affinity a b c) s refl refl refl refl refl
-stands_same (entries.Moment a b) s other = unmoved (entries.Moment a b) s refl refl refl refl refl
+stands_same (by.Driver a (drivers.Ask edge b)) s other = unmoved (by.Driver a (drivers.Ask edge b)) s refl refl refl refl refl
+stands_same (by.Cpu a (cpus.Take b c)) s other = unmoved (by.Cpu a (cpus.Take b c)) s refl refl refl refl refl
+stands_same (by.Cpu a (cpus.Begin b)) s other = unmoved (by.Cpu a (cpus.Begin b)) s refl refl refl refl refl
+stands_same (by.Cpu a (cpus.Return c b d)) s other = unmoved (by.Cpu a (cpus.Return c b d)) s refl refl refl refl refl
+stands_same (by.Cpu a (cpus.End b c notes.Quiet)) s other = unmoved (by.Cpu a (cpus.End b c notes.Quiet)) s refl refl refl refl refl
+stands_same (by.Cpu a (cpus.End b c notes.Counted)) s other = unmoved (by.Cpu a (cpus.End b c notes.Counted)) s refl refl refl refl refl
+stands_same (by.Cpu a (cpus.End b c notes.Killed)) s other = absurd (other refl)
+stands_same (by.Thread a threads.Begin) s other = unmoved (by.Thread a threads.Begin) s refl refl refl refl refl
+stands_same (by.Thread a (threads.Return handled b)) s other = unmoved (by.Thread a (threads.Return handled b)) s refl refl refl refl refl
+stands_same (by.Thread a (threads.Finish b c)) s other = unmoved (by.Thread a (threads.Finish b c)) s refl refl refl refl refl
+stands_same (by.Thread a threads.Done) s other = unmoved (by.Thread a threads.Done) s refl refl refl refl refl
+stands_same (by.Driver a (drivers.Request c d f b)) s other = absurd (other refl)
+stands_same (by.Driver a (drivers.Affinity c b)) s other = unmoved (by.Driver a (drivers.Affinity c b)) s refl refl refl refl refl
+stands_same (by.Driver a (drivers.Moment b)) s other = unmoved (by.Driver a (drivers.Moment b)) s refl refl refl refl refl
+stands_same (by.CpuCall a call) s other = call_same (record { 0 = 0 }) call s other
+stands_same (by.ThreadCall a call) s other = call_same (record { 0 = 0 }) call s other
+stands_same (by.DriverCall a call) s other = call_same a call s other

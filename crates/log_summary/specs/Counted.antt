@@ -1,20 +1,22 @@
 -- What is counted of a history.
 use Rattle.std.specs.Prelude.{ℕ, Bool, true, false}
 use Rattle.irq_base.specs.declared.entries.Entry.{Entry}
-use Rattle.irq_base.specs.declared.entries.Entry.TheVariants as entries
+use Rattle.irq_base.specs.declared.entries.Entry.TheVariants as by
+use Rattle.irq_base.specs.declared.entries.CpuEntry.TheVariants as cpus
+use Rattle.irq_base.specs.declared.entries.ThreadEntry.TheVariants as threads
 
 -- a handler is called
 abbrev pub is_run : Entry → Bool
-is_run (entries.Begin cpu dev) = true
+is_run (by.Cpu cpu (cpus.Begin dev)) = true
 is_run _ = false
 
 -- a thread's handler is called
 abbrev pub is_thread_run : Entry → Bool
-is_thread_run (entries.ThreadBegin dev) = true
+is_thread_run (by.Thread dev threads.Begin) = true
 is_thread_run _ = false
 
 -- how many asks a run that returns has served, of a handler or of a thread
 abbrev pub served_by : Entry → ℕ
-served_by (entries.Return cpu dev answer served) = served
-served_by (entries.ThreadReturn dev served) = served
+served_by (by.Cpu cpu (cpus.Return answer dev served)) = served
+served_by (by.Thread dev (threads.Return handled served)) = served
 served_by _ = 0

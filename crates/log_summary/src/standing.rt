@@ -2,10 +2,13 @@
 ghost use Rattle.std.specs.Prelude.{◌≡◌, ◌^◌, ◌<◌, ◌≤◌, [], List, length, not, if◌then◌else◌};
 ghost use Rattle.irq_base.specs.declared.entries.Entry.{Entry};
 ghost use Rattle.irq_model.specs.Kinds.{is_lowering_opened, opened_by_enable};
-ghost use Rattle.log_summary.specs.Standings.{StandsAfter, requested_standing, standing_with};
+ghost use Rattle.log_summary.specs.Standings.{StandsAfter, called_standing};
+ghost use Rattle.log_summary.specs.Standings.{requested_standing, standing_with};
 ghost use Rattle.log_summary.specs.Texts.{state_word};
 
-use irq_base::{EnableAnswer, Entry, LinkAnswer, Note, Opened, UnlinkAnswer};
+use irq_base::{
+    CallEntry, CpuEntry, DriverEntry, EnableAnswer, Entry, LinkAnswer, Note, Opened, UnlinkAnswer,
+};
 
 /// How a line stands. The depth (`desc->depth`) is kept as two sums: the line is disabled if the
 /// depth was raised further than it was lowered.
@@ -39,32 +42,44 @@ impl Standing {
         ensures with { self.new ≡ standing_with self.old entry }
     {
         match entry {
-            Entry::Disable { .. }
-            | Entry::End {
-                note: Note::Killed,
-                ..
-            } => self.raised += 1,
-            Entry::Enable { answer, .. } => self.lowered += u32::from(lowers(opened_by(answer))),
-            Entry::Request { answer, opened, .. } => self.request(answer, opened),
-            Entry::Unlink {
+            Entry::Cpu(
+                _,
+                CpuEntry::End {
+                    note: Note::Killed,
+                    ..
+                },
+            ) => self.raised += 1,
+            Entry::Driver(_, DriverEntry::Request { answer, opened, .. }) => {
+                self.request(answer, opened);
+            }
+            Entry::CpuCall(_, call) | Entry::ThreadCall(_, call) | Entry::DriverCall(_, call) => {
+                self.call(call);
+            }
+            Entry::Cpu(_, _) | Entry::Thread(_, _) | Entry::Driver(_, _) => {}
+        }
+    }
+
+    // A call was made: a disable raises the depth, an enable may lower it.
+    fn call(&mut self, call: CallEntry)
+        requires raised { self.old.raised < 2 ^ 31 }
+        requires lowered { self.old.lowered < 2 ^ 31 }
+        ensures { self.new ≡ called_standing self.old call }
+    {
+        match call {
+            CallEntry::Disable => self.raised += 1,
+            CallEntry::Enable { answer } => self.lowered += u32::from(lowers(opened_by(answer))),
+            CallEntry::Unlink {
                 answer: UnlinkAnswer::Unlinked { last },
                 ..
             } => self.unlink(last),
-            Entry::Take { .. }
-            | Entry::Begin { .. }
-            | Entry::Return { .. }
-            | Entry::End { .. }
-            | Entry::ThreadBegin { .. }
-            | Entry::ThreadReturn { .. }
-            | Entry::Finish { .. }
-            | Entry::Done { .. }
-            | Entry::Ask { .. }
-            | Entry::Unlink { .. }
-            | Entry::Freed { .. }
-            | Entry::HardClear { .. }
-            | Entry::Synced { .. }
-            | Entry::Affinity { .. }
-            | Entry::Moment { .. } => {}
+            CallEntry::HardClear
+            | CallEntry::Synced
+            | CallEntry::Unlink { .. }
+            | CallEntry::Freed { .. }
+            | CallEntry::Wake { .. }
+            | CallEntry::Quiet { .. }
+            | CallEntry::Arm { .. }
+            | CallEntry::Serve { .. } => {}
         }
     }
 

@@ -8,7 +8,6 @@ use Rattle.irq_base.specs.declared.calls.Flags.{Flags}
 use Rattle.irq_base.specs.declared.devices.Answer.{Answer}
 use Rattle.irq_base.specs.declared.devices.Answer.TheVariants as answers
 use Rattle.irq_base.specs.declared.entries.Entry.{Entry}
-use Rattle.irq_base.specs.declared.entries.Entry.TheVariants as entries
 use Rattle.irq_base.specs.declared.entries.Errno.{Errno}
 use Rattle.irq_base.specs.declared.entries.Errno.TheVariants as errnos
 use Rattle.irq_base.specs.declared.entries.Way.{Way}

@@ -1,13 +1,17 @@
 -- Different entries have different rows, and different histories different texts.
 use Rattle.std.proofs.Common.{◌≡◌, ℕ, zero, suc, ◌+◌, ◌<◌, ◌≤◌, ◌^◌, Bool, true, false, cond, eqb, List, [], ◌∷◌, ◌++◌}
-use Rattle.std.proofs.Common.{codes, decimal, drop, get_or, length, append_assoc, refl, ap, ◌∙◌, sym, arith}
+use Rattle.std.proofs.Common.{codes, decimal, drop, get_or, length, append_assoc, refl, ap, ◌∙◌, sym, arith, nat_lt}
 use Rattle.std.specs.List.{All, join_with_byte, AllByRecursion}
 use Rattle.std.proofs.lemmas.List.Elements.{recursion_from_All}
 use Rattle.std.specs.Str.Parse.{digits_value}
 use Rattle.std.proofs.lemmas.Fmt.{decimal_injective}
 use Rattle.std.proofs.lemmas.List.{append_cancel_right}
 use Rattle.irq_base.specs.declared.entries.Entry.{Entry}
-use Rattle.irq_base.specs.declared.entries.Entry.TheVariants as entries
+use Rattle.irq_base.specs.declared.entries.Entry.TheVariants as by
+use Rattle.irq_base.specs.declared.entries.CpuEntry.TheVariants as cpus
+use Rattle.irq_base.specs.declared.entries.ThreadEntry.TheVariants as threads
+use Rattle.irq_base.specs.declared.entries.DriverEntry.TheVariants as drivers
+use Rattle.irq_base.specs.declared.entries.CallEntry.TheVariants as called
 use Rattle.irq_base.specs.declared.entries.Opened.TheVariants as openings
 use Rattle.irq_base.specs.declared.entries.LinkAnswer.TheVariants as links
 use Rattle.irq_base.specs.declared.numbers.CpuNo.{CpuNo}
@@ -34,30 +38,31 @@ dev_at words i = record { 0 = number_at words i }
 
 abbrev cpu_entry : CpuNo → List ℕ → List (List ℕ) → Entry
 cpu_entry cpu verb args =
-    cond (is verb (codes "take")) (entries.Take cpu (way_at (at args 0)) (take_at (at args 1)))
-    (cond (is verb (codes "begin")) (entries.Begin cpu (dev_at args 0))
-    (cond (is verb (codes "return")) (entries.Return cpu (dev_at args 0) (answer_at (at args 1)) (number_at args 2))
-    (entries.End cpu (loop_at (at args 0)) (mask_at (at args 1)) (note_at (at args 2)))))
+    cond (is verb (codes "take")) (by.Cpu cpu (cpus.Take (way_at (at args 0)) (take_at (at args 1))))
+    (cond (is verb (codes "begin")) (by.Cpu cpu (cpus.Begin (dev_at args 0)))
+    (cond (is verb (codes "return")) (by.Cpu cpu (cpus.Return (answer_at (at args 1)) (dev_at args 0) (number_at args 2)))
+    (by.Cpu cpu (cpus.End (loop_at (at args 0)) (mask_at (at args 1)) (note_at (at args 2))))))
 
 abbrev thread_entry : DevNo → List ℕ → List (List ℕ) → Entry
 thread_entry dev verb args =
-    cond (is verb (codes "begin")) (entries.ThreadBegin dev)
-    (cond (is verb (codes "return")) (entries.ThreadReturn dev (number_at args 0))
-    (cond (is verb (codes "finish")) (entries.Finish dev (bit_at (at args 0)) (mask_at (at args 1)))
-    (entries.Done dev)))
+    cond (is verb (codes "begin")) (by.Thread dev threads.Begin)
+    (cond (is verb (codes "return")) (by.Thread dev (threads.Return (nat_lt 0 (number_at args 0)) (number_at args 0)))
+    (cond (is verb (codes "finish")) (by.Thread dev (threads.Finish (bit_at (at args 0)) (mask_at (at args 1))))
+    (by.Thread dev threads.Done)))
 
 abbrev driver_entry : DriverNo → List ℕ → List (List ℕ) → Entry
 driver_entry driver verb args =
-    cond (is verb (codes "ask")) (entries.Ask driver (dev_at args 0))
-    (cond (is verb (codes "disable")) (entries.Disable driver)
-    (cond (is verb (codes "hardclear")) (entries.HardClear driver)
-    (cond (is verb (codes "synced")) (entries.Synced driver)
-    (cond (is verb (codes "enable")) (entries.Enable driver (enable_at args))
-    (cond (is verb (codes "request")) (entries.Request driver (dev_at args 0) (flags_at (at args 1)) (link_at (drop 2 args)) (linked_at (drop 2 args)))
-    (cond (is verb (codes "unlink")) (entries.Unlink driver (dev_at args 0) (unlink_at (at args 1)))
-    (cond (is verb (codes "freed")) (entries.Freed driver (dev_at args 0))
-    (cond (is verb (codes "affinity")) (entries.Affinity driver (number_at args 0) (affinity_at (drop 1 args)))
-    (entries.Moment driver (number_at args 0))))))))))
+    cond (is verb (codes "ask")) (by.Driver driver (drivers.Ask true (dev_at args 0)))
+    (cond (is verb (codes "disable")) (by.DriverCall driver called.Disable)
+    (cond (is verb (codes "hardclear")) (by.DriverCall driver called.HardClear)
+    (cond (is verb (codes "synced")) (by.DriverCall driver called.Synced)
+    (cond (is verb (codes "enable")) (by.DriverCall driver (called.Enable (enable_at args)))
+    (cond (is verb (codes "request"))
+    (by.Driver driver (drivers.Request (flags_at (at args 1)) (link_at (drop 2 args)) (linked_at (drop 2 args)) (dev_at args 0)))
+    (cond (is verb (codes "unlink")) (by.DriverCall driver (called.Unlink (unlink_at (at args 1)) (dev_at args 0)))
+    (cond (is verb (codes "freed")) (by.DriverCall driver (called.Freed (dev_at args 0)))
+    (cond (is verb (codes "affinity")) (by.Driver driver (drivers.Affinity (affinity_at (drop 1 args)) (number_at args 0)))
+    (by.Driver driver (drivers.Moment (number_at args 0)))))))))))
 
 -- the entry that the words say
 abbrev entry_at : List (List ℕ) → Entry
@@ -90,35 +95,50 @@ abbrev line_no : ℕ → LineNo
 line_no n = record { 0 = n }
 
 entry_back : (e : Entry) → IsWritable e → entry_at (entry_words e) ≡ e
-entry_back (entries.Ask driver dev) w = ap2 (λ a b. entries.Ask (driver_no a) (dev_no b)) (number_back driver.0 w.small.0) (number_back dev.0 w.small.1)
-entry_back (entries.Take cpu way answer) w = ap3 (λ a b c. entries.Take (cpu_no a) b c) (number_back cpu.0 w.small) (way_back way) (take_back answer)
-entry_back (entries.Begin cpu dev) w = ap2 (λ a b. entries.Begin (cpu_no a) (dev_no b)) (number_back cpu.0 w.small.0) (number_back dev.0 w.small.1)
-entry_back (entries.Return cpu dev answer served) w =
-    ap4 (λ a b c d. entries.Return (cpu_no a) (dev_no b) c d) (number_back cpu.0 w.small.0)
-    (number_back dev.0 w.small.1) (answer_back answer) (number_back served w.small.2)
-entry_back (entries.End cpu again unmask note) w =
-    ap4 (λ a b c d. entries.End (cpu_no a) b c d) (number_back cpu.0 w.small) (loop_back again) (mask_back unmask) (note_back note)
-entry_back (entries.ThreadBegin dev) w = ap (λ a. entries.ThreadBegin (dev_no a)) (number_back dev.0 w.small)
-entry_back (entries.ThreadReturn dev served) w = ap2 (λ a b. entries.ThreadReturn (dev_no a) b) (number_back dev.0 w.small.0) (number_back served w.small.1)
-entry_back (entries.Finish dev kept unmask) w = ap3 (λ a b c. entries.Finish (dev_no a) b c) (number_back dev.0 w.small) (bit_back kept) (mask_back unmask)
-entry_back (entries.Done dev) w = ap (λ a. entries.Done (dev_no a)) (number_back dev.0 w.small)
-entry_back (entries.Disable driver) w = ap (λ a. entries.Disable (driver_no a)) (number_back driver.0 w.small)
-entry_back (entries.HardClear driver) w = ap (λ a. entries.HardClear (driver_no a)) (number_back driver.0 w.small)
-entry_back (entries.Synced driver) w = ap (λ a. entries.Synced (driver_no a)) (number_back driver.0 w.small)
-entry_back (entries.Enable driver answer) w = ap2 (λ a b. entries.Enable (driver_no a) b) (number_back driver.0 w.small) (enable_back answer)
-entry_back (entries.Request driver dev flags links.Linked opened) w =
-    ap4 (λ a b c d. entries.Request (driver_no a) (dev_no b) c links.Linked d) (number_back driver.0 w.small.0)
+entry_back (by.Driver driver (drivers.Ask edge dev)) w =
+    ap2 (λ a b. by.Driver (driver_no a) (drivers.Ask true (dev_no b))) (number_back driver.0 w.small.0) (number_back dev.0 w.small.1)
+    ∙ ap (λ x. by.Driver driver (drivers.Ask x dev)) (sym w.printable)
+entry_back (by.Cpu cpu (cpus.Take way answer)) w =
+    ap3 (λ a b c. by.Cpu (cpu_no a) (cpus.Take b c)) (number_back cpu.0 w.small.0) (way_back way) (take_back answer)
+entry_back (by.Cpu cpu (cpus.Begin dev)) w = ap2 (λ a b. by.Cpu (cpu_no a) (cpus.Begin (dev_no b))) (number_back cpu.0 w.small.0) (number_back dev.0 w.small.1)
+entry_back (by.Cpu cpu (cpus.Return answer dev served)) w =
+    ap4 (λ a b c d. by.Cpu (cpu_no a) (cpus.Return c (dev_no b) d)) (number_back cpu.0 w.small.0)
+    (number_back dev.0 w.small.1.0) (answer_back answer) (number_back served w.small.1.1)
+entry_back (by.Cpu cpu (cpus.End again unmask note)) w =
+    ap4 (λ a b c d. by.Cpu (cpu_no a) (cpus.End b c d)) (number_back cpu.0 w.small.0) (loop_back again) (mask_back unmask) (note_back note)
+entry_back (by.Thread dev threads.Begin) w = ap (λ a. by.Thread (dev_no a) threads.Begin) (number_back dev.0 w.small.0)
+entry_back (by.Thread dev (threads.Return handled served)) w =
+    ap2 (λ a b. by.Thread (dev_no a) (threads.Return (nat_lt 0 b) b)) (number_back dev.0 w.small.0) (number_back served w.small.1)
+    ∙ ap (λ x. by.Thread dev (threads.Return x served)) (sym w.printable)
+entry_back (by.Thread dev (threads.Finish kept unmask)) w =
+    ap3 (λ a b c. by.Thread (dev_no a) (threads.Finish b c)) (number_back dev.0 w.small.0) (bit_back kept) (mask_back unmask)
+entry_back (by.Thread dev threads.Done) w = ap (λ a. by.Thread (dev_no a) threads.Done) (number_back dev.0 w.small.0)
+entry_back (by.DriverCall driver called.Disable) w = ap (λ a. by.DriverCall (driver_no a) called.Disable) (number_back driver.0 w.small.0)
+entry_back (by.DriverCall driver called.HardClear) w = ap (λ a. by.DriverCall (driver_no a) called.HardClear) (number_back driver.0 w.small.0)
+entry_back (by.DriverCall driver called.Synced) w = ap (λ a. by.DriverCall (driver_no a) called.Synced) (number_back driver.0 w.small.0)
+entry_back (by.DriverCall driver (called.Enable answer)) w =
+    ap2 (λ a b. by.DriverCall (driver_no a) (called.Enable b)) (number_back driver.0 w.small.0) (enable_back answer)
+entry_back (by.Driver driver (drivers.Request flags links.Linked opened dev)) w =
+    ap4 (λ a b c d. by.Driver (driver_no a) (drivers.Request c links.Linked d (dev_no b))) (number_back driver.0 w.small.0)
     (number_back dev.0 w.small.1) (flags_back flags) (opened_back opened)
-entry_back (entries.Request driver dev flags (links.Refused errno) opened) w =
-    ap4 (λ a b c d. entries.Request (driver_no a) (dev_no b) c d openings.No) (number_back driver.0 w.small.0)
+entry_back (by.Driver driver (drivers.Request flags (links.Refused errno) opened dev)) w =
+    ap4 (λ a b c d. by.Driver (driver_no a) (drivers.Request c d openings.No (dev_no b))) (number_back driver.0 w.small.0)
     (number_back dev.0 w.small.1) (flags_back flags) (link_back (links.Refused errno) openings.No)
-    ∙ ap (λ o. entries.Request driver dev flags (links.Refused errno) o) (sym w.printable)
-entry_back (entries.Unlink driver dev answer) w =
-    ap3 (λ a b c. entries.Unlink (driver_no a) (dev_no b) c) (number_back driver.0 w.small.0) (number_back dev.0 w.small.1) (unlink_back answer)
-entry_back (entries.Freed driver dev) w = ap2 (λ a b. entries.Freed (driver_no a) (dev_no b)) (number_back driver.0 w.small.0) (number_back dev.0 w.small.1)
-entry_back (entries.Affinity driver mask answer) w =
-    ap3 (λ a b c. entries.Affinity (driver_no a) b c) (number_back driver.0 w.small.0) (number_back mask w.small.1) (affinity_back answer)
-entry_back (entries.Moment driver moment) w = ap2 (λ a b. entries.Moment (driver_no a) b) (number_back driver.0 w.small.0) (number_back moment w.small.1)
+    ∙ ap (λ o. by.Driver driver (drivers.Request flags (links.Refused errno) o dev)) (sym w.printable)
+entry_back (by.DriverCall driver (called.Unlink answer dev)) w =
+    ap3 (λ a b c. by.DriverCall (driver_no a) (called.Unlink c (dev_no b))) (number_back driver.0 w.small.0) (number_back dev.0 w.small.1) (unlink_back answer)
+entry_back (by.DriverCall driver (called.Freed dev)) w =
+    ap2 (λ a b. by.DriverCall (driver_no a) (called.Freed (dev_no b))) (number_back driver.0 w.small.0) (number_back dev.0 w.small.1)
+entry_back (by.Driver driver (drivers.Affinity answer mask)) w =
+    ap3 (λ a b c. by.Driver (driver_no a) (drivers.Affinity c b)) (number_back driver.0 w.small.0) (number_back mask w.small.1) (affinity_back answer)
+entry_back (by.Driver driver (drivers.Moment moment)) w =
+    ap2 (λ a b. by.Driver (driver_no a) (drivers.Moment b)) (number_back driver.0 w.small.0) (number_back moment w.small.1)
+entry_back (by.CpuCall cpu call) w = absurd w.printable
+entry_back (by.ThreadCall dev call) w = absurd w.printable
+entry_back (by.DriverCall driver (called.Wake woken dev)) w = absurd w.printable
+entry_back (by.DriverCall driver (called.Quiet dev)) w = absurd w.printable
+entry_back (by.DriverCall driver (called.Arm edge dev)) w = absurd w.printable
+entry_back (by.DriverCall driver (called.Serve dev served)) w = absurd w.printable
 
 -- entries of the same words are the same
 pub same_words : (e f : Entry) → IsWritable e → IsWritable f → entry_words e ≡ entry_words f → e ≡ f

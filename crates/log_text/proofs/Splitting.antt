@@ -11,7 +11,11 @@ use Rattle.irq_base.specs.declared.calls.Flags.{Flags}
 use Rattle.irq_base.specs.declared.devices.Answer.{Answer}
 use Rattle.irq_base.specs.declared.devices.Answer.TheVariants as answers
 use Rattle.irq_base.specs.declared.entries.Entry.{Entry}
-use Rattle.irq_base.specs.declared.entries.Entry.TheVariants as entries
+use Rattle.irq_base.specs.declared.entries.Entry.TheVariants as by
+use Rattle.irq_base.specs.declared.entries.CpuEntry.TheVariants as cpus
+use Rattle.irq_base.specs.declared.entries.ThreadEntry.TheVariants as threads
+use Rattle.irq_base.specs.declared.entries.DriverEntry.TheVariants as drivers
+use Rattle.irq_base.specs.declared.entries.CallEntry.TheVariants as called
 use Rattle.irq_base.specs.declared.entries.Errno.{Errno}
 use Rattle.irq_base.specs.declared.entries.Errno.TheVariants as errnos
 use Rattle.irq_base.specs.declared.entries.Way.{Way}
@@ -191,36 +195,42 @@ who_is n letter words small h verb v i = more (letter ∷ decimal n) (verb ∷ w
     (and_from (ltb 32 letter) (are_above 32 (decimal n)) h (number_word n small)) (more verb words v i)
 
 entry_is : (e : Entry) → IsWritable e → AreWords (entry_words e)
-entry_is (entries.Ask driver dev) w = who_is driver.0 100 _ w.small.0 refl (codes "ask") refl (number_is dev.0 [] w.small.1 none)
-entry_is (entries.Take cpu way answer) w = who_is cpu.0 99 _ w.small refl (codes "take") refl
+entry_is (by.Driver driver (drivers.Ask edge dev)) w = who_is driver.0 100 _ w.small.0 refl (codes "ask") refl (number_is dev.0 [] w.small.1 none)
+entry_is (by.Cpu cpu (cpus.Take way answer)) w = who_is cpu.0 99 _ w.small.0 refl (codes "take") refl
     (more (way_word way) _ (way_is way) (one (take_word answer) (take_is answer)))
-entry_is (entries.Begin cpu dev) w = who_is cpu.0 99 _ w.small.0 refl (codes "begin") refl (number_is dev.0 [] w.small.1 none)
-entry_is (entries.Return cpu dev answer served) w =
+entry_is (by.Cpu cpu (cpus.Begin dev)) w = who_is cpu.0 99 _ w.small.0 refl (codes "begin") refl (number_is dev.0 [] w.small.1 none)
+entry_is (by.Cpu cpu (cpus.Return answer dev served)) w =
     who_is cpu.0 99 _ w.small.0 refl (codes "return") refl
-    (number_is dev.0 _ w.small.1 (more (answer_word answer) _ (answer_is answer)
-    (number_is served [] w.small.2 none)))
-entry_is (entries.End cpu again unmask note) w =
-    who_is cpu.0 99 _ w.small refl (codes "end") refl (more (loop_word again) _ (loop_is again)
+    (number_is dev.0 _ w.small.1.0 (more (answer_word answer) _ (answer_is answer)
+    (number_is served [] w.small.1.1 none)))
+entry_is (by.Cpu cpu (cpus.End again unmask note)) w =
+    who_is cpu.0 99 _ w.small.0 refl (codes "end") refl (more (loop_word again) _ (loop_is again)
     (more (mask_word unmask) _ (mask_is unmask) (one (note_word note) (note_is note))))
-entry_is (entries.ThreadBegin dev) w = who_is dev.0 116 _ w.small refl (codes "begin") refl none
-entry_is (entries.ThreadReturn dev served) w = who_is dev.0 116 _ w.small.0 refl (codes "return") refl (number_is served [] w.small.1 none)
-entry_is (entries.Finish dev kept unmask) w = who_is dev.0 116 _ w.small refl (codes "finish") refl
+entry_is (by.Thread dev threads.Begin) w = who_is dev.0 116 _ w.small.0 refl (codes "begin") refl none
+entry_is (by.Thread dev (threads.Return handled served)) w = who_is dev.0 116 _ w.small.0 refl (codes "return") refl (number_is served [] w.small.1 none)
+entry_is (by.Thread dev (threads.Finish kept unmask)) w = who_is dev.0 116 _ w.small.0 refl (codes "finish") refl
     (more (bit_word kept) _ (bit_is kept) (one (mask_word unmask) (mask_is unmask)))
-entry_is (entries.Done dev) w = who_is dev.0 116 _ w.small refl (codes "done") refl none
-entry_is (entries.Disable driver) w = who_is driver.0 100 _ w.small refl (codes "disable") refl none
-entry_is (entries.HardClear driver) w = who_is driver.0 100 _ w.small refl (codes "hardclear") refl none
-entry_is (entries.Synced driver) w = who_is driver.0 100 _ w.small refl (codes "synced") refl none
-entry_is (entries.Enable driver answer) w = who_is driver.0 100 _ w.small refl (codes "enable") refl (record { are = enable_are answer })
-entry_is (entries.Request driver dev flags answer opened) w =
+entry_is (by.Thread dev threads.Done) w = who_is dev.0 116 _ w.small.0 refl (codes "done") refl none
+entry_is (by.DriverCall driver called.Disable) w = who_is driver.0 100 _ w.small.0 refl (codes "disable") refl none
+entry_is (by.DriverCall driver called.HardClear) w = who_is driver.0 100 _ w.small.0 refl (codes "hardclear") refl none
+entry_is (by.DriverCall driver called.Synced) w = who_is driver.0 100 _ w.small.0 refl (codes "synced") refl none
+entry_is (by.DriverCall driver (called.Enable answer)) w = who_is driver.0 100 _ w.small.0 refl (codes "enable") refl (record { are = enable_are answer })
+entry_is (by.Driver driver (drivers.Request flags answer opened dev)) w =
     who_is driver.0 100 _ w.small.0 refl (codes "request") refl
     (number_is dev.0 _ w.small.1 (more (flags_word flags) _ (flags_is flags)
     (record { are = link_are answer opened })))
-entry_is (entries.Unlink driver dev answer) w = who_is driver.0 100 _ w.small.0 refl (codes "unlink") refl
+entry_is (by.DriverCall driver (called.Unlink answer dev)) w = who_is driver.0 100 _ w.small.0 refl (codes "unlink") refl
     (number_is dev.0 _ w.small.1 (one (unlink_word answer) (unlink_is answer)))
-entry_is (entries.Freed driver dev) w = who_is driver.0 100 _ w.small.0 refl (codes "freed") refl (number_is dev.0 [] w.small.1 none)
-entry_is (entries.Affinity driver mask answer) w = who_is driver.0 100 _ w.small.0 refl (codes "affinity") refl
+entry_is (by.DriverCall driver (called.Freed dev)) w = who_is driver.0 100 _ w.small.0 refl (codes "freed") refl (number_is dev.0 [] w.small.1 none)
+entry_is (by.Driver driver (drivers.Affinity answer mask)) w = who_is driver.0 100 _ w.small.0 refl (codes "affinity") refl
     (number_is mask _ w.small.1 (record { are = affinity_are answer }))
-entry_is (entries.Moment driver moment) w = who_is driver.0 100 _ w.small.0 refl (codes "moment") refl (number_is moment [] w.small.1 none)
+entry_is (by.Driver driver (drivers.Moment moment)) w = who_is driver.0 100 _ w.small.0 refl (codes "moment") refl (number_is moment [] w.small.1 none)
+entry_is (by.CpuCall cpu call) w = absurd w.printable
+entry_is (by.ThreadCall dev call) w = absurd w.printable
+entry_is (by.DriverCall driver (called.Wake woken dev)) w = absurd w.printable
+entry_is (by.DriverCall driver (called.Quiet dev)) w = absurd w.printable
+entry_is (by.DriverCall driver (called.Arm edge dev)) w = absurd w.printable
+entry_is (by.DriverCall driver (called.Serve dev served)) w = absurd w.printable
 
 -- the words of a row, with the line's number
 abbrev pub row_words : LineNo → Entry → List (List ℕ)

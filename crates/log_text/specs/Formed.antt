@@ -1,7 +1,15 @@
 -- Which texts are rows of a log.
 use Rattle.std.specs.Prelude.{◌≡◌, ℕ, ◌<◌, ◌^◌, List}
+use Rattle.irq_base.specs.declared.entries.CpuEntry.{CpuEntry}
+use Rattle.irq_base.specs.declared.entries.CpuEntry.TheVariants as cpus
+use Rattle.irq_base.specs.declared.entries.ThreadEntry.{ThreadEntry}
+use Rattle.irq_base.specs.declared.entries.ThreadEntry.TheVariants as threads
+use Rattle.irq_base.specs.declared.entries.DriverEntry.{DriverEntry}
+use Rattle.irq_base.specs.declared.entries.DriverEntry.TheVariants as drivers
+use Rattle.irq_base.specs.declared.entries.CallEntry.{CallEntry}
+use Rattle.irq_base.specs.declared.entries.CallEntry.TheVariants as called
 use Rattle.irq_base.specs.declared.entries.Entry.{Entry}
-use Rattle.irq_base.specs.declared.entries.Entry.TheVariants as entries
+use Rattle.irq_base.specs.declared.entries.Entry.TheVariants as by
 use Rattle.irq_base.specs.declared.numbers.LineNo.{LineNo}
 use Rattle.log_text.specs.EntryWords.{IsPrintable}
 use Rattle.log_text.specs.Rows.{entry_text}
@@ -10,27 +18,38 @@ use Rattle.log_text.specs.Rows.{entry_text}
 abbrev pub IsSmall : ℕ → Type 0
 IsSmall n = n < 2 ^ 32
 
+abbrev pub HasSmallCpu : CpuEntry → Type 0
+HasSmallCpu (cpus.Begin dev) = IsSmall dev.0
+HasSmallCpu (cpus.Return answer dev served) = IsSmall dev.0 × IsSmall served
+HasSmallCpu _ = Unit {0}
+
+abbrev pub HasSmallThread : ThreadEntry → Type 0
+HasSmallThread (threads.Return handled served) = IsSmall served
+HasSmallThread _ = Unit {0}
+
+abbrev pub HasSmallDriver : DriverEntry → Type 0
+HasSmallDriver (drivers.Ask edge dev) = IsSmall dev.0
+HasSmallDriver (drivers.Request flags answer opened dev) = IsSmall dev.0
+HasSmallDriver (drivers.Affinity answer mask) = IsSmall mask
+HasSmallDriver (drivers.Moment at) = IsSmall at
+
+abbrev pub HasSmallCall : CallEntry → Type 0
+HasSmallCall (called.Unlink answer dev) = IsSmall dev.0
+HasSmallCall (called.Freed dev) = IsSmall dev.0
+HasSmallCall (called.Wake woken dev) = IsSmall dev.0
+HasSmallCall (called.Quiet dev) = IsSmall dev.0
+HasSmallCall (called.Arm edge dev) = IsSmall dev.0
+HasSmallCall (called.Serve dev served) = IsSmall dev.0 × IsSmall served
+HasSmallCall _ = Unit {0}
+
 -- each number of the entry is small
 abbrev pub HasSmallNumbers : Entry → Type 0
-HasSmallNumbers (entries.Ask driver dev) = IsSmall driver.0 × IsSmall dev.0
-HasSmallNumbers (entries.Take cpu way answer) = IsSmall cpu.0
-HasSmallNumbers (entries.Begin cpu dev) = IsSmall cpu.0 × IsSmall dev.0
-HasSmallNumbers (entries.Return cpu dev answer served) =
-    IsSmall cpu.0 × IsSmall dev.0 × IsSmall served
-HasSmallNumbers (entries.End cpu again unmask note) = IsSmall cpu.0
-HasSmallNumbers (entries.ThreadBegin dev) = IsSmall dev.0
-HasSmallNumbers (entries.ThreadReturn dev served) = IsSmall dev.0 × IsSmall served
-HasSmallNumbers (entries.Finish dev kept unmask) = IsSmall dev.0
-HasSmallNumbers (entries.Done dev) = IsSmall dev.0
-HasSmallNumbers (entries.Disable driver) = IsSmall driver.0
-HasSmallNumbers (entries.HardClear driver) = IsSmall driver.0
-HasSmallNumbers (entries.Synced driver) = IsSmall driver.0
-HasSmallNumbers (entries.Enable driver answer) = IsSmall driver.0
-HasSmallNumbers (entries.Request driver dev flags answer opened) = IsSmall driver.0 × IsSmall dev.0
-HasSmallNumbers (entries.Unlink driver dev answer) = IsSmall driver.0 × IsSmall dev.0
-HasSmallNumbers (entries.Freed driver dev) = IsSmall driver.0 × IsSmall dev.0
-HasSmallNumbers (entries.Affinity driver mask answer) = IsSmall driver.0 × IsSmall mask
-HasSmallNumbers (entries.Moment driver at) = IsSmall driver.0 × IsSmall at
+HasSmallNumbers (by.Cpu cpu e) = IsSmall cpu.0 × HasSmallCpu e
+HasSmallNumbers (by.Thread dev e) = IsSmall dev.0 × HasSmallThread e
+HasSmallNumbers (by.Driver driver e) = IsSmall driver.0 × HasSmallDriver e
+HasSmallNumbers (by.CpuCall cpu call) = IsSmall cpu.0 × HasSmallCall call
+HasSmallNumbers (by.ThreadCall dev call) = IsSmall dev.0 × HasSmallCall call
+HasSmallNumbers (by.DriverCall driver call) = IsSmall driver.0 × HasSmallCall call
 
 -- the entry has a row
 pub record IsWritable (e : Entry) : Type 0 where

@@ -67,6 +67,10 @@ note_word notes.Quiet = codes "quiet"
 note_word notes.Counted = codes "counted"
 note_word notes.Killed = codes "killed"
 
+abbrev pub yes_word : Bool → List ℕ
+yes_word true = codes "yes"
+yes_word false = codes "no"
+
 -- whether the thread's bit is kept
 abbrev pub bit_word : Bool → List ℕ
 bit_word true = codes "kept"

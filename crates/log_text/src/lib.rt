@@ -4,10 +4,14 @@
 //! written into a `TextRow` that the caller lends, and takes no memory.
 #![tactic(auto)]
 
+mod calls;
+mod cpus;
+mod drivers;
 mod entries;
 mod laws;
 mod layouts;
 mod pieces;
+mod threads;
 mod words;
 
 pub use entries::{MAX_ENTRY_ROW, entry_row};

@@ -1,9 +1,9 @@
 //! The pieces that a row is put together from: words, each with a space before it.
 ghost use Rattle.std.specs.Prelude.{◌≡◌, ◌+◌, ◌≤◌, [], ◌∷◌, ◌++◌, length, codes, decimal};
-ghost use Rattle.log_text.specs.Words.{driver_word, cpu_word, thread_word};
+ghost use Rattle.log_text.specs.EntryWords.{actor_word};
 ghost use Rattle.log_text.specs.Spaced.{spaced};
 
-use irq_base::{CpuNo, DevNo, DriverNo};
+use irq_base::Actor;
 use text_row::TextRow;
 
 /// Adds a space and the word, which may be long.
@@ -61,29 +61,15 @@ fn push_lettered(row: &mut TextRow, letter: u8, number: u32)
     row.push_number(number);
 }
 
-/// Adds a space and the driver.
-pub(crate) fn push_driver(row: &mut TextRow, driver: DriverNo)
+/// Adds a space and the actor.
+pub(crate) fn push_actor(row: &mut TextRow, actor: Actor)
     requires { length row.old ≤ 308 }
-    ensures text { row.new ≡ row.old ++ spaced (driver_word driver ∷ []) }
+    ensures text { row.new ≡ row.old ++ spaced (actor_word actor ∷ []) }
     ensures grows { length row.new ≤ length row.old + 12 }
 {
-    push_lettered(row, b'd', driver.0);
-}
-
-/// Adds a space and the processor.
-pub(crate) fn push_cpu(row: &mut TextRow, cpu: CpuNo)
-    requires { length row.old ≤ 308 }
-    ensures text { row.new ≡ row.old ++ spaced (cpu_word cpu ∷ []) }
-    ensures grows { length row.new ≤ length row.old + 12 }
-{
-    push_lettered(row, b'c', cpu.0);
-}
-
-/// Adds a space and the thread of the device.
-pub(crate) fn push_thread(row: &mut TextRow, dev: DevNo)
-    requires { length row.old ≤ 308 }
-    ensures text { row.new ≡ row.old ++ spaced (thread_word dev ∷ []) }
-    ensures grows { length row.new ≤ length row.old + 12 }
-{
-    push_lettered(row, b't', dev.0);
+    match actor {
+        Actor::Cpu(cpu) => push_lettered(row, b'c', cpu.0),
+        Actor::Thread(dev) => push_lettered(row, b't', dev.0),
+        Actor::Driver(driver) => push_lettered(row, b'd', driver.0),
+    }
 }

@@ -4,7 +4,7 @@ ghost use Rattle.std.specs.Prelude.{◌≡◌, ◌≤◌, length};
 ghost use Rattle.log_text.specs.LayoutRows.{unmapped_word};
 ghost use Rattle.log_text.specs.Words.{way_word, take_word, answer_word, loop_word, mask_word};
 ghost use Rattle.log_text.specs.Words.{note_word, bit_word, resend_word, error_word, flags_word};
-ghost use Rattle.log_text.specs.Words.{unlink_word};
+ghost use Rattle.log_text.specs.Words.{unlink_word, yes_word};
 
 use board_def::Unmapped;
 use irq_base::{Answer, Errno, Flags, Note, Resend, TakeAnswer, UnlinkAnswer, Way};
@@ -66,6 +66,13 @@ pub(crate) fn of_note(note: Note) -> &'static [u8]
         Note::Counted => b"counted",
         Note::Killed => b"killed",
     }
+}
+
+pub(crate) fn of_yes(yes: bool) -> &'static [u8]
+    ensures word { result.now ≡ yes_word yes }
+    ensures short { length result.now ≤ 9 }
+{
+    if yes { b"yes" } else { b"no" }
 }
 
 // Whether the thread's bit is kept.

@@ -3,7 +3,6 @@ use Rattle.std.proofs.Common.{◌≡◌, ℕ, zero, suc, ◌+◌, ◌==◌, ◌�
 use Rattle.std.proofs.Common.{Option, Some, None, List, [], ◌∷◌, ◌++◌, map, refl, sym, ap, ◌∙◌, subst, eqb-true}
 use Rattle.std.proofs.lemmas.Bool.{or_cases, or_left, or_right}
 use Rattle.std.specs.List.{list_any}
-use Rattle.irq_base.specs.declared.numbers.LineNo.{LineNo}
 use Rattle.irq_base.specs.declared.numbers.CpuNo.{CpuNo}
 use Rattle.irq_base.specs.declared.numbers.DevNo.{DevNo}
 use Rattle.irq_base.specs.declared.numbers.DriverNo.{DriverNo}
@@ -13,10 +12,11 @@ use Rattle.irq_base.specs.declared.lines.LineDef.{LineDef}
 use Rattle.irq_base.specs.declared.entries.Actor.{Actor}
 use Rattle.irq_base.specs.declared.entries.Actor.TheVariants as actors
 use Rattle.irq_base.specs.declared.entries.Entry.{Entry}
-use Rattle.irq_base.specs.declared.entries.Entry.TheVariants as entries
+use Rattle.irq_base.specs.declared.entries.Entry.TheVariants as by
+use Rattle.irq_base.specs.declared.entries.CpuEntry.TheVariants as cpus
 use Rattle.irq_base.specs.declared.entries.TakeAnswer.TheVariants as takes
-use Rattle.irq_model.specs.Kinds.{same_line, same_driver, is_handle}
-use Rattle.irq_model.specs.Lines.{is_device, is_in_mask, is_eoi_flow}
+use Rattle.irq_model.specs.Kinds.{same_driver, is_handle}
+use Rattle.irq_model.specs.Lines.{is_device, has_device, is_in_mask, is_eoi_flow}
 use Rattle.irq_model.specs.Links.{is_linked}
 use Rattle.irq_model.specs.Places.{last_of}
 use Rattle.irq_model.specs.Links.{is_oneshot}
@@ -30,10 +30,9 @@ use Rattle.irq_model.specs.Threads.{is_unfinished}
 use Rattle.irq_model.specs.Next.{next_in_flow, next_take, next_of_cpu, next_of_thread, next_of_call, next_past}
 use Rattle.irq_model.specs.Legal.{IsDue, IsLegalPast}
 use Rattle.irq_model.specs.Valid.{IsValid}
-use Rattle.irq_steps.proofs.Same.{line_from_same, cpu_from_same}
+use Rattle.irq_steps.proofs.Same.{cpu_from_same}
 use Rattle.irq_laws.specs.Kept.{Kept}
 use Rattle.irq_laws.proofs.RestKept.{there_named}
-use Rattle.irq_laws.proofs.KeptAlways.{kept}
 use Rattle.irq_laws.proofs.Chosen.{chosen, the_same}
 use Rattle.irq_laws.proofs.ImpliesFlow.{take_due, cpu_cases, take_cases}
 use Rattle.irq_laws.proofs.ImpliesThread.{row, has_returned, has_finished}
@@ -120,20 +119,16 @@ thread_device def past d e k h = by_there (is_linked past d || is_being_freed pa
         absurd (idle_thread (is_running past d) (is_woken past d) (has_returned past d) (is_oneshot past)
         (has_finished past d) (has_flow def past) _ _ _ _ e h m.0 m.1)
 
-thread_listed : (def : LineDef) (past : List Entry) (line : LineNo) (d : DevNo) (e : Entry) → Kept def past
-    → next_past def past (actors.Thread line d) ≡ Some e → IsOneOf (actors.Thread line d) (threads_of def)
-thread_listed def past line d e k h = by_line (chosen (same_line line def.line) (next_of_thread def d past) None e h)
+thread_listed : (def : LineDef) (past : List Entry) (d : DevNo) (e : Entry)
+    → next_past def past (actors.Thread d) ≡ Some e → IsOneOf (actors.Thread d) (threads_of def)
+thread_listed def past d e h = by_line (chosen (has_device def d) (next_of_thread def d past) None e h)
   where
     numbered : ℕ → Actor
-    numbered n = actors.Thread def.line (record { 0 = n })
+    numbered n = actors.Thread (record { 0 = n })
 
-    here : IsOneOf (numbered d.0) (threads_of def) → same_line line def.line ≡ true → IsOneOf (actors.Thread line d) (threads_of def)
-    here at same = subst (λ (l : LineNo). IsOneOf (actors.Thread l d) (threads_of def)) (sym (line_from_same line def.line same)) at
-
-    by_line : ((same_line line def.line ≡ true) × (next_of_thread def d past ≡ Some e))
-        ⊎ ((same_line line def.line ≡ false) × (None ≡ Some e)) → IsOneOf (actors.Thread line d) (threads_of def)
-    by_line (inl h) = here (named numbered d.0 (map (λ (x : DeviceDef). x.dev.0) def.devices)
-        (device_number d def.devices (thread_device def past d e k h.1))) h.0
+    by_line : ((has_device def d ≡ true) × (next_of_thread def d past ≡ Some e))
+        ⊎ ((has_device def d ≡ false) × (None ≡ Some e)) → IsOneOf (numbered d.0) (threads_of def)
+    by_line (inl h) = named numbered d.0 (map (λ (x : DeviceDef). x.dev.0) def.devices) (device_number d def.devices h.0)
     by_line (inr h) = let n = h.1 in cc
 
 -- ---- processors
@@ -169,11 +164,11 @@ flow_listed def [] c legal is = cc
 flow_listed def (e ∷ past) c legal is = by_test (is_handle e || closes def e) refl (flow_listed def past c legal.1)
   where
     taken : (x : Entry) → IsDue def x past → (is_handle x || closes def x) ≡ true → cpu_of_handle (Some x) ≡ Some c → IsOneOf (actors.Cpu c) (cpus_of def)
-    taken (entries.Take cpu way takes.Handle) due t at =
+    taken (by.Cpu cpu (cpus.Take way takes.Handle)) due t at =
         subst (λ (y : CpuNo). IsOneOf (actors.Cpu y) (cpus_of def)) (the_same cpu c at)
         (target_listed def past cpu (take_due def cpu way takes.Handle past due).of_target)
-    taken (entries.Take cpu way takes.Busy) due t at = not_handled (is_eoi_flow def.flow) t
-    taken (entries.Take cpu way takes.Off) due t at = not_handled (is_eoi_flow def.flow) t
+    taken (by.Cpu cpu (cpus.Take way takes.Busy)) due t at = not_handled (is_eoi_flow def.flow) t
+    taken (by.Cpu cpu (cpus.Take way takes.Off)) due t at = not_handled (is_eoi_flow def.flow) t
     taken x due t at = cc
 
     by_test : (b : Bool) → (is_handle e || closes def e) ≡ b
@@ -223,8 +218,8 @@ driver_listed def past r e h = by_due (due_call def r past) refl h
 
 pub mover_listed : (def : LineDef) (past : List Entry) (a : Actor) (e : Entry) → IsValid def → IsLegalPast def past
     → next_past def past a ≡ Some e → IsOneOf a (actors_of def)
-mover_listed def past (actors.Thread line d) e valid legal h =
-    in_first (actors.Thread line d) (threads_of def) (cpus_of def ++ drivers_of def) (thread_listed def past line d e (kept def past valid legal) h)
+mover_listed def past (actors.Thread d) e valid legal h =
+    in_first (actors.Thread d) (threads_of def) (cpus_of def ++ drivers_of def) (thread_listed def past d e h)
 mover_listed def past (actors.Cpu c) e valid legal h =
     in_second (actors.Cpu c) (threads_of def) (cpus_of def ++ drivers_of def)
     (in_first (actors.Cpu c) (cpus_of def) (drivers_of def) (cpu_listed def past c e legal h))

@@ -10,7 +10,11 @@ use Rattle.irq_base.specs.declared.lines.FlowKind.{FlowKind}
 use Rattle.irq_base.specs.declared.lines.FlowKind.TheVariants as flows
 use Rattle.irq_base.specs.declared.lines.LineDef.{LineDef}
 use Rattle.irq_base.specs.declared.entries.Entry.{Entry}
-use Rattle.irq_base.specs.declared.entries.Entry.TheVariants as entries
+use Rattle.irq_base.specs.declared.entries.Entry.TheVariants as by
+use Rattle.irq_base.specs.declared.entries.CpuEntry.TheVariants as cpus
+use Rattle.irq_base.specs.declared.entries.ThreadEntry.TheVariants as threads
+use Rattle.irq_base.specs.declared.entries.DriverEntry.TheVariants as drivers
+use Rattle.irq_base.specs.declared.entries.CallEntry.TheVariants as called
 use Rattle.irq_base.specs.declared.entries.Note.{Note}
 use Rattle.irq_base.specs.declared.entries.TakeAnswer.TheVariants as takes
 use Rattle.irq_base.specs.declared.entries.LinkAnswer.{LinkAnswer}
@@ -36,6 +40,7 @@ use Rattle.irq_steps.proofs.DepthSteps.{raised, lowered, raised_more}
 use Rattle.irq_steps.proofs.WaitSteps.{pending_by_clearing}
 use Rattle.irq_steps.proofs.Same.{driver_from_same}
 use Rattle.irq_laws.proofs.Lists.{both_ways}
+use Rattle.irq_laws.proofs.OwnLaws.{no_cpu_call, no_thread_call}
 use Rattle.irq_laws.proofs.KeptAlways.{kept}
 use Rattle.irq_laws.proofs.RunsKept.{handle_idle}
 use Rattle.irq_laws.proofs.RunLaws.{synchronised}
@@ -67,10 +72,10 @@ pub record LeavesAlone (e : Entry) (past : List Entry) : Type 0 where
   pub same_links : linked (e ∷ past) ≡ linked past
 
 pub quiet : (def : LineDef) (e : Entry) (past : List Entry) → IsDue def e past → disturbs e ≡ false → LeavesAlone e past
-quiet def (entries.Disable s) past due none = cc
-quiet def (entries.Enable s answer) past due none = cc
-quiet def (entries.Request s x flags links.Linked opened) past due none = cc
-quiet def (entries.Request s x flags (links.Refused error) opened) past due none =
+quiet def (by.DriverCall s called.Disable) past due none = cc
+quiet def (by.DriverCall s (called.Enable answer)) past due none = cc
+quiet def (by.Driver s (drivers.Request flags links.Linked opened x)) past due none = cc
+quiet def (by.Driver s (drivers.Request flags (links.Refused error) opened x)) past due none =
     let u = request_due def s x flags (links.Refused error) opened past due in
     let is : opened ≡ opens.No = u.opened_is ∙ ap (λ (a : LinkAnswer). opened_with def flags past a) (sym u.answer_is) in
     record {
@@ -81,9 +86,11 @@ quiet def (entries.Request s x flags (links.Refused error) opened) past due none
           = refl;
       same_links = linked_refused s x flags error opened past;
     }
-quiet def (entries.Unlink s x (unlinks.Unlinked last)) past due none = cc
-quiet def (entries.Unlink s x unlinks.NotThere) past due none =
+quiet def (by.DriverCall s (called.Unlink (unlinks.Unlinked last) x)) past due none = cc
+quiet def (by.DriverCall s (called.Unlink unlinks.NotThere x)) past due none =
     record { no_reset = refl; no_lowering = refl; no_start = refl; no_disable = refl; same_links = linked_not_there s x past }
+quiet def (by.CpuCall c call) past due none = no_cpu_call def c call past due
+quiet def (by.ThreadCall x call) past due none = no_thread_call def x call past due
 quiet def e past due none = record { no_reset = refl; no_lowering = refl; no_start = refl; no_disable = refl; same_links = refl }
 
 -- it makes the line deeper exactly if it kills it
@@ -112,9 +119,9 @@ not_handled def past deep h = both_ways (is_disabled past) (is_off past deep) (o
 -- no flow begins
 pub flow_stays : (def : LineDef) (e : Entry) (past : List Entry) → IsDue def e past → 0 < depth past
     → has_flow def past ≡ false → has_flow def (e ∷ past) ≡ false
-flow_stays def (entries.Take c way takes.Handle) past due deep idle
+flow_stays def (by.Cpu c (cpus.Take way takes.Handle)) past due deep idle
     = not_handled def past deep (handle_idle def past (take_due def c way takes.Handle past due).answer_is)
-flow_stays def (entries.End c again unmask note) past due deep idle =
+flow_stays def (by.Cpu c (cpus.End again unmask note)) past due deep idle =
     both_ways (has_flow def past) (has_a_flow c (flow def past) (end_due def c again unmask note past due).of_flow) idle
 flow_stays def e past due deep idle = ap is_some (flow_quiet def e past refl refl refl) ∙ idle
 
@@ -128,23 +135,23 @@ again_off def flows.Level past note off = refl
 again_off def flows.Eoi past note off = and_right (is_edge_line def) _ (and_right (is_pending def past) (not (is_off_now past note)) (off_now past note off))
 
 no_again : (def : LineDef) (e : Entry) (past : List Entry) → IsDue def e past → 0 < depth past → is_again e ≡ false
-no_again def (entries.End c again unmask note) past due deep =
+no_again def (by.Cpu c (cpus.End again unmask note)) past due deep =
     (end_due def c again unmask note past due).again_is ∙ again_off def def.flow past (note_of def past) (is_off past deep)
 no_again def e past due deep = refl
 
 -- what is pending stays so
 clears_none : (def : LineDef) (e : Entry) (past : List Entry) → IsDue def e past → 0 < depth past → is_take e ≡ false
     → LeavesAlone e past → clears_pending e ≡ false
-clears_none def (entries.Take c way answer) past due deep no_take q = cc
+clears_none def (by.Cpu c (cpus.Take way answer)) past due deep no_take q = cc
 clears_none def e past due deep no_take q = or_from (is_again e) (is_start e) (no_again def e past due deep) q.no_start
 
 -- and a take leaves its interrupt pending
 take_pends : (def : LineDef) (e : Entry) (past : List Entry) → IsDue def e past → 0 < depth past
     → is_edge_line def ≡ true → is_take e ≡ true → is_pending def (e ∷ past) ≡ true
-take_pends def (entries.Take c way takes.Handle) past due deep edge took
+take_pends def (by.Cpu c (cpus.Take way takes.Handle)) past due deep edge took
     = not_handled def past deep (handle_idle def past (take_due def c way takes.Handle past due).answer_is)
-take_pends def (entries.Take c way takes.Off) past due deep edge took = refl
-take_pends def (entries.Take c way takes.Busy) past due deep edge took
+take_pends def (by.Cpu c (cpus.Take way takes.Off)) past due deep edge took = refl
+take_pends def (by.Cpu c (cpus.Take way takes.Busy)) past due deep edge took
     = ap (λ (b : Bool). (false || (b && true)) || (not (false || (false || false)) && is_pending def past)) edge
 take_pends def e past due deep edge took = cc
 
@@ -153,11 +160,11 @@ take_pends def e past due deep edge took = cc
 threads_rest : (def : LineDef) (e : Entry) (past : List Entry) → IsDue def e past → has_flow def past ≡ false
     → ((d : DevNo) → (is_woken past d || is_running past d) ≡ false)
     → (d : DevNo) → (is_woken (e ∷ past) d || is_running (e ∷ past) d) ≡ false
-threads_rest def (entries.Return c x answer served) past due idle rest d =
+threads_rest def (by.Cpu c (cpus.Return answer x served)) past due idle rest d =
     both_ways (has_flow def past) (has_a_flow c (flow def past) (return_due def c x answer served past due).of_flow) idle
-threads_rest def (entries.ThreadBegin x) past due idle rest d =
+threads_rest def (by.Thread x threads.Begin) past due idle rest d =
     both_ways (is_woken past x) (thread_begin_due def x past due).woken (or_parts (is_woken past x) (is_running past x) (rest x)).0
-threads_rest def (entries.Done x) past due idle rest d =
+threads_rest def (by.Thread x threads.Done) past due idle rest d =
     both_ways (is_running past x) (done_due def x past due).running (or_parts (is_woken past x) (is_running past x) (rest x)).1
 threads_rest def e past due idle rest d = rest d
 
@@ -165,10 +172,10 @@ threads_rest def e past due idle rest d = rest d
 abbrev Synchronised : Entry → List Entry → Type 0
 Synchronised e past = (d : DevNo) → (is_hard_clear e ≡ true → is_called past d ≡ false) × (is_synced e ≡ true → (is_woken past d || is_running past d) ≡ false)
 
-all_idle : (def : LineDef) (s : DriverNo) (past : List Entry) → IsValid def → IsLegalPast def (entries.Synced s ∷ past)
+all_idle : (def : LineDef) (s : DriverNo) (past : List Entry) → IsValid def → IsLegalPast def (by.DriverCall s called.Synced ∷ past)
     → (d : DevNo) → (is_woken past d || is_running past d) ≡ false
 all_idle def s past valid legal d =
-    let whole = entries.Synced s ∷ past in
+    let whole = by.DriverCall s called.Synced ∷ past in
     let turned : IsLegalPast def (reverse (reverse whole)) = subst (λ (es : List Entry). IsLegalPast def es) (sym (reverse-reverse whole)) legal in
     let each : EachEntry Synchronised whole = subst (λ (es : List Entry). EachEntry Synchronised es)
     (reverse-reverse whole) (synchronised def (reverse whole) valid turned) in
@@ -183,25 +190,25 @@ count_more false n m c h = h
 cleared_more : (def : LineDef) (r : DriverNo) (e : Entry) (past newer : List Entry) → IsDue def e past → 0 < depth past
     → (list_any (is_hard_clear_by r) newer ≡ true → has_flow def past ≡ false)
     → list_any (is_hard_clear_by r) (e ∷ newer) ≡ true → has_flow def (e ∷ past) ≡ false
-cleared_more def r (entries.HardClear s) past newer due deep was h =
-    ap is_some (flow_quiet def (entries.HardClear s) past refl refl refl) ∙ (hard_clear_due def s past due).no_flow
+cleared_more def r (by.DriverCall s called.HardClear) past newer due deep was h =
+    ap is_some (flow_quiet def (by.DriverCall s called.HardClear) past refl refl refl) ∙ (hard_clear_due def s past due).no_flow
 cleared_more def r e past newer due deep was h = flow_stays def e past due deep (was h)
 
 waited_more : (def : LineDef) (r : DriverNo) (e : Entry) (past : List Entry) → IsLegalPast def (e ∷ past)
     → (list_any (is_synced_by r) (since_disable r past) ≡ true → list_any (is_hard_clear_by r) (since_disable r past) ≡ true)
     → list_any (is_synced_by r) (e ∷ since_disable r past) ≡ true → list_any (is_hard_clear_by r) (e ∷ since_disable r past) ≡ true
-waited_more def r (entries.Synced s) past legal was h = by_case (or_cases (same_driver r s) _ h)
+waited_more def r (by.DriverCall s called.Synced) past legal was h = by_case (or_cases (same_driver r s) _ h)
   where
     by_case : (same_driver r s ≡ true) ⊎ (list_any (is_synced_by r) (since_disable r past) ≡ true) → list_any (is_hard_clear_by r) (since_disable r past) ≡ true
     by_case (inl mine) = cleared_before def r past legal.1
-        (subst (λ (t : DriverNo). IsDue def (entries.Synced t) past) (sym (driver_from_same r s mine)) legal.0)
+        (subst (λ (t : DriverNo). IsDue def (by.DriverCall t called.Synced) past) (sym (driver_from_same r s mine)) legal.0)
     by_case (inr there) = was there
 waited_more def r e past legal was h = or_right (is_hard_clear_by r e) _ (was h)
 
 rested_more : (def : LineDef) (r : DriverNo) (e : Entry) (past newer : List Entry) → IsValid def → IsLegalPast def (e ∷ past)
     → (list_any (is_synced_by r) newer ≡ true → (has_flow def past ≡ false) × ((d : DevNo) → (is_woken past d || is_running past d) ≡ false))
     → list_any (is_synced_by r) (e ∷ newer) ≡ true → (d : DevNo) → (is_woken (e ∷ past) d || is_running (e ∷ past) d) ≡ false
-rested_more def r (entries.Synced s) past newer valid legal was h d = all_idle def s past valid legal d
+rested_more def r (by.DriverCall s called.Synced) past newer valid legal was h d = all_idle def s past valid legal d
 rested_more def r e past newer valid legal was h d = let w = was h in threads_rest def e past legal.0 w.0 w.1 d
 
 pending_more : (def : LineDef) (e : Entry) (past newer : List Entry) → IsDue def e past → 0 < depth past → LeavesAlone e past → is_edge_line def ≡ true
@@ -239,11 +246,12 @@ more def r e past valid legal none k =
 disable_depth : (up low n m : ℕ) → low ≤ up → n ≡ up + 1 → m ≡ low → n - m ≡ (up - low) + 1 + 0
 disable_depth up low n m exact a b = omega (arith, exact, a, b)
 
-begun : (def : LineDef) (r s : DriverNo) (past : List Entry) → lowered past ≤ raised past → HeldOver def r (entries.Disable s ∷ past) [] past
+begun : (def : LineDef) (r s : DriverNo) (past : List Entry) → lowered past ≤ raised past → HeldOver def r (by.DriverCall s called.Disable ∷ past) [] past
 begun def r s past exact =
-    let n = raised_more (entries.Disable s) past refl in
+    let n = raised_more (by.DriverCall s called.Disable) past refl in
     record {
-      deeper = disable_depth (raised past) (lowered past) (raised (entries.Disable s ∷ past)) (lowered (entries.Disable s ∷ past)) exact n.0 n.1;
+      deeper = disable_depth (raised past) (lowered past) (raised (by.DriverCall s called.Disable ∷ past))
+          (lowered (by.DriverCall s called.Disable ∷ past)) exact n.0 n.1;
       links = refl;
       cleared = λ h. cc;
       waited = λ h. cc;
@@ -253,7 +261,7 @@ begun def r s past exact =
 
 begins : (def : LineDef) (r : DriverNo) (e : Entry) (past : List Entry) → lowered past ≤ raised past
     → is_disable_by r e ≡ true → HeldOver def r (e ∷ past) [] past
-begins def r (entries.Disable s) past exact is = begun def r s past exact
+begins def r (by.DriverCall s called.Disable) past exact is = begun def r s past exact
 begins def r e past exact is = cc
 
 -- the entry before which the disable stands already

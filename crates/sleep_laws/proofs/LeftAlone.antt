@@ -8,20 +8,23 @@ use Rattle.irq_base.specs.declared.calls.Call.{Call}
 use Rattle.irq_base.specs.declared.calls.Call.TheVariants as calls
 use Rattle.irq_base.specs.declared.lines.LineDef.{LineDef}
 use Rattle.irq_base.specs.declared.entries.Entry.{Entry}
-use Rattle.irq_base.specs.declared.entries.Entry.TheVariants as entries
-use Rattle.irq_model.specs.Places.{stands}
+use Rattle.irq_base.specs.declared.entries.Entry.TheVariants as by
+use Rattle.irq_base.specs.declared.entries.DriverEntry.TheVariants as drivers
+use Rattle.irq_base.specs.declared.entries.CallEntry.TheVariants as called
+use Rattle.irq_model.specs.Places.{stands, since}
 use Rattle.irq_model.specs.Kinds.{same_driver, is_by_driver}
 use Rattle.irq_model.specs.Rounds.{has_flow}
 use Rattle.irq_model.specs.Threads.{active_count}
 use Rattle.irq_model.specs.Due.{calls_by, entries_by, due_of, due_call}
 use Rattle.irq_model.specs.Next.{enable_answer, next_of_call}
-use Rattle.irq_model.specs.Legal.{IsLegal, IsLegalPast}
+use Rattle.irq_model.specs.Legal.{IsDue, IsLegal, IsLegalPast}
 use Rattle.irq_steps.proofs.Same.{same_self_driver}
 use Rattle.irq_steps.proofs.DueSteps.{entries_more, entries_same}
-use Rattle.irq_laws.proofs.Chosen.{from_then, from_else, the_same}
+use Rattle.irq_laws.proofs.Chosen.{the_same}
 use Rattle.irq_laws.proofs.Lists.{both_ways}
+use Rattle.irq_laws.proofs.OwnLaws.{no_cpu_call, no_thread_call}
 use Rattle.sleep_laws.specs.Sleeping.{is_disable_by, is_enable_by, disturbs, is_other_call, since_disable, is_suspended, is_left_alone, others_only_ask}
-use Rattle.sleep_laws.proofs.Waits.{own_due, not_own}
+use Rattle.sleep_laws.proofs.Waits.{own_due, not_own, made_unless, made_when}
 
 abbrev pub disturbs_by : DriverNo → Entry → Bool
 disturbs_by r e = is_by_driver r e && disturbs e
@@ -43,7 +46,7 @@ script = calls.Disable ∷ calls.Enable ∷ []
 -- ---- an entry of another
 
 not_enable : (r : DriverNo) (e : Entry) → is_by_driver r e ≡ false → is_enable_by r e ≡ false
-not_enable r (entries.Enable s answer) other = other
+not_enable r (by.DriverCall s (called.Enable answer)) other = other
 not_enable r e other = refl
 
 stays_awake : (d e s : Bool) → d ≡ false → e ≡ false → s ≡ false → (d || (not e && s)) ≡ false
@@ -77,8 +80,8 @@ one_more : (r : DriverNo) (e : Entry) (past es : List Entry) → is_by_driver r 
 one_more r e past es mine is = entries_more r e past mine ∙ ap (λ (xs : List Entry). xs ++ e ∷ []) is
 
 -- right after its disable nothing stands
-left_at : (r : DriverNo) (past : List Entry) → IsOwnLeft r (entries.Disable r ∷ past)
-left_at r past = ap (λ (b : Bool). list_any (disturbs_by r) (cond b [] (entries.Disable r ∷ since_disable r past))) (same_self_driver r)
+left_at : (r : DriverNo) (past : List Entry) → IsOwnLeft r (by.DriverCall r called.Disable ∷ past)
+left_at r past = ap (λ (b : Bool). list_any (disturbs_by r) (cond b [] (by.DriverCall r called.Disable ∷ since_disable r past))) (same_self_driver r)
 
 -- its waits disturb nothing
 left_quiet : (r : DriverNo) (e : Entry) (past : List Entry) → is_disable_by r e ≡ false → disturbs e ≡ false → IsOwnLeft r past → IsOwnLeft r (e ∷ past)
@@ -86,26 +89,26 @@ left_quiet r e past no_disable none left =
     ap (λ (b : Bool). list_any (disturbs_by r) (cond b [] (e ∷ since_disable r past))) no_disable
     ∙ or_from (disturbs_by r e) (list_any (disturbs_by r) (since_disable r past)) (and_right (is_by_driver r e) (disturbs e) none) left
 
-awake_at : (def : LineDef) (r : DriverNo) (past : List Entry) → is_suspended r (entries.Enable r (enable_answer def past) ∷ past) ≡ false
+awake_at : (def : LineDef) (r : DriverNo) (past : List Entry) → is_suspended r (by.DriverCall r (called.Enable (enable_answer def past)) ∷ past) ≡ false
 awake_at def r past = ap (λ (b : Bool). false || (not b && is_suspended r past)) (same_self_driver r)
 
 past_own : (def : LineDef) (r : DriverNo) (e : Entry) (past : List Entry) → calls_by r def.calls ≡ script
     → is_by_driver r e ≡ true → next_of_call def r past (due_call def r past) ≡ Some e → Position r past
     → Position r (e ∷ past)
 past_own def r e past of_script mine due (at_none is awake) =
-    let same : entries.Disable r ≡ e = the_same (entries.Disable r) e (own_next def r e past [] of_script is due) in
+    let same : by.DriverCall r called.Disable ≡ e = the_same (by.DriverCall r called.Disable) e (own_next def r e past [] of_script is due) in
     at_disable e (one_more r e past [] mine is) (subst (λ (x : Entry). IsOwnLeft r (x ∷ past)) same (left_at r past))
 past_own def r e past of_script mine due (at_disable a is left) =
-    let same = (from_else (has_flow def past) (entries.HardClear r) e (own_next def r e past (a ∷ []) of_script is due)).1 in
+    let same = made_unless r (has_flow def past) called.HardClear e (own_next def r e past (a ∷ []) of_script is due) in
     at_clear a e (one_more r e past (a ∷ []) mine is) (subst (λ (x : Entry). IsOwnLeft r (x ∷ past)) same
-    (left_quiet r (entries.HardClear r) past refl refl left))
+    (left_quiet r (by.DriverCall r called.HardClear) past refl refl left))
 past_own def r e past of_script mine due (at_clear a b is left) =
-    let same = (from_then (active_count def past == 0) (entries.Synced r) e (own_next def r e past (a ∷ b ∷ []) of_script is due)).1 in
+    let same = made_when r (active_count def past == 0) called.Synced e (own_next def r e past (a ∷ b ∷ []) of_script is due) in
     at_synced a b e (one_more r e past (a ∷ b ∷ []) mine is)
-    (subst (λ (x : Entry). IsOwnLeft r (x ∷ past)) same (left_quiet r (entries.Synced r) past refl refl left))
+    (subst (λ (x : Entry). IsOwnLeft r (x ∷ past)) same (left_quiet r (by.DriverCall r called.Synced) past refl refl left))
 past_own def r e past of_script mine due (at_synced a b c is left) =
-    let same : entries.Enable r (enable_answer def past)
-    ≡ e = the_same (entries.Enable r (enable_answer def past)) e
+    let same : by.DriverCall r (called.Enable (enable_answer def past))
+    ≡ e = the_same (by.DriverCall r (called.Enable (enable_answer def past))) e
     (own_next def r e past (a ∷ b ∷ c ∷ []) of_script is due) in
     at_enable a b c e (one_more r e past (a ∷ b ∷ c ∷ []) mine is) (subst (λ (x : Entry). is_suspended r (x ∷ past) ≡ false) same (awake_at def r past))
 past_own def r e past of_script mine due (at_enable a b c d is awake) = let n = own_next def r e past (a ∷ b ∷ c ∷ d ∷ []) of_script is due in cc
@@ -124,19 +127,31 @@ neither : (b m : Bool) → (b && m) ≡ false → (not b && true) ≡ false → 
 neither true m own other = own
 neither false m own other = cc
 
-undisturbed : (r : DriverNo) (e : Entry) → disturbs_by r e ≡ false → is_other_call r e ≡ false → disturbs e ≡ false
-undisturbed r (entries.Disable s) own other = neither (same_driver r s) _ own other
-undisturbed r (entries.Enable s answer) own other = neither (same_driver r s) _ own other
-undisturbed r (entries.Request s x flags answer opened) own other = neither (same_driver r s) (disturbs (entries.Request s x flags answer opened)) own other
-undisturbed r (entries.Unlink s x answer) own other = neither (same_driver r s) (disturbs (entries.Unlink s x answer)) own other
-undisturbed r e own other = refl
+undisturbed : (def : LineDef) (r : DriverNo) (e : Entry) (past : List Entry) → IsDue def e past → disturbs_by r e ≡ false
+    → is_other_call r e ≡ false → disturbs e ≡ false
+undisturbed def r (by.CpuCall c call) past due own other = no_cpu_call def c call past due
+undisturbed def r (by.ThreadCall x call) past due own other = no_thread_call def x call past due
+undisturbed def r (by.DriverCall s call) past due own other = neither (same_driver r s) (disturbs (by.DriverCall s call)) own other
+undisturbed def r (by.Driver s (drivers.Request flags answer opened x)) past due own other
+    = neither (same_driver r s) (disturbs (by.Driver s (drivers.Request flags answer opened x))) own other
+undisturbed def r e past due own other = refl
 
-none_disturbs : (r : DriverNo) (xs : List Entry) → list_any (disturbs_by r) xs ≡ false → list_any (is_other_call r) xs ≡ false → list_any disturbs xs ≡ false
-none_disturbs r [] own other = refl
-none_disturbs r (x ∷ xs) own other =
-    let o = or_parts (disturbs_by r x) (list_any (disturbs_by r) xs) own in
-    let n = or_parts (is_other_call r x) (list_any (is_other_call r) xs) other in
-    or_from (disturbs x) (list_any disturbs xs) (undisturbed r x o.0 n.0) (none_disturbs r xs o.1 n.1)
+none_disturbs : (def : LineDef) (r : DriverNo) (p : Entry → Bool) (past : List Entry) → IsLegalPast def past
+    → list_any (disturbs_by r) (since p past) ≡ false → list_any (is_other_call r) (since p past) ≡ false
+    → list_any disturbs (since p past) ≡ false
+none_disturbs def r p [] legal own other = refl
+none_disturbs def r p (e ∷ past) legal own other = by_test (p e) own other (none_disturbs def r p past legal.1)
+  where
+    by_test : (b : Bool) → list_any (disturbs_by r) (cond b [] (e ∷ since p past)) ≡ false
+        → list_any (is_other_call r) (cond b [] (e ∷ since p past)) ≡ false
+        → (list_any (disturbs_by r) (since p past) ≡ false → list_any (is_other_call r) (since p past) ≡ false
+        → list_any disturbs (since p past) ≡ false)
+        → list_any disturbs (cond b [] (e ∷ since p past)) ≡ false
+    by_test true own other deeper = refl
+    by_test false own other deeper =
+        let o = or_parts (disturbs_by r e) (list_any (disturbs_by r) (since p past)) own in
+        let n = or_parts (is_other_call r e) (list_any (is_other_call r) (since p past)) other in
+        or_from (disturbs e) (list_any disturbs (since p past)) (undisturbed def r e past legal.0 o.0 n.0) (deeper o.1 n.1)
 
 own_left : (r : DriverNo) (past : List Entry) → is_suspended r past ≡ true → Position r past → IsOwnLeft r past
 own_left r past stands (at_none is awake) = both_ways (is_suspended r past) stands awake
@@ -154,4 +169,4 @@ pub left_alone : (def : LineDef) (r : DriverNo) (h : List Entry) → IsLegal def
     → others_only_ask r (reverse h) ≡ true → is_left_alone r (reverse h) ≡ true
 left_alone def r h legal of_script stands others =
     let own = own_left r (reverse h) stands (position def r (reverse h) of_script legal) in
-    ap not (none_disturbs r (since_disable r (reverse h)) own (not_false (list_any (is_other_call r) (since_disable r (reverse h))) others))
+    ap not (none_disturbs def r (is_disable_by r) (reverse h) legal own (not_false (list_any (is_other_call r) (since_disable r (reverse h))) others))

@@ -9,7 +9,8 @@ use Rattle.irq_base.specs.declared.numbers.DevNo.{DevNo}
 use Rattle.irq_base.specs.declared.numbers.DriverNo.{DriverNo}
 use Rattle.irq_base.specs.declared.lines.LineDef.{LineDef}
 use Rattle.irq_base.specs.declared.entries.Entry.{Entry}
-use Rattle.irq_base.specs.declared.entries.Entry.TheVariants as entries
+use Rattle.irq_base.specs.declared.entries.Entry.TheVariants as by
+use Rattle.irq_base.specs.declared.entries.CallEntry.TheVariants as called
 use Rattle.irq_base.specs.declared.entries.EnableAnswer.{EnableAnswer}
 use Rattle.irq_base.specs.declared.entries.EnableAnswer.TheVariants as enables
 use Rattle.irq_base.specs.declared.entries.Resend.{Resend}
@@ -73,18 +74,20 @@ moved d k n h = omega (arith, h)
 
 restored : (s : DriverNo) (answer : EnableAnswer) (past : List Entry) (d : ℕ)
     → is_lowering_opened (opened_by_enable answer) ≡ true → depth past ≡ d + 1
-    → depth (entries.Enable s answer ∷ past) ≡ d
+    → depth (by.DriverCall s (called.Enable answer) ∷ past) ≡ d
 restored s answer past d lowering was =
-    let n = raised_more (entries.Enable s answer) past refl in
-    let low : lowered (entries.Enable s answer ∷ past) ≡ lowered past + 1 = n.1 ∙ ap (λ (b : Bool). cond b (lowered past + 1) (lowered past)) lowering in
-    lower_by (raised past) (lowered past) (raised (entries.Enable s answer ∷ past)) (lowered (entries.Enable s answer ∷ past)) d n.0 low was
+    let n = raised_more (by.DriverCall s (called.Enable answer)) past refl in
+    let low : lowered (by.DriverCall s (called.Enable answer) ∷ past) ≡ lowered past + 1 = n.1
+    ∙ ap (λ (b : Bool). cond b (lowered past + 1) (lowered past)) lowering in
+    lower_by (raised past) (lowered past) (raised (by.DriverCall s (called.Enable answer) ∷ past))
+    (lowered (by.DriverCall s (called.Enable answer) ∷ past)) d n.0 low was
 
 unchanged : (s : DriverNo) (answer : EnableAnswer) (past : List Entry)
-    → is_lowering_opened (opened_by_enable answer) ≡ false → depth (entries.Enable s answer ∷ past) ≡ depth past
+    → is_lowering_opened (opened_by_enable answer) ≡ false → depth (by.DriverCall s (called.Enable answer) ∷ past) ≡ depth past
 unchanged s answer past same =
-    let n = raised_more (entries.Enable s answer) past refl in
-    let low : lowered (entries.Enable s answer ∷ past) ≡ lowered past = n.1 ∙ ap (λ (b : Bool). cond b (lowered past + 1) (lowered past)) same in
-    let up : raised (entries.Enable s answer ∷ past) ≡ raised past = n.0 in
+    let n = raised_more (by.DriverCall s (called.Enable answer)) past refl in
+    let low : lowered (by.DriverCall s (called.Enable answer) ∷ past) ≡ lowered past = n.1 ∙ ap (λ (b : Bool). cond b (lowered past + 1) (lowered past)) same in
+    let up : raised (by.DriverCall s (called.Enable answer) ∷ past) ≡ raised past = n.0 in
     rw (up, low) refl
 
 -- what r's disable keeps until its enable
@@ -99,7 +102,7 @@ some_deep def r past k =
 restores_at : (def : LineDef) (r : DriverNo) (e : Entry) (past : List Entry) → IsDue def e past
     → is_enable_by r e ≡ true → Held def r past → is_none_linked past ≡ false
     → depth (e ∷ past) ≡ depth (before_disable r past) + count_of is_kill (since_disable r past)
-restores_at def r (entries.Enable s answer) past due mine k some =
+restores_at def r (by.DriverCall s (called.Enable answer)) past due mine k some =
     let lowering = lowers (is_none_linked past) (depth past == 0) (depth past == 1) (resend_of def past) some
     (not_zero (depth past) (some_deep def r past k)) in
     restored s answer past (depth (before_disable r past) + count_of is_kill (since_disable r past))
@@ -109,7 +112,7 @@ restores_at def r e past due mine k some = cc
 
 unlinked_at : (def : LineDef) (r : DriverNo) (e : Entry) (past : List Entry) → IsDue def e past
     → is_enable_by r e ≡ true → is_none_linked past ≡ true → depth (e ∷ past) ≡ depth past
-unlinked_at def r (entries.Enable s answer) past due mine none =
+unlinked_at def r (by.DriverCall s (called.Enable answer)) past due mine none =
     unchanged s answer past
     (ap (λ (a : EnableAnswer). is_lowering_opened (opened_by_enable a)) (enable_due def s answer past due).answer_is
     ∙ lowers_none (is_none_linked past) (depth past == 0) (depth past == 1) (resend_of def past) none)
@@ -146,7 +149,7 @@ was_open def r e past valid legal i =
     record { one = omega (arith, was, zero, none); some = ap is_empty k.links ∙ linked_then }
 
 started : (def : LineDef) (s : DriverNo) (answer : EnableAnswer) (past : List Entry)
-    → IsDue def (entries.Enable s answer) past → WasOpen past → answer ≡ enables.Started (resend_of def past)
+    → IsDue def (by.DriverCall s (called.Enable answer)) past → WasOpen past → answer ≡ enables.Started (resend_of def past)
 started def s answer past due w =
     let is = w.one in
     (enable_due def s answer past due).answer_is
@@ -155,7 +158,7 @@ started def s answer past due w =
 
 opens_at : (def : LineDef) (r : DriverNo) (e : Entry) (past : List Entry) → IsDue def e past → is_enable_by r e ≡ true
     → WasOpen past → (is_start e ≡ true) × (depth (e ∷ past) ≡ 0)
-opens_at def r (entries.Enable s answer) past due mine w =
+opens_at def r (by.DriverCall s (called.Enable answer)) past due mine w =
     let is = started def s answer past due w in (
       ap (λ (a : EnableAnswer). is_started_opened (opened_by_enable a)) is,
       restored s answer past 0
@@ -173,7 +176,7 @@ sent_again false t h = cc
 
 resends_at : (def : LineDef) (r : DriverNo) (e : Entry) (past : List Entry) → IsDue def e past → is_enable_by r e ≡ true
     → WasOpen past → is_edge_line def ≡ true → is_pending def past ≡ true → (is_chip_start e || is_soft_start e) ≡ true
-resends_at def r (entries.Enable s answer) past due mine w edge pends =
+resends_at def r (by.DriverCall s (called.Enable answer)) past due mine w edge pends =
     ap (λ (a : EnableAnswer). is_chip_opened (opened_by_enable a) || is_soft_opened (opened_by_enable a)) (started def s answer past due w)
     ∙ sent_again (is_edge_line def && is_pending def past) def.retriggers (and_from (is_edge_line def) (is_pending def past) edge pends)
 resends_at def r e past due mine w edge pends = cc
@@ -204,10 +207,10 @@ record IsReady (def : LineDef) (past : List Entry) : Type 0 where
 
 ready : (def : LineDef) (r : DriverNo) (e : Entry) (past : List Entry) → is_enable_by r e ≡ true → depth (e ∷ past) ≡ 0
     → Kept def past → IsAtRest def past → IsReady def (e ∷ past)
-ready def r (entries.Enable s answer) past mine zero k rest =
+ready def r (by.DriverCall s (called.Enable answer)) past mine zero k rest =
     record {
       open_now = zero;
-      no_flow = ap is_some (flow_quiet def (entries.Enable s answer) past refl refl refl)
+      no_flow = ap is_some (flow_quiet def (by.DriverCall s (called.Enable answer)) past refl refl refl)
           ∙ rest.no_flow;
       finished = all_finished def past k rest;
     }

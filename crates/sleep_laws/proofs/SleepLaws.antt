@@ -5,7 +5,9 @@ use Rattle.std.specs.List.{list_any}
 use Rattle.irq_base.specs.declared.numbers.DriverNo.{DriverNo}
 use Rattle.irq_base.specs.declared.lines.LineDef.{LineDef}
 use Rattle.irq_base.specs.declared.entries.Entry.{Entry}
-use Rattle.irq_base.specs.declared.entries.Entry.TheVariants as entries
+use Rattle.irq_base.specs.declared.entries.Entry.TheVariants as by
+use Rattle.irq_base.specs.declared.entries.CpuEntry.TheVariants as cpus
+use Rattle.irq_base.specs.declared.entries.ThreadEntry.TheVariants as threads
 use Rattle.irq_base.specs.declared.entries.TakeAnswer.TheVariants as takes
 use Rattle.irq_model.specs.Places.{EachEntry, count_of}
 use Rattle.irq_model.specs.Kinds.{is_take, is_off, is_kill}
@@ -49,8 +51,8 @@ rests def r past valid legal asleep alone =
 
 -- on a line at rest no run begins
 pub still_at : (def : LineDef) (e : Entry) (past : List Entry) → IsDue def e past → IsAtRest def past → begins_run e ≡ false
-still_at def (entries.Begin c x) past due k = both_ways (has_flow def past) (has_a_flow c (flow def past) (begin_due def c x past due).of_flow) k.no_flow
-still_at def (entries.ThreadBegin x) past due k = both_ways (is_woken past x) (thread_begin_due def x past due).woken
+still_at def (by.Cpu c (cpus.Begin x)) past due k = both_ways (has_flow def past) (has_a_flow c (flow def past) (begin_due def c x past due).of_flow) k.no_flow
+still_at def (by.Thread x threads.Begin) past due k = both_ways (is_woken past x) (thread_begin_due def x past due).woken
     (or_parts (is_woken past x) (is_running past x) (k.no_thread x)).0
 still_at def e past due k = refl
 
@@ -61,12 +63,12 @@ busy_flow false false h = cc
 
 -- and a take is answered Off
 off_at : (def : LineDef) (e : Entry) (past : List Entry) → IsDue def e past → IsAtRest def past → is_take e ≡ true → is_off e ≡ true
-off_at def (entries.Take c way takes.Handle) past due k took
+off_at def (by.Cpu c (cpus.Take way takes.Handle)) past due k took
     = not_handled def past k.disabled (handle_idle def past (take_due def c way takes.Handle past due).answer_is)
-off_at def (entries.Take c way takes.Busy) past due k took =
+off_at def (by.Cpu c (cpus.Take way takes.Busy)) past due k took =
     both_ways (has_flow def past) (busy_flow (has_flow def past) (is_disabled past || is_none_linked past)
     (take_due def c way takes.Busy past due).answer_is) k.no_flow
-off_at def (entries.Take c way takes.Off) past due k took = refl
+off_at def (by.Cpu c (cpus.Take way takes.Off)) past due k took = refl
 off_at def e past due k took = cc
 
 pub sleeps_soundly : (def : LineDef) (r : DriverNo) (h : List Entry) → IsValid def → IsLegal def h → SleepsSoundly def r h

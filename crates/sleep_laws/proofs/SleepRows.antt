@@ -15,7 +15,11 @@ use Rattle.irq_base.specs.declared.lines.FlowKind.TheVariants as flows
 use Rattle.irq_base.specs.declared.lines.LineDef.{LineDef}
 use Rattle.irq_base.specs.declared.entries.Actor.TheVariants as actors
 use Rattle.irq_base.specs.declared.entries.Entry.{Entry}
-use Rattle.irq_base.specs.declared.entries.Entry.TheVariants as entries
+use Rattle.irq_base.specs.declared.entries.Entry.TheVariants as by
+use Rattle.irq_base.specs.declared.entries.CpuEntry.TheVariants as cpus
+use Rattle.irq_base.specs.declared.entries.ThreadEntry.TheVariants as threads
+use Rattle.irq_base.specs.declared.entries.DriverEntry.TheVariants as drivers
+use Rattle.irq_base.specs.declared.entries.CallEntry.TheVariants as called
 use Rattle.irq_base.specs.declared.entries.Way.TheVariants as ways
 use Rattle.irq_base.specs.declared.entries.TakeAnswer.TheVariants as takes
 use Rattle.irq_base.specs.declared.entries.Note.TheVariants as notes
@@ -92,17 +96,17 @@ wake_line = record latch {
 
 abbrev pub wake_log : List Entry
 wake_log =
-    entries.Request (driver 1) (dev 1) no_flags links.Linked (opens.Started resends.No) ∷
-    entries.Disable (driver 9) ∷
-    entries.HardClear (driver 9) ∷
-    entries.Synced (driver 9) ∷
-    entries.Ask (driver 1) (dev 1) ∷
-    entries.Take (cpu 0) ways.Line takes.Off ∷
-    entries.Enable (driver 9) (enables.Started resends.Chip) ∷
-    entries.Take (cpu 0) ways.Line takes.Handle ∷
-    entries.Begin (cpu 0) (dev 1) ∷
-    entries.Return (cpu 0) (dev 1) answers.Handled 1 ∷
-    entries.End (cpu 0) false false notes.Quiet ∷ []
+    by.Driver (driver 1) (drivers.Request no_flags links.Linked (opens.Started resends.No) (dev 1)) ∷
+    by.DriverCall (driver 9) called.Disable ∷
+    by.DriverCall (driver 9) called.HardClear ∷
+    by.DriverCall (driver 9) called.Synced ∷
+    by.Driver (driver 1) (drivers.Ask true (dev 1)) ∷
+    by.Cpu (cpu 0) (cpus.Take ways.Line takes.Off) ∷
+    by.DriverCall (driver 9) (called.Enable (enables.Started resends.Chip)) ∷
+    by.Cpu (cpu 0) (cpus.Take ways.Line takes.Handle) ∷
+    by.Cpu (cpu 0) (cpus.Begin (dev 1)) ∷
+    by.Cpu (cpu 0) (cpus.Return answers.Handled (dev 1) 1) ∷
+    by.Cpu (cpu 0) (cpus.End false false notes.Quiet) ∷ []
 
 pub wake_is_legal : IsLegal wake_line wake_log
 wake_is_legal = (refl, (refl, (refl, (refl, (refl, (refl, (refl, (refl, (refl, (refl, (refl, tt)))))))))))
@@ -131,7 +135,7 @@ pub wake_is_left_alone :
 wake_is_left_alone = (refl, refl, refl, refl)
 
 -- the enable ends the sleep of a line that was open
-pub wake_reopens : IsReopening (driver 9) (entries.Enable (driver 9) (enables.Started resends.Chip)) (first 6 wake_log)
+pub wake_reopens : IsReopening (driver 9) (by.DriverCall (driver 9) (called.Enable (enables.Started resends.Chip))) (first 6 wake_log)
 wake_reopens = record { resume = record { enable = refl; suspended = refl; alone = refl }; open_before = refl; unkilled = refl }
 
 -- no other driver has the line asleep
@@ -145,13 +149,13 @@ level_line = record level { devices = device 1 kinds.Direct ∷ []; calls = wake
 
 abbrev pub level_log : List Entry
 level_log =
-    entries.Request (driver 1) (dev 1) no_flags links.Linked (opens.Started resends.No) ∷
-    entries.Disable (driver 9) ∷
-    entries.HardClear (driver 9) ∷
-    entries.Synced (driver 9) ∷
-    entries.Ask (driver 1) (dev 1) ∷
-    entries.Take (cpu 0) ways.Line takes.Off ∷
-    entries.Enable (driver 9) (enables.Started resends.No) ∷ []
+    by.Driver (driver 1) (drivers.Request no_flags links.Linked (opens.Started resends.No) (dev 1)) ∷
+    by.DriverCall (driver 9) called.Disable ∷
+    by.DriverCall (driver 9) called.HardClear ∷
+    by.DriverCall (driver 9) called.Synced ∷
+    by.Driver (driver 1) (drivers.Ask true (dev 1)) ∷
+    by.Cpu (cpu 0) (cpus.Take ways.Line takes.Off) ∷
+    by.DriverCall (driver 9) (called.Enable (enables.Started resends.No)) ∷ []
 
 pub level_is_legal : IsLegal level_line level_log
 level_is_legal = (refl, (refl, (refl, (refl, (refl, (refl, (refl, tt)))))))
@@ -159,7 +163,7 @@ level_is_legal = (refl, (refl, (refl, (refl, (refl, (refl, (refl, tt)))))))
 pub level_is_handled_next :
     (is_asleep (driver 9) (first 6 level_log) ≡ true)
     × (next level_line (take 6 level_log) (actors.Cpu (cpu 0)) ≡ None)
-    × (next level_line level_log (actors.Cpu (cpu 0)) ≡ Some (entries.Take (cpu 0) ways.Line takes.Handle))
+    × (next level_line level_log (actors.Cpu (cpu 0)) ≡ Some (by.Cpu (cpu 0) (cpus.Take ways.Line takes.Handle)))
 level_is_handled_next = (refl, refl, refl)
 
 -- The disable waits for the flow that is in progress, and then for the thread that it wakes: the
@@ -169,19 +173,19 @@ thread_line = record wake_line { devices = device 1 kinds.Check ∷ [] }
 
 abbrev pub thread_log : List Entry
 thread_log =
-    entries.Request (driver 1) (dev 1) no_flags links.Linked (opens.Started resends.No) ∷
-    entries.Ask (driver 1) (dev 1) ∷
-    entries.Take (cpu 0) ways.Line takes.Handle ∷
-    entries.Begin (cpu 0) (dev 1) ∷
-    entries.Disable (driver 9) ∷
-    entries.Return (cpu 0) (dev 1) answers.Wake 0 ∷
-    entries.End (cpu 0) false false notes.Quiet ∷
-    entries.HardClear (driver 9) ∷
-    entries.ThreadBegin (dev 1) ∷
-    entries.ThreadReturn (dev 1) 1 ∷
-    entries.Done (dev 1) ∷
-    entries.Synced (driver 9) ∷
-    entries.Enable (driver 9) (enables.Started resends.No) ∷ []
+    by.Driver (driver 1) (drivers.Request no_flags links.Linked (opens.Started resends.No) (dev 1)) ∷
+    by.Driver (driver 1) (drivers.Ask true (dev 1)) ∷
+    by.Cpu (cpu 0) (cpus.Take ways.Line takes.Handle) ∷
+    by.Cpu (cpu 0) (cpus.Begin (dev 1)) ∷
+    by.DriverCall (driver 9) called.Disable ∷
+    by.Cpu (cpu 0) (cpus.Return answers.Wake (dev 1) 0) ∷
+    by.Cpu (cpu 0) (cpus.End false false notes.Quiet) ∷
+    by.DriverCall (driver 9) called.HardClear ∷
+    by.Thread (dev 1) threads.Begin ∷
+    by.Thread (dev 1) (threads.Return true 1) ∷
+    by.Thread (dev 1) threads.Done ∷
+    by.DriverCall (driver 9) called.Synced ∷
+    by.DriverCall (driver 9) (called.Enable (enables.Started resends.No)) ∷ []
 
 pub thread_is_legal : IsLegal thread_line thread_log
 thread_is_legal = (refl, (refl, (refl, (refl, (refl, (refl, (refl, (refl, (refl, (refl, (refl, (refl, (refl, tt)))))))))))))
@@ -206,12 +210,12 @@ nested_line = record latch {
 
 abbrev pub nested_log : List Entry
 nested_log =
-    entries.Request (driver 1) (dev 1) no_flags links.Linked (opens.Started resends.No) ∷
-    entries.Disable (driver 1) ∷
-    entries.Disable (driver 9) ∷
-    entries.HardClear (driver 9) ∷
-    entries.Synced (driver 9) ∷
-    entries.Enable (driver 9) enables.Lowered ∷ []
+    by.Driver (driver 1) (drivers.Request no_flags links.Linked (opens.Started resends.No) (dev 1)) ∷
+    by.DriverCall (driver 1) called.Disable ∷
+    by.DriverCall (driver 9) called.Disable ∷
+    by.DriverCall (driver 9) called.HardClear ∷
+    by.DriverCall (driver 9) called.Synced ∷
+    by.DriverCall (driver 9) (called.Enable enables.Lowered) ∷ []
 
 pub nested_is_legal : IsLegal nested_line nested_log
 nested_is_legal = (refl, (refl, (refl, (refl, (refl, (refl, tt))))))
@@ -239,17 +243,17 @@ enabled_line = record latch {
 
 abbrev pub enabled_log : List Entry
 enabled_log =
-    entries.Request (driver 1) (dev 1) no_flags links.Linked (opens.Started resends.No) ∷
-    entries.Disable (driver 9) ∷
-    entries.HardClear (driver 9) ∷
-    entries.Synced (driver 9) ∷
-    entries.Enable (driver 2) (enables.Started resends.No) ∷
-    entries.Ask (driver 1) (dev 1) ∷
-    entries.Take (cpu 0) ways.Line takes.Handle ∷
-    entries.Begin (cpu 0) (dev 1) ∷
-    entries.Return (cpu 0) (dev 1) answers.Handled 1 ∷
-    entries.End (cpu 0) false false notes.Quiet ∷
-    entries.Enable (driver 9) enables.Unbalanced ∷ []
+    by.Driver (driver 1) (drivers.Request no_flags links.Linked (opens.Started resends.No) (dev 1)) ∷
+    by.DriverCall (driver 9) called.Disable ∷
+    by.DriverCall (driver 9) called.HardClear ∷
+    by.DriverCall (driver 9) called.Synced ∷
+    by.DriverCall (driver 2) (called.Enable (enables.Started resends.No)) ∷
+    by.Driver (driver 1) (drivers.Ask true (dev 1)) ∷
+    by.Cpu (cpu 0) (cpus.Take ways.Line takes.Handle) ∷
+    by.Cpu (cpu 0) (cpus.Begin (dev 1)) ∷
+    by.Cpu (cpu 0) (cpus.Return answers.Handled (dev 1) 1) ∷
+    by.Cpu (cpu 0) (cpus.End false false notes.Quiet) ∷
+    by.DriverCall (driver 9) (called.Enable enables.Unbalanced) ∷ []
 
 pub enabled_is_legal : IsLegal enabled_line enabled_log
 enabled_is_legal = (refl, (refl, (refl, (refl, (refl, (refl, (refl, (refl, (refl, (refl, (refl, tt)))))))))))
@@ -275,10 +279,10 @@ linked_line = record latch {
 
 abbrev pub linked_log : List Entry
 linked_log =
-    entries.Disable (driver 9) ∷
-    entries.HardClear (driver 9) ∷
-    entries.Synced (driver 9) ∷
-    entries.Request (driver 1) (dev 1) no_flags links.Linked (opens.Started resends.No) ∷ []
+    by.DriverCall (driver 9) called.Disable ∷
+    by.DriverCall (driver 9) called.HardClear ∷
+    by.DriverCall (driver 9) called.Synced ∷
+    by.Driver (driver 1) (drivers.Request no_flags links.Linked (opens.Started resends.No) (dev 1)) ∷ []
 
 pub linked_is_legal : IsLegal linked_line linked_log
 linked_is_legal = (refl, (refl, (refl, (refl, tt))))
@@ -302,12 +306,12 @@ disabled_line = record latch {
 
 abbrev pub disabled_log : List Entry
 disabled_log =
-    entries.Request (driver 1) (dev 1) no_flags links.Linked (opens.Started resends.No) ∷
-    entries.Disable (driver 9) ∷
-    entries.HardClear (driver 9) ∷
-    entries.Synced (driver 9) ∷
-    entries.Disable (driver 2) ∷
-    entries.Enable (driver 9) enables.Lowered ∷ []
+    by.Driver (driver 1) (drivers.Request no_flags links.Linked (opens.Started resends.No) (dev 1)) ∷
+    by.DriverCall (driver 9) called.Disable ∷
+    by.DriverCall (driver 9) called.HardClear ∷
+    by.DriverCall (driver 9) called.Synced ∷
+    by.DriverCall (driver 2) called.Disable ∷
+    by.DriverCall (driver 9) (called.Enable enables.Lowered) ∷ []
 
 pub disabled_is_legal : IsLegal disabled_line disabled_log
 disabled_is_legal = (refl, (refl, (refl, (refl, (refl, (refl, tt))))))
@@ -332,14 +336,14 @@ unlinked_line = record latch {
 
 abbrev pub unlinked_log : List Entry
 unlinked_log =
-    entries.Request (driver 1) (dev 1) no_flags links.Linked (opens.Started resends.No) ∷
-    entries.Disable (driver 9) ∷
-    entries.HardClear (driver 9) ∷
-    entries.Synced (driver 9) ∷
-    entries.Unlink (driver 1) (dev 1) (unlinks.Unlinked true) ∷
-    entries.HardClear (driver 1) ∷
-    entries.Freed (driver 1) (dev 1) ∷
-    entries.Enable (driver 9) enables.Unbalanced ∷ []
+    by.Driver (driver 1) (drivers.Request no_flags links.Linked (opens.Started resends.No) (dev 1)) ∷
+    by.DriverCall (driver 9) called.Disable ∷
+    by.DriverCall (driver 9) called.HardClear ∷
+    by.DriverCall (driver 9) called.Synced ∷
+    by.DriverCall (driver 1) (called.Unlink (unlinks.Unlinked true) (dev 1)) ∷
+    by.DriverCall (driver 1) called.HardClear ∷
+    by.DriverCall (driver 1) (called.Freed (dev 1)) ∷
+    by.DriverCall (driver 9) (called.Enable enables.Unbalanced) ∷ []
 
 pub unlinked_is_legal : IsLegal unlinked_line unlinked_log
 unlinked_is_legal = (refl, (refl, (refl, (refl, (refl, (refl, (refl, (refl, tt))))))))
@@ -366,16 +370,16 @@ killed_line = record level {
 
 abbrev pub killed_log : List Entry
 killed_log =
-    entries.Request (driver 1) (dev 1) no_flags links.Linked (opens.Started resends.No) ∷
-    entries.Ask (driver 1) (dev 1) ∷
-    entries.Take (cpu 0) ways.Line takes.Handle ∷
-    entries.Begin (cpu 0) (dev 1) ∷
-    entries.Disable (driver 9) ∷
-    entries.Return (cpu 0) (dev 1) answers.Nothing 0 ∷
-    entries.End (cpu 0) false false notes.Killed ∷
-    entries.HardClear (driver 9) ∷
-    entries.Synced (driver 9) ∷
-    entries.Enable (driver 9) enables.Lowered ∷ []
+    by.Driver (driver 1) (drivers.Request no_flags links.Linked (opens.Started resends.No) (dev 1)) ∷
+    by.Driver (driver 1) (drivers.Ask true (dev 1)) ∷
+    by.Cpu (cpu 0) (cpus.Take ways.Line takes.Handle) ∷
+    by.Cpu (cpu 0) (cpus.Begin (dev 1)) ∷
+    by.DriverCall (driver 9) called.Disable ∷
+    by.Cpu (cpu 0) (cpus.Return answers.Nothing (dev 1) 0) ∷
+    by.Cpu (cpu 0) (cpus.End false false notes.Killed) ∷
+    by.DriverCall (driver 9) called.HardClear ∷
+    by.DriverCall (driver 9) called.Synced ∷
+    by.DriverCall (driver 9) (called.Enable enables.Lowered) ∷ []
 
 pub killed_is_legal : IsLegal killed_line killed_log
 killed_is_legal = (refl, (refl, (refl, (refl, (refl, (refl, (refl, (refl, (refl, (refl, tt))))))))))
@@ -388,10 +392,10 @@ killed_stays_disabled = (refl, refl)
 -- Nothing is linked: the enable changes nothing, and the line stays one disable deeper.
 abbrev pub empty_log : List Entry
 empty_log =
-    entries.Disable (driver 9) ∷
-    entries.HardClear (driver 9) ∷
-    entries.Synced (driver 9) ∷
-    entries.Enable (driver 9) enables.Unbalanced ∷ []
+    by.DriverCall (driver 9) called.Disable ∷
+    by.DriverCall (driver 9) called.HardClear ∷
+    by.DriverCall (driver 9) called.Synced ∷
+    by.DriverCall (driver 9) (called.Enable enables.Unbalanced) ∷ []
 
 pub empty_is_legal : IsLegal linked_line empty_log
 empty_is_legal = (refl, (refl, (refl, (refl, tt))))
@@ -404,7 +408,7 @@ abbrev pub synced_line : LineDef
 synced_line = record linked_line { calls = (driver 9, calls.Sync) ∷ [] }
 
 abbrev pub synced_log : List Entry
-synced_log = entries.HardClear (driver 9) ∷ entries.Synced (driver 9) ∷ []
+synced_log = by.DriverCall (driver 9) called.HardClear ∷ by.DriverCall (driver 9) called.Synced ∷ []
 
 pub synced_is_awake : IsLegal synced_line synced_log × (is_asleep (driver 9) (reverse synced_log) ≡ false)
 synced_is_awake = ((refl, (refl, tt)), refl)

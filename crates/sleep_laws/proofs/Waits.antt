@@ -1,6 +1,6 @@
 -- Before its synced a driver has made its hard clear, in the same call.
 use Rattle.std.proofs.Common.{◌≡◌, ℕ, ◌+◌, ◌<◌, ◌==◌, ◌⊎◌, inl, inr, Bool, true, false, cond, Option, Some, None, List}
-use Rattle.std.proofs.Common.{[], ◌∷◌, length, refl, sym, ap, ◌∙◌, subst, arith}
+use Rattle.std.proofs.Common.{[], ◌∷◌, length, refl, sym, ap, ◌∙◌, subst, arith, option_map}
 use Rattle.std.proofs.lemmas.Bool.{ltb-true, eqb-false, or_left, or_right}
 use Rattle.std.specs.List.{list_any}
 use Rattle.irq_base.specs.declared.numbers.DriverNo.{DriverNo}
@@ -8,7 +8,9 @@ use Rattle.irq_base.specs.declared.calls.Call.{Call}
 use Rattle.irq_base.specs.declared.calls.Call.TheVariants as calls
 use Rattle.irq_base.specs.declared.lines.LineDef.{LineDef}
 use Rattle.irq_base.specs.declared.entries.Entry.{Entry}
-use Rattle.irq_base.specs.declared.entries.Entry.TheVariants as entries
+use Rattle.irq_base.specs.declared.entries.Entry.TheVariants as by
+use Rattle.irq_base.specs.declared.entries.CallEntry.{CallEntry}
+use Rattle.irq_base.specs.declared.entries.CallEntry.TheVariants as called
 use Rattle.irq_model.specs.Places.{since}
 use Rattle.irq_model.specs.Kinds.{same_driver, is_by_driver}
 use Rattle.irq_model.specs.Rounds.{has_flow}
@@ -16,13 +18,13 @@ use Rattle.irq_model.specs.Due.{calls_by, entries_by, due_call}
 use Rattle.irq_model.specs.Next.{hard_clear_of, next_of_call}
 use Rattle.irq_model.specs.Legal.{IsDue, IsLegalPast}
 use Rattle.irq_steps.proofs.Same.{same_self_driver, driver_from_same}
-use Rattle.irq_laws.proofs.Chosen.{from_else}
+use Rattle.irq_laws.proofs.Chosen.{the_same}
 use Rattle.irq_laws.proofs.Progress.{standing, fresh, OneMore, one_more, no_more}
 use Rattle.irq_laws.proofs.ImpliesDriver.{IsSyncedDue, synced_due}
 use Rattle.sleep_laws.specs.Sleeping.{is_disable_by, since_disable}
 
 abbrev pub is_hard_clear_by : DriverNo → Entry → Bool
-is_hard_clear_by r (entries.HardClear driver) = same_driver r driver
+is_hard_clear_by r (by.DriverCall driver called.HardClear) = same_driver r driver
 is_hard_clear_by r _ = false
 
 -- ---- a driver's own entry is the next of its due call
@@ -34,21 +36,13 @@ of_same def r s e past due same = subst (λ (t : DriverNo). next_of_call def t p
 
 pub own_due : (def : LineDef) (r : DriverNo) (e : Entry) (past : List Entry) → IsDue def e past
     → is_by_driver r e ≡ true → next_of_call def r past (due_call def r past) ≡ Some e
-own_due def r (entries.Ask s x) past due mine = of_same def r s (entries.Ask s x) past due mine
-own_due def r (entries.Disable s) past due mine = of_same def r s (entries.Disable s) past due mine
-own_due def r (entries.HardClear s) past due mine = of_same def r s (entries.HardClear s) past due mine
-own_due def r (entries.Synced s) past due mine = of_same def r s (entries.Synced s) past due mine
-own_due def r (entries.Enable s answer) past due mine = of_same def r s (entries.Enable s answer) past due mine
-own_due def r (entries.Request s x flags answer opened) past due mine = of_same def r s (entries.Request s x flags answer opened) past due mine
-own_due def r (entries.Unlink s x answer) past due mine = of_same def r s (entries.Unlink s x answer) past due mine
-own_due def r (entries.Freed s x) past due mine = of_same def r s (entries.Freed s x) past due mine
-own_due def r (entries.Affinity s mask answer) past due mine = of_same def r s (entries.Affinity s mask answer) past due mine
-own_due def r (entries.Moment s at) past due mine = of_same def r s (entries.Moment s at) past due mine
+own_due def r (by.Driver s x) past due mine = of_same def r s (by.Driver s x) past due mine
+own_due def r (by.DriverCall s call) past due mine = of_same def r s (by.DriverCall s call) past due mine
 own_due def r e past due mine = cc
 
 -- another's entry is no disable of r
 pub not_own : (r : DriverNo) (e : Entry) → is_by_driver r e ≡ false → is_disable_by r e ≡ false
-not_own r (entries.Disable s) other = other
+not_own r (by.DriverCall s called.Disable) other = other
 not_own r e other = refl
 
 -- ---- within a call that waits, past its hard clear
@@ -56,9 +50,21 @@ not_own r e other = refl
 abbrev Waits : LineDef → DriverNo → List Entry → Type 0
 Waits def r past = (due_call def r past ≡ Some (calls.Disable, 2)) ⊎ (due_call def r past ≡ Some (calls.Sync, 1))
 
+-- the step of a call, in whichever branch it is made
+pub made_unless : (r : DriverNo) (b : Bool) (call : CallEntry) (e : Entry) → option_map (by.DriverCall r) (cond b None (Some call)) ≡ Some e
+    → by.DriverCall r call ≡ e
+made_unless r true call e h = cc
+made_unless r false call e h = the_same _ _ h
+
+pub made_when : (r : DriverNo) (b : Bool) (call : CallEntry) (e : Entry) → option_map (by.DriverCall r) (cond b (Some call) None) ≡ Some e
+    → by.DriverCall r call ≡ e
+made_when r true call e h = the_same _ _ h
+made_when r false call e h = cc
+
 -- the entry before was the hard clear
-clears : (def : LineDef) (r : DriverNo) (past : List Entry) (e : Entry) → hard_clear_of def r past ≡ Some e → e ≡ entries.HardClear r
-clears def r past e h = sym (from_else (has_flow def past) (entries.HardClear r) e h).1
+clears : (def : LineDef) (r : DriverNo) (past : List Entry) (e : Entry) → option_map (by.DriverCall r) (hard_clear_of def past) ≡ Some e
+    → e ≡ by.DriverCall r called.HardClear
+clears def r past e h = sym (made_unless r (has_flow def past) called.HardClear e h)
 
 one_before : (n : ℕ) → 2 ≡ n + 1 → n ≡ 1
 one_before n h = omega (arith, h)
@@ -67,14 +73,14 @@ none_before : (n : ℕ) → 1 ≡ n + 1 → n ≡ 0
 none_before n h = omega (arith, h)
 
 abbrev DueAfter : LineDef → DriverNo → List Entry → Entry → Type 0
-DueAfter def r past e = (o : Option (Call × ℕ)) → due_call def r past ≡ o → next_of_call def r past o ≡ Some e → e ≡ entries.HardClear r
+DueAfter def r past e = (o : Option (Call × ℕ)) → due_call def r past ≡ o → next_of_call def r past o ≡ Some e → e ≡ by.DriverCall r called.HardClear
 
 disable_before : (def : LineDef) (r : DriverNo) (past : List Entry) (e : Entry) → is_by_driver r e ≡ true
     → due_call def r (e ∷ past) ≡ Some (calls.Disable, 2) → DueAfter def r past e
 disable_before def r past e mine is None was due = cc
 disable_before def r past e mine is (Some (c, n)) was due = by_step (one_more def r e past c n calls.Disable 2 mine was is)
   where
-    by_step : OneMore c n e calls.Disable 2 → e ≡ entries.HardClear r
+    by_step : OneMore c n e calls.Disable 2 → e ≡ by.DriverCall r called.HardClear
     by_step (inl h) =
         let first = subst (λ (x : Call). next_of_call def r past (Some (x, n)) ≡ Some e) (sym h.0) due in
         clears def r past e (subst (λ (m : ℕ). next_of_call def r past (Some (calls.Disable, m)) ≡ Some e) (one_before n h.1) first)
@@ -85,14 +91,14 @@ sync_before : (def : LineDef) (r : DriverNo) (past : List Entry) (e : Entry) →
 sync_before def r past e mine is None was due = cc
 sync_before def r past e mine is (Some (c, n)) was due = by_step (one_more def r e past c n calls.Sync 1 mine was is)
   where
-    by_step : OneMore c n e calls.Sync 1 → e ≡ entries.HardClear r
+    by_step : OneMore c n e calls.Sync 1 → e ≡ by.DriverCall r called.HardClear
     by_step (inl h) =
         let first = subst (λ (x : Call). next_of_call def r past (Some (x, n)) ≡ Some e) (sym h.0) due in
         clears def r past e (subst (λ (m : ℕ). next_of_call def r past (Some (calls.Sync, m)) ≡ Some e) (none_before n h.1) first)
     by_step (inr h) = absurd (omega (arith, h))
 
 own_clear : (def : LineDef) (r : DriverNo) (past : List Entry) (e : Entry) → IsDue def e past → is_by_driver r e ≡ true
-    → Waits def r (e ∷ past) → e ≡ entries.HardClear r
+    → Waits def r (e ∷ past) → e ≡ by.DriverCall r called.HardClear
 own_clear def r past e due mine (inl is) = disable_before def r past e mine is (due_call def r past) refl (own_due def r e past due mine)
 own_clear def r past e due mine (inr is) = sync_before def r past e mine is (due_call def r past) refl (own_due def r e past due mine)
 
@@ -153,5 +159,5 @@ synced_waits def r past u = by_call u.count u.call
 
 -- at r's synced its hard clear stands after its last disable
 pub cleared_before : (def : LineDef) (r : DriverNo) (past : List Entry) → IsLegalPast def past
-    → IsDue def (entries.Synced r) past → list_any (is_hard_clear_by r) (since_disable r past) ≡ true
+    → IsDue def (by.DriverCall r called.Synced) past → list_any (is_hard_clear_by r) (since_disable r past) ≡ true
 cleared_before def r past legal due = cleared_since def r past legal (synced_waits def r past (synced_due def r past due))

@@ -8,26 +8,28 @@ use Rattle.irq_base.specs.declared.numbers.DriverNo.{DriverNo}
 use Rattle.irq_base.specs.declared.entries.Actor.{Actor}
 use Rattle.irq_base.specs.declared.entries.Actor.TheVariants as actors
 use Rattle.irq_base.specs.declared.entries.Entry.{Entry}
-use Rattle.irq_base.specs.declared.entries.Entry.TheVariants as entries
+use Rattle.irq_base.specs.declared.entries.Entry.TheVariants as by
+use Rattle.irq_base.specs.declared.entries.CallEntry.{CallEntry}
+use Rattle.irq_base.specs.declared.entries.CallEntry.TheVariants as called
 use Rattle.irq_model.specs.Places.{stands, since, before}
-use Rattle.irq_model.specs.Kinds.{same_driver, is_any_ask, is_disable, is_linked_request}
-use Rattle.irq_model.specs.Kinds.{is_unlinked_answer}
+use Rattle.irq_model.specs.Kinds.{same_driver, is_call, is_any_ask, is_disable, is_linked_request}
+use Rattle.irq_model.specs.Kinds.{is_unlink}
 
 -- ---- the sleeper's entries
 
 -- r disables the line (`suspend_device_irq` by `__disable_irq`)
 abbrev pub is_disable_by : DriverNo → Entry → Bool
-is_disable_by r (entries.Disable driver) = same_driver r driver
+is_disable_by r (by.DriverCall driver called.Disable) = same_driver r driver
 is_disable_by r _ = false
 
 -- r has waited for the handlers and the threads (`suspend_device_irqs` by `synchronize_irq`)
 abbrev pub is_synced_by : DriverNo → Entry → Bool
-is_synced_by r (entries.Synced driver) = same_driver r driver
+is_synced_by r (by.DriverCall driver called.Synced) = same_driver r driver
 is_synced_by r _ = false
 
 -- r enables the line (`resume_irq` by `__enable_irq`)
 abbrev pub is_enable_by : DriverNo → Entry → Bool
-is_enable_by r (entries.Enable driver answer) = same_driver r driver
+is_enable_by r (by.DriverCall driver (called.Enable answer)) = same_driver r driver
 is_enable_by r _ = false
 
 -- the entries after r's last disable; below, the entries before it
@@ -49,18 +51,17 @@ is_asleep r past = is_suspended r past && list_any (is_synced_by r) (since_disab
 
 -- ---- what others do meanwhile
 
+abbrev pub enables : CallEntry → Bool
+enables (called.Enable answer) = true
+enables _ = false
+
 abbrev pub is_any_enable : Entry → Bool
-is_any_enable (entries.Enable driver answer) = true
-is_any_enable _ = false
+is_any_enable e = is_call enables e
 
-abbrev pub is_any_unlink : Entry → Bool
-is_any_unlink (entries.Unlink driver dev answer) = is_unlinked_answer answer
-is_any_unlink _ = false
-
--- a driver disables or enables the line, or links or unlinks a device (`disable_irq`, `enable_irq`,
+-- somebody disables or enables the line, or links or unlinks a device (`disable_irq`, `enable_irq`,
 -- `request_threaded_irq`, `free_irq`)
 abbrev pub disturbs : Entry → Bool
-disturbs e = is_disable e || (is_any_enable e || (is_linked_request e || is_any_unlink e))
+disturbs e = is_disable e || (is_any_enable e || (is_linked_request e || is_unlink e))
 
 -- since r's disable nobody disturbed the line
 abbrev pub is_left_alone : DriverNo → List Entry → Bool
@@ -72,7 +73,7 @@ is_other_driver r _ = false
 
 -- another driver made the entry, and it is no ask
 abbrev pub is_other_call : DriverNo → Entry → Bool
-is_other_call r e = is_other_driver r (actor_of (record { 0 = 0 }) e) && not (is_any_ask e)
+is_other_call r e = is_other_driver r (actor_of e) && not (is_any_ask e)
 
 -- Since r's disable the other drivers have only asked. In 6.1 tasks are frozen before lines are
 -- suspended (`kernel/power/process.c`); devices go on.

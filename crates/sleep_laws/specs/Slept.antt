@@ -5,7 +5,9 @@ use Rattle.irq_base.specs.declared.numbers.DevNo.{DevNo}
 use Rattle.irq_base.specs.declared.numbers.DriverNo.{DriverNo}
 use Rattle.irq_base.specs.declared.lines.LineDef.{LineDef}
 use Rattle.irq_base.specs.declared.entries.Entry.{Entry}
-use Rattle.irq_base.specs.declared.entries.Entry.TheVariants as entries
+use Rattle.irq_base.specs.declared.entries.Entry.TheVariants as by
+use Rattle.irq_base.specs.declared.entries.CpuEntry.TheVariants as cpus
+use Rattle.irq_base.specs.declared.entries.ThreadEntry.TheVariants as threads
 use Rattle.irq_model.specs.Places.{EachEntry, count_of}
 use Rattle.irq_model.specs.Kinds.{is_take, is_off, is_kill, is_start, is_chip_start, is_soft_start}
 use Rattle.irq_model.specs.Lines.{is_edge_line}
@@ -24,8 +26,8 @@ use Rattle.sleep_laws.specs.Sleeping.{is_asleep, is_left_alone}
 
 -- a handler is called, or a thread begins a run
 abbrev pub begins_run : Entry → Bool
-begins_run (entries.Begin cpu dev) = true
-begins_run (entries.ThreadBegin dev) = true
+begins_run (by.Cpu cpu (cpus.Begin dev)) = true
+begins_run (by.Thread dev threads.Begin) = true
 begins_run _ = false
 
 -- the line is disabled, and nothing is at work on it

@@ -11,7 +11,6 @@ ghost use Rattle.irq_base.specs.declared.lines.LineDef.{LineDef};
 ghost use Rattle.irq_base.specs.declared.numbers.CpuNo.{CpuNo};
 ghost use Rattle.irq_base.specs.declared.numbers.DevNo.{DevNo};
 ghost use Rattle.irq_base.specs.declared.numbers.DriverNo.{DriverNo};
-ghost use Rattle.irq_base.specs.declared.numbers.LineNo.{LineNo};
 ghost use Rattle.irq_base.specs.declared.entries.Actor.TheVariants as actors;
 ghost use Rattle.irq_base.specs.declared.entries.Entry.{Entry};
 ghost use Rattle.irq_model.specs.Due.{calls_by, due_call};
@@ -48,7 +47,7 @@ pub fn left_alone()
 /// driver whose disable isn't complete may.
 pub fn falls_asleep()
     ensures law { (def : LineDef) (h : List Entry) (r : DriverNo) (n : ℕ)
-        → ((line : LineNo) (d : DevNo) → next def h (actors.Thread line d) ≡ None)
+        → ((d : DevNo) → next def h (actors.Thread d) ≡ None)
         → ((c : CpuNo) → next def h (actors.Cpu c) ≡ None)
         → due_call def r (reverse h) ≡ Some (calls.Disable, n)
         → IsSome (next def h (actors.Driver r)) }

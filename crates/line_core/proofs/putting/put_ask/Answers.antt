@@ -1,7 +1,8 @@
 use Rattle.std.proofs.Common.{add-one, Some, sym, ap, ◌∙◌}
 use Rattle.irq_base.specs.declared.calls.Call.TheVariants as calls
 use Rattle.irq_base.specs.declared.entries.Actor.TheVariants as actors
-use Rattle.irq_base.specs.declared.entries.Entry.TheVariants as entries
+use Rattle.irq_base.specs.declared.entries.Entry.TheVariants as by
+use Rattle.irq_base.specs.declared.entries.DriverEntry.TheVariants as drivers
 use Rattle.line_core.proofs.More.{Beside, line_is_of, line_can, line_can_move, line_after, ask_due, moves_by}
 use Rattle.line_scripts.specs.Rows.{place_of}
 use Rattle.line_state.specs.declared.due.CallStep.TheVariants as made
@@ -25,7 +26,7 @@ advance-requires g c =
     let b : Beside c.args.def.now c.args.history.now.entries
     = record { state = c.args.state.now.state; scripts = c.args.scripts.now; is = c.requires.line } in
     let can = line_can_move c.args.def.now c.args.history.now.entries b (actors.Driver c.args.driver)
-    (entries.Ask c.args.driver c.args.dev)
+    (by.Driver c.args.driver (drivers.Ask true c.args.dev))
     (ask_due c.args.def.now c.args.history.now.entries b c.args.driver c.args.dev c.requires.call) in
     record { due = can.0; within = can.1 }
 

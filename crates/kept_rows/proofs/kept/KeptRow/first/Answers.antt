@@ -1,11 +1,12 @@
 use Rattle.std.proofs.Common.{◌≡◌, length, refl, ap, ◌∙◌, arith}
 use Rattle.std.specs.Fmt.{digits}
-use Rattle.irq_base.specs.declared.entries.Entry.TheVariants as entries
+use Rattle.irq_base.specs.declared.entries.Entry.TheVariants as by
+use Rattle.irq_base.specs.declared.entries.ThreadEntry.TheVariants as threads
 use Rattle.log_text.specs.Rows.{entry_text}
 use Rattle.kept_rows.proofs.kept.KeptRow.first.Goals as goal
 
 -- "0 t0 done", and a line feed
-ten : length (entry_text (record { 0 = 0 }) (entries.Done (record { 0 = 0 }))) ≡ 10
+ten : length (entry_text (record { 0 = 0 }) (by.Thread (record { 0 = 0 }) threads.Done)) ≡ 10
 unfolding digits
 ten = refl
 

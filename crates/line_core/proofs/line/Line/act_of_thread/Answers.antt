@@ -16,7 +16,7 @@ pub add_of_thread-requires-clause-room : goal.add_of_thread-requires-clause-room
 add_of_thread-requires-clause-room g c =
     let line : LineSeen = line_of c.self.inside.def c.self.inside.history in
     let b : Beside line.def line.entries = record { state = c.self.inside.state.state; scripts = c.self.inside.scripts; is = c.self.invariant } in
-    let who = actors.Thread c.args.line c.args.dev in
+    let who = actors.Thread c.args.dev in
     let step = steps.Thread c.args.dev c.args.step in
     let due : IsDueStep line who step = subst (λ (w : WiredSeen). IsDueStep w.line who step) (sym c.self.view_is) c.requires.due in
     let heard : IfSome (run_by line.def c.self.inside.state.state step) (IsSaidFor c.args.said.now) = search rules in
@@ -29,7 +29,7 @@ pub returns-in-Some-clause-answer : goal.returns-in-Some-clause-answer
 returns-in-Some-clause-answer g c =
     let line : LineSeen = line_of c.self.inside.def c.self.inside.history in
     let b : Beside line.def line.entries = record { state = c.self.inside.state.state; scripts = c.self.inside.scripts; is = c.self.invariant } in
-    let who = actors.Thread c.args.line c.args.dev in
+    let who = actors.Thread c.args.dev in
     let step = steps.Thread c.args.dev c.args.step in
     let due : IsDueStep line who step = subst (λ (w : WiredSeen). IsDueStep w.line who step) (sym c.self.view_is) c.requires.due in
     let below : length line.entries < line.def.log = subst (λ (w : WiredSeen). length w.line.entries < w.line.def.log) (sym c.self.view_is) c.requires.below in
@@ -43,7 +43,7 @@ pub returns-clause-answer : goal.returns-clause-answer
 returns-clause-answer g c =
     let line : LineSeen = line_of c.self.inside.def c.self.inside.history in
     let b : Beside line.def line.entries = record { state = c.self.inside.state.state; scripts = c.self.inside.scripts; is = c.self.invariant } in
-    let who = actors.Thread c.args.line c.args.dev in
+    let who = actors.Thread c.args.dev in
     let step = steps.Thread c.args.dev c.args.step in
     let due : IsDueStep line who step = subst (λ (w : WiredSeen). IsDueStep w.line who step) (sym c.self.view_is) c.requires.due in
     let heard : IfSome (run_by line.def c.self.inside.state.state step) (IsSaidFor c.args.said.now) = search rules in

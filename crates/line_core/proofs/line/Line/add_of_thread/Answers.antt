@@ -14,7 +14,7 @@ pub put_of_thread-requires-clause-due : goal.put_of_thread-requires-clause-due
 put_of_thread-requires-clause-due g c =
     let line : LineSeen = line_of c.self.inside.def c.self.inside.history in
     let b : Beside line.def line.entries = record { state = c.self.inside.state.state; scripts = c.self.inside.scripts; is = c.self.invariant } in
-    let who = actors.Thread c.args.line c.args.dev in
+    let who = actors.Thread c.args.dev in
     let step = steps.Thread c.args.dev c.args.step in
     let due : IsDueStep line who step = subst (λ (w : WiredSeen). IsDueStep w.line who step) (sym c.self.view_is) c.requires.due in
     due_here line b who step due
@@ -23,7 +23,7 @@ pub returns-clause-adds : goal.returns-clause-adds
 returns-clause-adds g c =
     let line : LineSeen = line_of c.self.inside.def c.self.inside.history in
     let b : Beside line.def line.entries = record { state = c.self.inside.state.state; scripts = c.self.inside.scripts; is = c.self.invariant } in
-    let who = actors.Thread c.args.line c.args.dev in
+    let who = actors.Thread c.args.dev in
     let step = steps.Thread c.args.dev c.args.step in
     let due : IsDueStep line who step = subst (λ (w : WiredSeen). IsDueStep w.line who step) (sym c.self.view_is) c.requires.due in
     let e = c.put_of_thread.result in
@@ -42,7 +42,7 @@ pub returns-clause-unheard : goal.returns-clause-unheard
 returns-clause-unheard g c other said =
     let line : LineSeen = line_of c.self.inside.def c.self.inside.history in
     let b : Beside line.def line.entries = record { state = c.self.inside.state.state; scripts = c.self.inside.scripts; is = c.self.invariant } in
-    let who = actors.Thread c.args.line c.args.dev in
+    let who = actors.Thread c.args.dev in
     let step = steps.Thread c.args.dev c.args.step in
     let due : IsDueStep line who step = subst (λ (w : WiredSeen). IsDueStep w.line who step) (sym c.self.view_is) c.requires.due in
     let e = c.put_of_thread.result in

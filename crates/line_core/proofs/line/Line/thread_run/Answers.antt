@@ -13,7 +13,7 @@ pub returns : goal.returns
 returns g c =
     let line : LineSeen = line_of c.self.inside.def c.self.inside.history in
     let b : Beside line.def line.entries = record { state = c.self.inside.state.state; scripts = c.self.inside.scripts; is = c.self.invariant } in
-    let who = actors.Thread c.args._line c.args.dev in
+    let who = actors.Thread c.args.dev in
     let step = steps.Thread c.args.dev threads.Return in
     let due : IsDueStep line who step = subst (λ (w : WiredSeen). IsDueStep w.line who step) (sym c.self.view_is) c.requires in
     subst (λ (w : WiredSeen). run_of w.line.def w.line.entries who ≡ Some c.thread_run.result) c.self.view_is

@@ -1,7 +1,0 @@
-use Rattle.std.proofs.Common.{Bool}
-use Rattle.irq_base.specs.declared.entries.Entry.TheVariants as entries
-use Rattle.log_read.proofs.Taking.{made, both}
-use Rattle.log_read.proofs.entries.finish.Goals as goal
-
-pub returns : goal.returns
-returns c = made (λ (p : Bool × Bool). entries.Finish c.args.dev p.0 p.1) (both c.kept-kept.ensures c.unmask-unmask.ensures)
