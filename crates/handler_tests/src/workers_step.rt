@@ -6,7 +6,7 @@
 use board_lines::MakesChainLine;
 use board_text::read_board;
 use callbacks::{ByKind, Callbacks, Handler};
-use irq_base::{Actor, Answer, CpuNo, DevNo, DeviceDef, LineNo, Part, Reports};
+use irq_base::{Actor, Answer, CpuNo, DevNo, DeviceDef, Part, Reports};
 use irq_io::MemSink;
 use irq_run::{RunEnd, run_and_print};
 use std::hint::spin_loop;
@@ -121,7 +121,7 @@ impl Gate for Progress {
         match actor {
             Actor::Driver(_) => self.pass_driver(turn),
             Actor::Cpu(_) => self.pass_cpu(turn),
-            Actor::Thread(..) => self.pass_thread(turn),
+            Actor::Thread(_) => self.pass_thread(turn),
         }
     }
 }
@@ -151,7 +151,7 @@ fn entries_of(reports: &Reports, actor: Actor) -> u64 {
     let mut found: u64 = 0;
     for k in 0..report.history.len() {
         if let Some(entry) = report.history.get(k) {
-            found = found.saturating_add(u64::from(entry.actor(report.line) == actor));
+            found = found.saturating_add(u64::from(entry.actor() == actor));
         }
     }
     found
@@ -185,7 +185,7 @@ fn each_worker_makes_its_steps(rt: HostRuntime) -> Result<(), Fail> {
         &mut out,
     );
     assert!(rt; ran.end == RunEnd::Done && progress.served.load(Ordering::SeqCst) == ASKS);
-    let thread = Actor::Thread(LineNo(1), DevNo(1));
+    let thread = Actor::Thread(DevNo(1));
     assert!(rt; has_made(&ran.reports, Actor::Cpu(CpuNo(0)), &progress.cpu, 4 * ASKS));
     assert!(rt; has_made(&ran.reports, thread, &progress.thread, 3 * ASKS));
     Ok(())

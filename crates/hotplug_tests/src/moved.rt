@@ -3,7 +3,7 @@
 use board_lines::MakesChainLine;
 use board_text::read_board;
 use callbacks::{ByKind, Callbacks};
-use irq_base::{CpuNo, Entry, LineNo, NoMemory, Reports};
+use irq_base::{CpuEntry, CpuNo, DriverEntry, Entry, LineNo, NoMemory, Reports};
 use irq_io::MemSink;
 use irq_run::{RunEnd, run_and_print};
 use std::alloc::Global;
@@ -51,13 +51,13 @@ fn count_takes(reports: &Reports) -> Taken {
     };
     for k in 0..report.history.len() {
         match report.history.get(k) {
-            Some(Entry::Affinity { .. }) => {
+            Some(Entry::Driver(_, DriverEntry::Affinity { .. })) => {
                 taken = Taken {
                     here: 0,
                     elsewhere: 0,
                 };
             }
-            Some(Entry::Take { cpu, .. }) => {
+            Some(Entry::Cpu(cpu, CpuEntry::Take { .. })) => {
                 if cpu == CpuNo(0) {
                     taken.here = taken.here.saturating_add(1);
                 } else {

@@ -3,8 +3,8 @@ ghost use Rattle.std.specs.Prelude.{◌≡◌, IfOk};
 ghost use Rattle.part_tests.specs.AskedLine.{asked_line};
 
 use irq_base::{
-    Actor, Call, CallList, CpuNo, DevNo, DeviceDef, DeviceList, DriverNo, Entry, FlowKind, Kind,
-    LineDef, LineNo, NoMemory, Trigger,
+    Actor, Call, CallList, CpuNo, DevNo, DeviceDef, DeviceList, DriverEntry, DriverNo, Entry,
+    FlowKind, Kind, LineDef, LineNo, NoMemory, Trigger,
 };
 use irq_line::Stepped;
 use line_storms::step_within_bound;
@@ -58,10 +58,13 @@ fn a_step_comes(rt: HostRuntime) -> Result<(), Fail> {
     let first = step_within_bound(&mut line, Actor::Driver(DRIVER), None)?;
     assert!(&rt;
         first
-            == Stepped::Added(Entry::Ask {
-                driver: DRIVER,
-                dev: DEV
-            })
+            == Stepped::Added(Entry::Driver(
+                DRIVER,
+                DriverEntry::Ask {
+                    edge: true,
+                    dev: DEV
+                }
+            ))
     );
     let next = step_within_bound(&mut line, Actor::Cpu(CpuNo(0)), None)?;
     assert!(&rt; next == Stepped::NotYet);

@@ -26,7 +26,7 @@ const CPU: Actor = Actor::Cpu(CpuNo(0));
 
 const DRIVER: Actor = Actor::Driver(DriverNo(1));
 
-const THREAD: Actor = Actor::Thread(LineNo(1), DevNo(1));
+const THREAD: Actor = Actor::Thread(DevNo(1));
 
 const DEVICE: DeviceDef = DeviceDef {
     dev: DevNo(1),

@@ -4,8 +4,8 @@ use crate::meeting::{Meeting, Meets};
 use board_lines::MakesChainLine;
 use callbacks::{ByKind, Callbacks, Handler};
 use irq_base::{
-    Actor, Answer, CpuNo, DevNo, DriverNo, Entry, Flags, LineNo, LinkAnswer, NoMemory, Note,
-    Opened, Reports, Resend, TakeAnswer, Way,
+    Actor, Answer, CpuEntry, CpuNo, DevNo, DriverEntry, DriverNo, Entry, Flags, LinkAnswer,
+    NoMemory, Note, Opened, Reports, Resend, TakeAnswer, Way,
 };
 use irq_io::{MemSink, MemSource};
 use irq_top::{Outcome, irq_main};
@@ -48,42 +48,50 @@ ask 1
 
 /// The first two entries of the storm.
 const STORM_BEGINS: [Entry; 2] = [
-    Entry::Request {
-        driver: DriverNo(1),
-        dev: DevNo(1),
-        flags: Flags::NONE,
-        answer: LinkAnswer::Linked,
-        opened: Opened::Started { resend: Resend::No },
-    },
-    Entry::Ask {
-        driver: DriverNo(1),
-        dev: DevNo(1),
-    },
+    Entry::Driver(
+        DriverNo(1),
+        DriverEntry::Request {
+            flags: Flags::NONE,
+            answer: LinkAnswer::Linked,
+            opened: Opened::Started { resend: Resend::No },
+            dev: DevNo(1),
+        },
+    ),
+    Entry::Driver(
+        DriverNo(1),
+        DriverEntry::Ask {
+            edge: true,
+            dev: DevNo(1),
+        },
+    ),
 ];
 
 /// The four entries of the storm that come again and again.
 const STORM_GOES_ON: [Entry; 4] = [
-    Entry::Take {
-        cpu: CpuNo(0),
-        way: Way::Line,
-        answer: TakeAnswer::Handle,
-    },
-    Entry::Begin {
-        cpu: CpuNo(0),
-        dev: DevNo(1),
-    },
-    Entry::Return {
-        cpu: CpuNo(0),
-        dev: DevNo(1),
-        answer: Answer::Nothing,
-        served: 0,
-    },
-    Entry::End {
-        cpu: CpuNo(0),
-        again: false,
-        unmask: true,
-        note: Note::Counted,
-    },
+    Entry::Cpu(
+        CpuNo(0),
+        CpuEntry::Take {
+            way: Way::Line,
+            answer: TakeAnswer::Handle,
+        },
+    ),
+    Entry::Cpu(CpuNo(0), CpuEntry::Begin { dev: DevNo(1) }),
+    Entry::Cpu(
+        CpuNo(0),
+        CpuEntry::Return {
+            answer: Answer::Nothing,
+            dev: DevNo(1),
+            served: 0,
+        },
+    ),
+    Entry::Cpu(
+        CpuNo(0),
+        CpuEntry::End {
+            again: false,
+            unmask: true,
+            note: Note::Counted,
+        },
+    ),
 ];
 
 /// Runs the board under the gate, with the handlers.
@@ -119,10 +127,12 @@ enum Counted {
 }
 
 impl Counted {
-    fn is(self, line: LineNo, entry: &Entry) -> bool {
+    fn is(self, entry: &Entry) -> bool {
         match (self, entry) {
-            (Counted::By(actor), _) => entry.actor(line) == actor,
-            (Counted::ReturnOf(device), Entry::Return { dev, .. }) => *dev == device,
+            (Counted::By(actor), _) => entry.actor() == actor,
+            (Counted::ReturnOf(device), Entry::Cpu(_, CpuEntry::Return { dev, .. })) => {
+                *dev == device
+            }
             (Counted::ReturnOf(_), _) => false,
         }
     }
@@ -137,7 +147,7 @@ fn count(reports: &Reports, counted: Counted) -> u64 {
         };
         for k in 0..report.history.len() {
             if let Some(entry) = report.history.get(k) {
-                found = found.saturating_add(u64::from(counted.is(report.line, &entry)));
+                found = found.saturating_add(u64::from(counted.is(&entry)));
             }
         }
     }
