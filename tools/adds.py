@@ -11,7 +11,7 @@ PAGE = TOP / "docs" / "ADDING.md"
 LISTS = {
     "a flow": ["FlowKind"],
     "a driver's call": ["Call", "CallWord", "CallWords"],
-    "a kind of entry": ["Entry"],
+    "a kind of entry": ["Entry", "CpuEntry", "ThreadEntry", "DriverEntry", "CallEntry"],
     "a kind of controller": ["ControllerKind"],
     "a command": ["Command"],
 }
@@ -28,7 +28,7 @@ WORDS = {
 OUTSIDE = ["tools", "bench", "kernel"]
 NOT_READ = re.compile(r"tools/(machines/|adds\.py$)|bench/edits/.*\.edit$|.*\.(board|rows|md)$")
 # Enums of which each variant is named wherever the program tells some of them apart.
-NAMED = ["Entry", "Call", "CallWord", "Actor"]
+NAMED = ["Entry", "CpuEntry", "ThreadEntry", "DriverEntry", "CallEntry", "Call", "CallWord", "Actor"]
 
 
 def hidden_variants():
