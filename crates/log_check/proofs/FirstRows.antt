@@ -1,5 +1,5 @@
 -- The head of a text's first row.
-use Rattle.std.proofs.Common.{◌≡◌, ℕ, false, Option, Some, None, List, [], ◌∷◌, ◌++◌, codes, decimal, length, refl, sym}
+use Rattle.std.proofs.Common.{◌≡◌, ℕ, false, Option, Some, None, List, [], ◌∷◌, ◌++◌, decimal, length, refl, sym}
 use Rattle.std.proofs.Common.{ap, subst, ◌∙◌, append_assoc, arith}
 use Rattle.std.specs.List.{concat, join_with_byte}
 use Rattle.std.proofs.lemmas.Bool.{false≢true}
@@ -17,7 +17,7 @@ use Rattle.irq_base.specs.declared.entries.DriverEntry.TheVariants as drivers
 use Rattle.irq_base.specs.declared.entries.CallEntry.{CallEntry}
 use Rattle.irq_base.specs.declared.entries.CallEntry.TheVariants as called
 use Rattle.irq_base.specs.declared.numbers.LineNo.{LineNo}
-use Rattle.log_text.specs.EntryWords.{actor_word, call_words, cpu_words, driver_words, said_words, thread_words}
+use Rattle.log_text.specs.EntryWords.{actor_word, entry_words, call_words, cpu_words, driver_words, said_words, thread_words}
 use Rattle.log_text.specs.Formed.{IsRowOf, IsSmall, IsWritable}
 use Rattle.log_text.specs.Rows.{entry_text}
 use Rattle.log_read.specs.LogOf.{is_whole, rows_of}
