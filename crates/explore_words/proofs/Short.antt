@@ -6,7 +6,11 @@ use Rattle.std.proofs.lemmas.List.{length-append}
 use Rattle.irq_base.specs.declared.devices.Answer.{Answer}
 use Rattle.irq_base.specs.declared.devices.Answer.TheVariants as answers
 use Rattle.irq_base.specs.declared.entries.Entry.{Entry}
-use Rattle.irq_base.specs.declared.entries.Entry.TheVariants as entries
+use Rattle.irq_base.specs.declared.entries.Entry.TheVariants as by
+use Rattle.irq_base.specs.declared.entries.CpuEntry.TheVariants as cpus
+use Rattle.irq_base.specs.declared.entries.ThreadEntry.TheVariants as threads
+use Rattle.irq_base.specs.declared.entries.DriverEntry.TheVariants as drivers
+use Rattle.irq_base.specs.declared.entries.CallEntry.TheVariants as called
 use Rattle.irq_base.specs.declared.entries.Errno.TheVariants as errnos
 use Rattle.irq_base.specs.declared.entries.Way.{Way}
 use Rattle.irq_base.specs.declared.entries.Way.TheVariants as ways
@@ -138,44 +142,44 @@ affinity_fits (affinities.Refused errnos.Inval) = omega arith
 affinity_fits (affinities.Refused errnos.Busy) = omega arith
 
 entry_fits : (e : Entry) → IsWritable e → Fit 300 (entry_words e)
-entry_fits (entries.Ask driver dev) w =
+entry_fits (by.Driver driver (drivers.Ask edge dev)) w =
     let a = number_short driver.0 w.small.0 in let b = number_short dev.0 w.small.1 in omega (arith, a, b)
-entry_fits (entries.Take cpu way answer) w =
+entry_fits (by.Cpu cpu (cpus.Take way answer)) w =
     let a = number_short cpu.0 w.small in let b = way_fits way in let c = take_fits answer in omega (arith, a, b, c)
-entry_fits (entries.Begin cpu dev) w =
+entry_fits (by.Cpu cpu (cpus.Begin dev)) w =
     let a = number_short cpu.0 w.small.0 in let b = number_short dev.0 w.small.1 in omega (arith, a, b)
-entry_fits (entries.Return cpu dev answer served) w =
+entry_fits (by.Cpu cpu (cpus.Return answer dev served)) w =
     let a = number_short cpu.0 w.small.0 in
     let b = number_short dev.0 w.small.1 in
     let c = answer_fits answer in let d = number_short served w.small.2 in omega (arith, a, b, c, d)
-entry_fits (entries.End cpu again unmask note) w =
+entry_fits (by.Cpu cpu (cpus.End again unmask note)) w =
     let a = number_short cpu.0 w.small in
     let b = loop_fits again in let c = mask_fits unmask in let d = note_fits note in omega (arith, a, b, c, d)
-entry_fits (entries.ThreadBegin dev) w = let a = number_short dev.0 w.small in omega (arith, a)
-entry_fits (entries.ThreadReturn dev served) w =
+entry_fits (by.Thread dev threads.Begin) w = let a = number_short dev.0 w.small in omega (arith, a)
+entry_fits (by.Thread dev (threads.Return handled served)) w =
     let a = number_short dev.0 w.small.0 in let b = number_short served w.small.1 in omega (arith, a, b)
-entry_fits (entries.Finish dev kept unmask) w =
+entry_fits (by.Thread dev (threads.Finish kept unmask)) w =
     let a = number_short dev.0 w.small in let b = bit_fits kept in let c = mask_fits unmask in omega (arith, a, b, c)
-entry_fits (entries.Done dev) w = let a = number_short dev.0 w.small in omega (arith, a)
-entry_fits (entries.Disable driver) w = let a = number_short driver.0 w.small in omega (arith, a)
-entry_fits (entries.HardClear driver) w = let a = number_short driver.0 w.small in omega (arith, a)
-entry_fits (entries.Synced driver) w = let a = number_short driver.0 w.small in omega (arith, a)
-entry_fits (entries.Enable driver answer) w =
+entry_fits (by.Thread dev threads.Done) w = let a = number_short dev.0 w.small in omega (arith, a)
+entry_fits (by.DriverCall driver called.Disable) w = let a = number_short driver.0 w.small in omega (arith, a)
+entry_fits (by.DriverCall driver called.HardClear) w = let a = number_short driver.0 w.small in omega (arith, a)
+entry_fits (by.DriverCall driver called.Synced) w = let a = number_short driver.0 w.small in omega (arith, a)
+entry_fits (by.DriverCall driver (called.Enable answer)) w =
     let a = number_short driver.0 w.small in let b = enable_fits answer in omega (arith, a, b)
-entry_fits (entries.Request driver dev flags answer opened) w =
+entry_fits (by.Driver driver (drivers.Request flags answer opened dev)) w =
     let a = number_short driver.0 w.small.0 in
     let b = number_short dev.0 w.small.1 in
     let c = flags_by flags.shared flags.oneshot flags.noauto in
     let d = link_fits answer opened in omega (arith, a, b, c, d)
-entry_fits (entries.Unlink driver dev answer) w =
+entry_fits (by.DriverCall driver (called.Unlink answer dev)) w =
     let a = number_short driver.0 w.small.0 in
     let b = number_short dev.0 w.small.1 in let c = unlink_fits answer in omega (arith, a, b, c)
-entry_fits (entries.Freed driver dev) w =
+entry_fits (by.DriverCall driver (called.Freed dev)) w =
     let a = number_short driver.0 w.small.0 in let b = number_short dev.0 w.small.1 in omega (arith, a, b)
-entry_fits (entries.Affinity driver mask answer) w =
+entry_fits (by.Driver driver (drivers.Affinity answer mask)) w =
     let a = number_short driver.0 w.small.0 in
     let b = number_short mask w.small.1 in let c = affinity_fits answer in omega (arith, a, b, c)
-entry_fits (entries.Moment driver moment) w =
+entry_fits (by.Driver driver (drivers.Moment moment)) w =
     let a = number_short driver.0 w.small.0 in let b = number_short moment w.small.1 in omega (arith, a, b)
 
 standing_fits : (x : Standing) → length (standing_word x) ≤ 11

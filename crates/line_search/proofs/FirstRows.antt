@@ -15,7 +15,10 @@ use Rattle.irq_base.specs.declared.lines.FlowKind.TheVariants as flows
 use Rattle.irq_base.specs.declared.lines.LineDef.{LineDef}
 use Rattle.irq_base.specs.declared.entries.Actor.TheVariants as actors
 use Rattle.irq_base.specs.declared.entries.Entry.{Entry}
-use Rattle.irq_base.specs.declared.entries.Entry.TheVariants as entries
+use Rattle.irq_base.specs.declared.entries.Entry.TheVariants as by
+use Rattle.irq_base.specs.declared.entries.CpuEntry.TheVariants as cpus
+use Rattle.irq_base.specs.declared.entries.DriverEntry.TheVariants as drivers
+use Rattle.irq_base.specs.declared.entries.CallEntry.TheVariants as called
 use Rattle.irq_base.specs.declared.entries.Way.TheVariants as ways
 use Rattle.irq_base.specs.declared.entries.TakeAnswer.TheVariants as takes
 use Rattle.irq_base.specs.declared.entries.Note.TheVariants as notes
@@ -68,35 +71,35 @@ first =
 -- ---- the entries
 
 abbrev request : Entry
-request = entries.Request driver dev no_flags links.Linked (opens.Started resends.No)
+request = by.Driver driver (drivers.Request no_flags links.Linked (opens.Started resends.No) dev)
 
 abbrev ask : Entry
-ask = entries.Ask driver dev
+ask = by.Driver driver (drivers.Ask true dev)
 
 abbrev take : Entry
-take = entries.Take cpu ways.Line takes.Handle
+take = by.Cpu cpu (cpus.Take ways.Line takes.Handle)
 
 abbrev begin : Entry
-begin = entries.Begin cpu dev
+begin = by.Cpu cpu (cpus.Begin dev)
 
 abbrev return : Entry
-return = entries.Return cpu dev answers.Handled 1
+return = by.Cpu cpu (cpus.Return answers.Handled dev 1)
 
 -- the end of a round in which nobody was called is counted
 abbrev counted_end : Entry
-counted_end = entries.End cpu false false notes.Counted
+counted_end = by.Cpu cpu (cpus.End false false notes.Counted)
 
 abbrev quiet_end : Entry
-quiet_end = entries.End cpu false false notes.Quiet
+quiet_end = by.Cpu cpu (cpus.End false false notes.Quiet)
 
 abbrev unlink : Entry
-unlink = entries.Unlink driver dev (unlinks.Unlinked true)
+unlink = by.DriverCall driver (called.Unlink (unlinks.Unlinked true) dev)
 
 abbrev clear : Entry
-clear = entries.HardClear driver
+clear = by.DriverCall driver called.HardClear
 
 abbrev freed : Entry
-freed = entries.Freed driver dev
+freed = by.DriverCall driver (called.Freed dev)
 
 -- ---- the pasts, the newest entry first, one to each state, and two more
 
@@ -181,7 +184,7 @@ nineteen = refl
 -- how many actors have an entry due in each
 due_in : List Entry → ℕ
 due_in past =
-    one_if (is_some (next_past first past (actors.Thread line dev)))
+    one_if (is_some (next_past first past (actors.Thread dev)))
     + (one_if (is_some (next_past first past (actors.Cpu cpu))) + one_if (is_some (next_past first past (actors.Driver driver))))
 
 twenty : map due_in states ≡ 1 ∷ 1 ∷ 2 ∷ 2 ∷ 1 ∷ 1 ∷ 0 ∷ 2 ∷ 1 ∷ 2 ∷ 1 ∷ 1 ∷ 1 ∷ 0 ∷ 1 ∷ 1 ∷ 1 ∷ 1 ∷ 0 ∷ []

@@ -4,7 +4,9 @@ use Rattle.std.proofs.Common.{◌∷◌, length, sym, ap, subst, ◌∙◌, arit
 use Rattle.irq_base.specs.declared.calls.Flags.{Flags}
 use Rattle.irq_base.specs.declared.entries.Actor.{Actor}
 use Rattle.irq_base.specs.declared.entries.Entry.{Entry}
-use Rattle.irq_base.specs.declared.entries.Entry.TheVariants as entries
+use Rattle.irq_base.specs.declared.entries.Entry.TheVariants as by
+use Rattle.irq_base.specs.declared.entries.CpuEntry.TheVariants as cpus
+use Rattle.irq_base.specs.declared.entries.ThreadEntry.TheVariants as threads
 use Rattle.irq_base.specs.declared.entries.LinkAnswer.{LinkAnswer}
 use Rattle.irq_base.specs.declared.entries.LinkAnswer.TheVariants as links
 use Rattle.irq_base.specs.declared.lines.LineDef.{LineDef}
@@ -60,17 +62,17 @@ unbitted_canon t =
 
 -- what an entry that follows asks for is so of the canonical state, and of one with thread bits
 made_canon : (e : Entry) (s : StateSeen) → IsMade e s → IsMade e (canon s)
-made_canon (entries.Begin cpu dev) s h = h
-made_canon (entries.Return cpu dev answer served) s h = h
-made_canon (entries.End cpu again unmask note) s h = h
-made_canon (entries.ThreadReturn dev served) s h = h
+made_canon (by.Cpu cpu (cpus.Begin dev)) s h = h
+made_canon (by.Cpu cpu (cpus.Return answer dev served)) s h = h
+made_canon (by.Cpu cpu (cpus.End again unmask note)) s h = h
+made_canon (by.Thread dev (threads.Return handled served)) s h = h
 made_canon _ s h = tt
 
 made_bits : (e : Entry) (t : StateSeen) → IsMade e (unbitted t) → IsMade e t
-made_bits (entries.Begin cpu dev) t h = h
-made_bits (entries.Return cpu dev answer served) t h = h
-made_bits (entries.End cpu again unmask note) t h = h
-made_bits (entries.ThreadReturn dev served) t h = h
+made_bits (by.Cpu cpu (cpus.Begin dev)) t h = h
+made_bits (by.Cpu cpu (cpus.Return answer dev served)) t h = h
+made_bits (by.Cpu cpu (cpus.End again unmask note)) t h = h
+made_bits (by.Thread dev (threads.Return handled served)) t h = h
 made_bits _ t h = tt
 
 one_few : (b : Bool) → one_if b < 2 ^ 32 - 1

@@ -13,10 +13,10 @@ use Rattle.std.proofs.Common.{Option}
 use Rattle.line_space.specs.Stepping.{threads_in, cpus_in, drivers_of, actors_by}
 
 pub threads_next : (line : LineNo) (xs : List DeviceDef) (i : ℕ) (x : DeviceDef) → slice_get xs i ≡ Some x → (now after : List Actor)
-    → after ≡ now ++ actors.Thread line x.dev ∷ [] → after ++ threads_in line (drop (i + 1) xs) ≡ now ++ threads_in line (drop i xs)
+    → after ≡ now ++ actors.Thread x.dev ∷ [] → after ++ threads_in line (drop (i + 1) xs) ≡ now ++ threads_in line (drop i xs)
 threads_next line xs i x is now after added =
     ap (λ (m : List Actor). m ++ threads_in line (drop (i + 1) xs)) added
-    ∙ (append_assoc now (actors.Thread line x.dev ∷ []) (threads_in line (drop (i + 1) xs))
+    ∙ (append_assoc now (actors.Thread x.dev ∷ []) (threads_in line (drop (i + 1) xs))
     ∙ ap (λ (ys : List Actor). now ++ ys) (sym (ap (threads_in line) (next_item xs i x is))))
 
 -- the four parts of the list of actors

@@ -38,7 +38,7 @@ cpus_in (Some c) = actors.Cpu c ∷ []
 
 abbrev pub threads_in : LineNo → List DeviceDef → List Actor
 threads_in line [] = []
-threads_in line (x ∷ xs) = actors.Thread line x.dev ∷ threads_in line xs
+threads_in line (x ∷ xs) = actors.Thread x.dev ∷ threads_in line xs
 
 abbrev pub drivers_of : List DriverNo → List Actor
 drivers_of [] = []

@@ -8,7 +8,10 @@ use Rattle.std.specs.Map.{remove_entry}
 use Rattle.irq_base.specs.declared.calls.Flags.{Flags}
 use Rattle.irq_base.specs.declared.entries.AffinityAnswer.TheVariants as moves
 use Rattle.irq_base.specs.declared.entries.Entry.{Entry}
-use Rattle.irq_base.specs.declared.entries.Entry.TheVariants as entries
+use Rattle.irq_base.specs.declared.entries.Entry.TheVariants as by
+use Rattle.irq_base.specs.declared.entries.CpuEntry.TheVariants as cpus
+use Rattle.irq_base.specs.declared.entries.DriverEntry.TheVariants as drivers
+use Rattle.irq_base.specs.declared.entries.CallEntry.TheVariants as called
 use Rattle.irq_base.specs.declared.entries.Errno.TheVariants as errors
 use Rattle.irq_base.specs.declared.entries.LinkAnswer.TheVariants as links
 use Rattle.irq_base.specs.declared.entries.UnlinkAnswer.TheVariants as unlinks
@@ -177,7 +180,7 @@ later_by false later h = cc
 
 module _ (def : LineDef) where
   step : (e : Entry) (s : StateSeen) → IsExpected def e s → AllGo [] (flags_of s.list.actions) → AllGo [] (flags_of (actions_after e s.list.actions))
-  step (entries.Request driver dev flags links.Linked opened) s x h =
+  step (by.Driver driver (drivers.Request flags links.Linked opened dev)) s x h =
       let t = s.list.actions in
       let b = linked_by (flags.shared && flags.noauto) (is_mismatch flags t) (flags.oneshot && not (ltb (length t) 64)) _ x.1 in
       let long = long_by t in
@@ -185,20 +188,20 @@ module _ (def : LineDef) where
       subst P (sym (flags_more t dev (action_by flags t)))
       (one_more [] (flags_of t) (dev, flags) h
       (sym (has_by dev t) ∙ x.0, sym (mismatch_by flags t) ∙ b.0, λ o. let few = few_by flags.oneshot (length t) b.1 o in omega (arith, few, long)))
-  step (entries.Unlink driver dev (unlinks.Unlinked last)) s x h =
+  step (by.DriverCall driver (called.Unlink (unlinks.Unlinked last) dev)) s x h =
       let P : List Item → Type 0 = λ l. AllGo [] l in
       subst P (sym (flags_less (same_dev dev) s.list.actions))
       (one_less (same_dev dev) [] [] (flags_of s.list.actions) (record { any = λ q k. k; few = omega arith }) h)
-  step (entries.Request driver dev flags (links.Refused error) opened) s x h = h
-  step (entries.Unlink driver dev unlinks.NotThere) s x h = h
+  step (by.Driver driver (drivers.Request flags (links.Refused error) opened dev)) s x h = h
+  step (by.DriverCall driver (called.Unlink unlinks.NotThere dev)) s x h = h
   step _ s x h = h
 
   waits : (e : Entry) (past : List Entry) → IsExpected def e (state_of def past) → HasProcessor def.cpus (waiting_of past)
       → HasProcessor def.cpus (waiting_of (e ∷ past))
-  waits (entries.Affinity driver mask moves.Later) past x h = later_by (is_some (lowest_in def.cpus mask)) def.later x
-  waits (entries.Affinity driver mask moves.Now) past x h = tt
-  waits (entries.Affinity driver mask (moves.Refused error)) past x h = h
-  waits (entries.Take cpu way answer) past x h = tt
+  waits (by.Driver driver (drivers.Affinity moves.Later mask)) past x h = later_by (is_some (lowest_in def.cpus mask)) def.later x
+  waits (by.Driver driver (drivers.Affinity moves.Now mask)) past x h = tt
+  waits (by.Driver driver (drivers.Affinity (moves.Refused error) mask)) past x h = h
+  waits (by.Cpu cpu (cpus.Take way answer)) past x h = tt
   waits _ past x h = h
 
   module _ (valid : IsValid def) where

@@ -111,12 +111,12 @@ lowest_is p (x ∷ xs) so_far c =
 -- an entry of a thread is due only if the device is one of the line's
 due_device : (def : LineDef) (past : List Entry) → IsValid def → IsLegalPast def past → (d : DevNo)
     → IsThreadDueAt def past d → list_any (is_device d) def.devices ≡ true
-due_device def past valid legal d = by_due (next_past def past (actors.Thread def.line d)) refl
+due_device def past valid legal d = by_due (next_past def past (actors.Thread d)) refl
   where
-    own : next_past def past (actors.Thread def.line d) ≡ next_of_thread def d past
+    own : next_past def past (actors.Thread d) ≡ next_of_thread def d past
     own = cond-true _ _ _ (same_self_line def.line)
 
-    by_due : (o : Option Entry) → next_past def past (actors.Thread def.line d) ≡ o → IsSome o → list_any (is_device d) def.devices ≡ true
+    by_due : (o : Option Entry) → next_past def past (actors.Thread d) ≡ o → IsSome o → list_any (is_device d) def.devices ≡ true
     by_due None is h = absurd (false≢true h)
     by_due (Some e) is h = thread_device def past d e (kept def past valid legal) (sym own ∙ is)
 

@@ -6,7 +6,9 @@ use Rattle.irq_base.specs.declared.numbers.DevNo.{DevNo}
 use Rattle.irq_base.specs.declared.numbers.DriverNo.{DriverNo}
 use Rattle.irq_base.specs.declared.calls.Flags.{Flags}
 use Rattle.irq_base.specs.declared.entries.Entry.{Entry}
-use Rattle.irq_base.specs.declared.entries.Entry.TheVariants as entries
+use Rattle.irq_base.specs.declared.entries.Entry.TheVariants as by
+use Rattle.irq_base.specs.declared.entries.DriverEntry.TheVariants as drivers
+use Rattle.irq_base.specs.declared.entries.CallEntry.TheVariants as called
 use Rattle.irq_base.specs.declared.entries.Opened.{Opened}
 use Rattle.irq_base.specs.declared.entries.LinkAnswer.TheVariants as links
 use Rattle.irq_base.specs.declared.entries.UnlinkAnswer.TheVariants as unlinks
@@ -42,9 +44,9 @@ same_self d = eq-eqb d.0 d.0 refl
 
 -- a request that is linked puts its device last
 pub linked_request : (driver : DriverNo) (dev : DevNo) (flags : Flags) (opened : Opened) (past : List Entry)
-    → linked (entries.Request driver dev flags links.Linked opened ∷ past) ≡ without dev (linked past) ++ dev ∷ []
+    → linked (by.Driver driver (drivers.Request flags links.Linked opened dev) ∷ past) ≡ without dev (linked past) ++ dev ∷ []
 linked_request driver dev flags opened past =
-    let now = is_linked (entries.Request driver dev flags links.Linked opened ∷ past) in
+    let now = is_linked (by.Driver driver (drivers.Request flags links.Linked opened dev) ∷ past) in
     let others : filter now (without dev (requested past)) ≡ without dev (linked past) =
     filter-filter now (λ x. not (same_dev x dev)) (requested past)
     ∙ (filter_agree (λ x. not (same_dev x dev) && now x) (λ x. is_linked past x && not (same_dev x dev))
@@ -56,8 +58,8 @@ linked_request driver dev flags opened past =
 
 -- an unlink takes its device out
 pub linked_unlink : (driver : DriverNo) (dev : DevNo) (last : Bool) (past : List Entry)
-    → linked (entries.Unlink driver dev (unlinks.Unlinked last) ∷ past) ≡ without dev (linked past)
+    → linked (by.DriverCall driver (called.Unlink (unlinks.Unlinked last) dev) ∷ past) ≡ without dev (linked past)
 linked_unlink driver dev last past =
-    let now = is_linked (entries.Unlink driver dev (unlinks.Unlinked last) ∷ past) in
+    let now = is_linked (by.DriverCall driver (called.Unlink (unlinks.Unlinked last) dev) ∷ past) in
     filter_agree now (λ x. is_linked past x && not (same_dev x dev)) (λ x. kept_else (same_dev x dev) (is_linked past x)) (requested past)
     ∙ sym (filter-filter (λ x. not (same_dev x dev)) (is_linked past) (requested past))
