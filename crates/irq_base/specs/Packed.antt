@@ -2,7 +2,7 @@
 -- entry (0 a processor, 1 a thread, 2 a driver), four of its kind, a code of 8, a first number of 16
 -- and a second of 32. The first number is that of its maker, the code holds its small answers. The
 -- kinds below 4 are the maker's own, those from 4 on calls.
-use Rattle.std.specs.Prelude.{ℕ, ◌/◌, ◌%◌, ◌<◌, ◌==◌, nat_lt, ◌≡◌, Bool, true, false, ◌&&◌}
+use Rattle.std.specs.Prelude.{ℕ, ◌/◌, ◌%◌, ◌<◌, ◌==◌, nat_lt, ◌≡◌, Bool, true, ◌&&◌}
 use Rattle.std.specs.Prelude.{if◌then◌else◌, List, get_or}
 use Rattle.irq_base.specs.declared.numbers.CpuNo.{CpuNo}
 use Rattle.irq_base.specs.declared.numbers.DevNo.{DevNo}

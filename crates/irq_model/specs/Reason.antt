@@ -10,7 +10,7 @@ use Rattle.irq_base.specs.declared.entries.CallEntry.TheVariants as called
 use Rattle.irq_base.specs.declared.entries.UnlinkAnswer.TheVariants as unlinks
 use Rattle.irq_base.specs.Who.{actor_of}
 use Rattle.irq_model.specs.Places.{stands, since, some_place}
-use Rattle.irq_model.specs.Kinds.{same_dev, is_begin, is_return, is_hard_clear, is_by}
+use Rattle.irq_model.specs.Kinds.{is_begin, is_return, is_hard_clear, is_by}
 use Rattle.irq_model.specs.Kinds.{is_freed, is_freed_by, is_finish, is_thread_begin, unlinks_dev}
 use Rattle.irq_model.specs.Lines.{is_edge_line, is_level_line, is_edge_flow, is_eoi_flow}
 use Rattle.irq_model.specs.Links.{is_linked, is_none_linked, depth, is_disabled, is_started}

@@ -1,6 +1,6 @@
 -- What an entry that is due makes of the canonical state is, again canonical, what it makes of the
 -- state: of each part, and of all.
-use Rattle.std.proofs.Common.{◌≡◌, Bool, true, false, ◌||◌, ◌&&◌, cond, ltb, Option, Some, None, List, refl, sym, ap, subst, ◌∙◌}
+use Rattle.std.proofs.Common.{◌≡◌, Bool, true, false, ◌||◌, ◌&&◌, cond, Option, Some, None, List, refl, sym, ap, subst, ◌∙◌}
 use Rattle.irq_base.specs.Cell.{Cell}
 use Rattle.irq_base.specs.declared.devices.Answer.TheVariants as answers
 use Rattle.irq_base.specs.declared.devices.Kind.{Kind}

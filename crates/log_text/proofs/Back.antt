@@ -1,13 +1,12 @@
 -- What words say, read back: each word of an answer is another, and so is each entry's.
-use Rattle.std.proofs.Common.{◌≡◌, ℕ, zero, suc, ◌<◌, ◌^◌, Bool, true, false, cond, List, [], ◌∷◌, ◌++◌, codes, decimal}
-use Rattle.std.proofs.Common.{drop, get_or, refl, ap, ◌∙◌, sym, arith}
+use Rattle.std.proofs.Common.{◌≡◌, ℕ, Bool, true, false, cond, List, [], codes, decimal}
+use Rattle.std.proofs.Common.{drop, get_or, refl, ap, arith}
 use Rattle.std.specs.Str.{bytes_eq}
 use Rattle.std.specs.Str.Parse.{digits_value}
 use Rattle.std.proofs.lemmas.Fmt.{decimal_is_IsNumeral}
 use Rattle.irq_base.specs.declared.calls.Flags.{Flags}
 use Rattle.irq_base.specs.declared.devices.Answer.{Answer}
 use Rattle.irq_base.specs.declared.devices.Answer.TheVariants as answers
-use Rattle.irq_base.specs.declared.entries.Entry.{Entry}
 use Rattle.irq_base.specs.declared.entries.Errno.{Errno}
 use Rattle.irq_base.specs.declared.entries.Errno.TheVariants as errnos
 use Rattle.irq_base.specs.declared.entries.Way.{Way}
@@ -28,9 +27,8 @@ use Rattle.irq_base.specs.declared.entries.UnlinkAnswer.{UnlinkAnswer}
 use Rattle.irq_base.specs.declared.entries.UnlinkAnswer.TheVariants as unlinks
 use Rattle.irq_base.specs.declared.entries.AffinityAnswer.{AffinityAnswer}
 use Rattle.irq_base.specs.declared.entries.AffinityAnswer.TheVariants as affinities
-use Rattle.log_text.specs.EntryWords.{entry_words, IsPrintable}
-use Rattle.log_text.specs.Formed.{IsSmall, HasSmallNumbers, IsWritable}
-use Rattle.log_text.specs.Words.{driver_word, cpu_word, thread_word, way_word, take_word, answer_word, loop_word}
+use Rattle.log_text.specs.Formed.{IsSmall}
+use Rattle.log_text.specs.Words.{way_word, take_word, answer_word, loop_word}
 use Rattle.log_text.specs.Words.{mask_word, note_word, bit_word, resend_word, error_word, flags_word, enable_words}
 use Rattle.log_text.specs.Words.{opened_words, link_words, unlink_word, affinity_words}
 

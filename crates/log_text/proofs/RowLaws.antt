@@ -1,6 +1,6 @@
 -- Different entries have different rows, and different histories different texts.
-use Rattle.std.proofs.Common.{◌≡◌, ℕ, zero, suc, ◌+◌, ◌<◌, ◌≤◌, ◌^◌, Bool, true, false, cond, eqb, List, [], ◌∷◌, ◌++◌}
-use Rattle.std.proofs.Common.{codes, decimal, drop, get_or, length, append_assoc, refl, ap, ◌∙◌, sym, arith, nat_lt}
+use Rattle.std.proofs.Common.{◌≡◌, ℕ, ◌+◌, true, cond, eqb, List, [], ◌∷◌, ◌++◌}
+use Rattle.std.proofs.Common.{codes, decimal, drop, get_or, append_assoc, refl, ap, ◌∙◌, sym, arith, nat_lt}
 use Rattle.std.specs.List.{All, join_with_byte, AllByRecursion}
 use Rattle.std.proofs.lemmas.List.Elements.{recursion_from_All}
 use Rattle.std.specs.Str.Parse.{digits_value}
@@ -18,17 +18,14 @@ use Rattle.irq_base.specs.declared.numbers.CpuNo.{CpuNo}
 use Rattle.irq_base.specs.declared.numbers.DevNo.{DevNo}
 use Rattle.irq_base.specs.declared.numbers.DriverNo.{DriverNo}
 use Rattle.irq_base.specs.declared.numbers.LineNo.{LineNo}
-use Rattle.log_text.proofs.Back.{is, at, way_at, take_at, answer_at, loop_at, mask_at, note_at, bit_at, resend_at}
-use Rattle.log_text.proofs.Back.{flags_at, unlink_at, enable_at, opened_at, link_at, linked_at, affinity_at, way_back}
+use Rattle.log_text.proofs.Back.{is, at, way_at, take_at, answer_at, loop_at, mask_at, note_at, bit_at}
+use Rattle.log_text.proofs.Back.{flags_at, unlink_at, enable_at, link_at, linked_at, affinity_at, way_back}
 use Rattle.log_text.proofs.Back.{take_back, answer_back, loop_back, mask_back, note_back, bit_back, flags_back}
 use Rattle.log_text.proofs.Back.{unlink_back, enable_back, opened_back, link_back, affinity_back, number_back}
 use Rattle.log_text.proofs.Splitting.{words_of, row_words, row_back, row_within, same_cut}
-use Rattle.log_text.specs.EntryWords.{entry_words, IsPrintable}
-use Rattle.log_text.specs.Formed.{IsSmall, HasSmallNumbers, IsWritable, IsRowOf}
+use Rattle.log_text.specs.EntryWords.{entry_words}
+use Rattle.log_text.specs.Formed.{IsSmall, IsWritable, IsRowOf}
 use Rattle.log_text.specs.Rows.{entry_text, history_text}
-use Rattle.log_text.specs.Words.{driver_word, cpu_word, thread_word, way_word, take_word, answer_word, loop_word}
-use Rattle.log_text.specs.Words.{mask_word, note_word, bit_word, resend_word, error_word, flags_word, enable_words}
-use Rattle.log_text.specs.Words.{opened_words, link_words, unlink_word, affinity_words}
 
 abbrev number_at : List (List ℕ) → ℕ → ℕ
 number_at words i = digits_value 10 (at words i)
