@@ -4,10 +4,6 @@ use Rattle.std.proofs.Common.{get_or, drop, refl, sym, ap, subst, ◌∙◌, ari
 use Rattle.std.specs.Str.{bytes_eq}
 use Rattle.irq_base.specs.declared.entries.Entry.{Entry}
 use Rattle.irq_base.specs.declared.entries.Entry.TheVariants as by
-use Rattle.irq_base.specs.declared.entries.CpuEntry.TheVariants as cpus
-use Rattle.irq_base.specs.declared.entries.ThreadEntry.TheVariants as threads
-use Rattle.irq_base.specs.declared.entries.DriverEntry.TheVariants as drivers
-use Rattle.irq_base.specs.declared.entries.CallEntry.TheVariants as called
 use Rattle.irq_base.specs.declared.numbers.LineNo.{LineNo}
 use Rattle.line_wanted.specs.declared.left.Left.{Left}
 use Rattle.line_wanted.specs.declared.left.Standing.{Standing}
@@ -85,24 +81,12 @@ apart : (m n : ℕ) (bs cs : List ℕ) → (m ≡ n → ⊥) → m ∷ bs ≡ n 
 apart m n bs cs differ same = differ (ap (λ ds. get_or ds 0 0) same)
 
 not_rest : (e : Entry) → at (entry_words e) 0 ≡ codes "rest" → ⊥
-not_rest (by.Driver driver (drivers.Ask edge dev)) = apart 100 114 _ _ (λ i. omega (arith, i))
-not_rest (by.Cpu cpu (cpus.Take way answer)) = apart 99 114 _ _ (λ i. omega (arith, i))
-not_rest (by.Cpu cpu (cpus.Begin dev)) = apart 99 114 _ _ (λ i. omega (arith, i))
-not_rest (by.Cpu cpu (cpus.Return answer dev served)) = apart 99 114 _ _ (λ i. omega (arith, i))
-not_rest (by.Cpu cpu (cpus.End again unmask note)) = apart 99 114 _ _ (λ i. omega (arith, i))
-not_rest (by.Thread dev threads.Begin) = apart 116 114 _ _ (λ i. omega (arith, i))
-not_rest (by.Thread dev (threads.Return handled served)) = apart 116 114 _ _ (λ i. omega (arith, i))
-not_rest (by.Thread dev (threads.Finish kept unmask)) = apart 116 114 _ _ (λ i. omega (arith, i))
-not_rest (by.Thread dev threads.Done) = apart 116 114 _ _ (λ i. omega (arith, i))
-not_rest (by.DriverCall driver called.Disable) = apart 100 114 _ _ (λ i. omega (arith, i))
-not_rest (by.DriverCall driver called.HardClear) = apart 100 114 _ _ (λ i. omega (arith, i))
-not_rest (by.DriverCall driver called.Synced) = apart 100 114 _ _ (λ i. omega (arith, i))
-not_rest (by.DriverCall driver (called.Enable answer)) = apart 100 114 _ _ (λ i. omega (arith, i))
-not_rest (by.Driver driver (drivers.Request flags answer opened dev)) = apart 100 114 _ _ (λ i. omega (arith, i))
-not_rest (by.DriverCall driver (called.Unlink answer dev)) = apart 100 114 _ _ (λ i. omega (arith, i))
-not_rest (by.DriverCall driver (called.Freed dev)) = apart 100 114 _ _ (λ i. omega (arith, i))
-not_rest (by.Driver driver (drivers.Affinity answer mask)) = apart 100 114 _ _ (λ i. omega (arith, i))
-not_rest (by.Driver driver (drivers.Moment moment)) = apart 100 114 _ _ (λ i. omega (arith, i))
+not_rest (by.Cpu cpu e) = apart 99 114 _ _ (λ i. omega (arith, i))
+not_rest (by.CpuCall cpu call) = apart 99 114 _ _ (λ i. omega (arith, i))
+not_rest (by.Thread dev e) = apart 116 114 _ _ (λ i. omega (arith, i))
+not_rest (by.ThreadCall dev call) = apart 116 114 _ _ (λ i. omega (arith, i))
+not_rest (by.Driver driver e) = apart 100 114 _ _ (λ i. omega (arith, i))
+not_rest (by.DriverCall driver call) = apart 100 114 _ _ (λ i. omega (arith, i))
 
 abbrev line_no : ℕ → LineNo
 line_no n = record { 0 = n }

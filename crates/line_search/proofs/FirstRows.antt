@@ -117,15 +117,15 @@ taken = take ∷ asked
 abbrev uncalled : List Entry
 uncalled = unlink ∷ taken
 
-abbrev called : List Entry
-called = begin ∷ taken
+abbrev at_work : List Entry
+at_work = begin ∷ taken
 
 abbrev returned : List Entry
-returned = return ∷ called
+returned = return ∷ at_work
 
 -- unlinked while the handler is at work
 abbrev unlinked : List Entry
-unlinked = unlink ∷ called
+unlinked = unlink ∷ at_work
 
 abbrev over : List Entry
 over = return ∷ unlinked
@@ -139,7 +139,7 @@ all_ended = unlink ∷ ended
 abbrev states : List (List Entry)
 states =
     [] ∷ (request ∷ []) ∷ asked ∷ taken ∷ untaken ∷ (clear ∷ untaken) ∷ (freed ∷ clear ∷ untaken)
-    ∷ called ∷ uncalled ∷ returned ∷ unlinked ∷ (counted_end ∷ uncalled)
+    ∷ at_work ∷ uncalled ∷ returned ∷ unlinked ∷ (counted_end ∷ uncalled)
     ∷ (clear ∷ counted_end ∷ uncalled) ∷ (freed ∷ clear ∷ counted_end ∷ uncalled)
     ∷ ended ∷ over ∷ all_ended ∷ (clear ∷ all_ended) ∷ (freed ∷ clear ∷ all_ended) ∷ []
 

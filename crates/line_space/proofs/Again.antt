@@ -36,13 +36,13 @@ use Rattle.line_marks.specs.State.{StateSeen, IsOf, state_of, state_after}
 use Rattle.line_state.specs.Entries.{entry_by, call_entry, CanMake, CanMakeOfCpu, CanMakeOfThread, CanMakeOfCall}
 use Rattle.line_state.specs.Seen.{IsAimOf, taker_of}
 use Rattle.line_state.specs.declared.due.CallStep.{CallStep}
-use Rattle.line_state.specs.declared.due.CallStep.TheVariants as calls
+use Rattle.line_state.specs.declared.due.CallStep.TheVariants as call_steps
 use Rattle.line_state.specs.declared.due.CpuStep.{CpuStep}
-use Rattle.line_state.specs.declared.due.CpuStep.TheVariants as cpus
+use Rattle.line_state.specs.declared.due.CpuStep.TheVariants as cpu_steps
 use Rattle.line_state.specs.declared.due.DueStep.{DueStep}
 use Rattle.line_state.specs.declared.due.DueStep.TheVariants as steps
 use Rattle.line_state.specs.declared.due.ThreadStep.{ThreadStep}
-use Rattle.line_state.specs.declared.due.ThreadStep.TheVariants as threads
+use Rattle.line_state.specs.declared.due.ThreadStep.TheVariants as thread_steps
 use Rattle.line_futures.proofs.Actions.{flags_same, has_same}
 use Rattle.line_futures.proofs.CanonDue.{due_same}
 use Rattle.line_futures.proofs.CanonSteps.{canon_after}
@@ -167,18 +167,18 @@ module _ {def : LineDef} {g : List Entry} {t : StateSeen} {scripts : List (Drive
       sym (has_same d t.list.actions) ∙ (ap (λ (x : StateSeen). has d x.list.actions) read.again ∙ (has_same d (state_of def g).list.actions ∙ h))
 
   of_cpu_again : (step : CpuStep) → CanMakeOfCpu def step t
-  of_cpu_again (cpus.Take way) = rounds_again
-  of_cpu_again cpus.End = (rounds_again, depth_again, open_again)
+  of_cpu_again (cpu_steps.Take way) = rounds_again
+  of_cpu_again cpu_steps.End = (rounds_again, depth_again, open_again)
   of_cpu_again _ = tt
 
   of_thread_again : (step : ThreadStep) → CanMakeOfThread step t
-  of_thread_again threads.Return = handled_again
+  of_thread_again thread_steps.Return = handled_again
   of_thread_again _ = tt
 
   of_call_again : (r : DriverNo) (step : CallStep) → IsExpected def (call_entry def t r step) (state_of def g) → CanMakeOfCall step t
-  of_call_again r (calls.Ask dev) x = room_again dev
-  of_call_again r calls.Disable x = depth_again
-  of_call_again r (calls.Request dev flags) x =
+  of_call_again r (call_steps.Ask dev) x = room_again dev
+  of_call_again r call_steps.Disable x = depth_again
+  of_call_again r (call_steps.Request dev flags) x =
       absent_again dev (requested def t (state_of def g) r dev flags (answer_by (kind_at t.kinds dev) flags t.list.actions) x)
   of_call_again r _ x = tt
 

@@ -1,5 +1,5 @@
 -- The counts for the rule on spurious interrupts are at most the number of entries.
-use Rattle.std.proofs.Common.{◌≡◌, ℕ, ◌+◌, ◌≤◌, Bool, true, false, List, [], ◌∷◌, length, suc, subst, sym, arith, cond, nat_lt, ◌==◌}
+use Rattle.std.proofs.Common.{◌≡◌, ℕ, ◌+◌, ◌≤◌, Bool, true, false, List, [], ◌∷◌, length, suc, subst, sym, arith, cond, ◌==◌}
 use Rattle.irq_base.specs.declared.lines.LineDef.{LineDef}
 use Rattle.irq_base.specs.declared.entries.Entry.{Entry}
 use Rattle.irq_base.specs.declared.entries.Entry.TheVariants as by
@@ -68,7 +68,7 @@ counts_within def (by.Thread dev (threads.Return handled served) ∷ past) =
     let c = counts_of def past in
     let h = counts_within def past in
     let served_more : Counts = record c { threads_handled = c.threads_handled + 1 } in
-    elim (nat_lt 0 served) as (λ b. IsWithin (suc (length past)) (cond b served_more c)) [
+    elim handled as (λ b. IsWithin (suc (length past)) (cond b served_more c)) [
       | true ↦ record {
         irq_count = omega (arith, h.irq_count);
         irqs_unhandled
