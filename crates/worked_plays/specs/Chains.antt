@@ -244,7 +244,7 @@ threads_first_rows =
     ∷ steps.Child (line 1) (by.Cpu (cpu 0) (cpus.Begin (dev 1)))
     ∷ steps.Child (line 1) (by.Cpu (cpu 0) (cpus.Return answers.Wake (dev 1) 0))
     ∷ steps.Child (line 1) (by.Thread (dev 1) threads.Begin)
-    ∷ steps.Child (line 1) (by.Thread (dev 1) (threads.Return (nat_lt 0 1) 1))
+    ∷ steps.Child (line 1) (by.Thread (dev 1) (threads.Return true 1))
     ∷ steps.Child (line 1) (by.Cpu (cpu 0) (cpus.End false false notes.Quiet))
     ∷ steps.Child (line 1) (by.Thread (dev 1) (threads.Finish false true))
     ∷ steps.Child (line 1) (by.Thread (dev 1) threads.Done)
