@@ -7,7 +7,7 @@ use Rattle.irq_base.specs.declared.entries.Actor.TheVariants as actors
 
 -- a pick behind a blank, as a board has it: the thread of a device, a processor, a driver
 abbrev pub pick_text : Actor → List ℕ
-pick_text (actors.Thread line dev) = codes " t" ++ decimal dev.0
+pick_text (actors.Thread dev) = codes " t" ++ decimal dev.0
 pick_text (actors.Cpu cpu) = codes " c" ++ decimal cpu.0
 pick_text (actors.Driver driver) = codes " d" ++ decimal driver.0
 

@@ -18,7 +18,7 @@ fn push_pick(row: &mut TextRow, pick: Actor)
     ensures grows { length row.new ≤ length row.old + 12 }
 {
     match pick {
-        Actor::Thread(_, dev) => {
+        Actor::Thread(dev) => {
             row.push_bytes(b" t");
             row.push_number(dev.0);
         }

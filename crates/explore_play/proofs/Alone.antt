@@ -9,7 +9,6 @@ use Rattle.irq_base.specs.declared.calls.Call.{Call}
 use Rattle.irq_base.specs.declared.entries.Actor.{Actor}
 use Rattle.irq_base.specs.declared.entries.Actor.TheVariants as actors
 use Rattle.irq_base.specs.declared.entries.Entry.{Entry}
-use Rattle.irq_base.specs.declared.entries.Entry.TheVariants as entries
 use Rattle.irq_base.specs.declared.lines.LineDef.{LineDef}
 use Rattle.irq_base.specs.declared.numbers.DriverNo.{DriverNo}
 use Rattle.irq_base.specs.declared.numbers.LineNo.{LineNo}
@@ -17,34 +16,27 @@ use Rattle.irq_laws.specs.Kept.{complete_by}
 use Rattle.irq_model.specs.Kinds.{same_line, same_driver}
 use Rattle.irq_model.specs.Legal.{IsLegalPast}
 use Rattle.irq_model.specs.Due.{due_call}
-use Rattle.irq_model.specs.Next.{next_of_call, next_past}
+use Rattle.irq_model.specs.Lines.{has_device}
+use Rattle.irq_model.specs.Next.{next_of_call, next_of_thread, next_past}
 use Rattle.irq_model.specs.Rounds.{flow, is_cpu}
 use Rattle.irq_steps.proofs.Same.{same_self_line, line_from_same}
+use Rattle.board_def.specs.Rules.{IsBoard}
 use Rattle.board_def.specs.Seen.{BoardSeen}
 use Rattle.board_def.specs.declared.rows.ScriptCall.{ScriptCall}
 use Rattle.board_play.specs.Current.{calls_on, current_from, is_open}
 use Rattle.board_play.specs.Lines.{BoardLine, Move, defs_of, find_line, lines_at, lines_of, part}
-use Rattle.board_play.specs.Order.{due_line, due_move, due_on, line_for, move_on, or_line}
+use Rattle.board_play.specs.Order.{device_line, due_line, due_move, due_on, line_for, move_on, or_line}
 use Rattle.board_play.proofs.Counting.{not_all_complete}
-use Rattle.board_play.proofs.OfBoard.{calls_fit}
+use Rattle.board_play.proofs.OfBoard.{calls_fit, device_found}
 use Rattle.board_core.specs.Seen.{SystemSeen, board_lines}
 use Rattle.board_core.specs.Turns.{Turns, move_of}
 use Rattle.board_core.specs.declared.turns.Turn.{Turn}
 use Rattle.board_core.specs.declared.turns.Turn.TheVariants as turns
 use Rattle.explore_play.specs.Made.{ArePicked, IsAlone, IsMade}
 
--- the line of a thread
-abbrev line_in : LineNo → Actor → LineNo
-line_in other (actors.Thread line dev) = line
-line_in other (actors.Cpu cpu) = other
-line_in other (actors.Driver driver) = other
-
-own_line : (line : LineNo) (e : Entry) → line_in line (actor_of line e) ≡ line
-own_line line (entries.ThreadBegin dev) = refl
-own_line line (entries.ThreadReturn dev served) = refl
-own_line line (entries.Finish dev kept unmask) = refl
-own_line line (entries.Done dev) = refl
-own_line line e = refl
+has_it : (b : Bool) (o : Option Entry) (e : Entry) → cond b o None ≡ Some e → b ≡ true
+has_it true o e is = refl
+has_it false o e is = cc
 
 has_call : (def : LineDef) (r : DriverNo) (past : List Entry) (e : Entry) → next_past def past (actors.Driver r) ≡ Some e
     → (x : Call × ℕ) × (due_call def r past ≡ Some x)
@@ -124,13 +116,13 @@ module _ (def : LineDef) where
     current before [] le lt = absurd (omega (arith, le, lt))
     current before (c ∷ cs) le lt = next_call c before cs (current (c ∷ before) cs) le lt
 
-  module _ (board : BoardSeen) (alone : defs_of board ≡ def ∷ []) where
+  module _ (board : BoardSeen) (is_board : IsBoard board) (alone : defs_of board ≡ def ∷ []) where
     -- where the entry's actor may step
-    its_line : (past : List Entry) (e : Entry) (a : Actor) → actor_of def.line e ≡ a → next_past def past a ≡ Some e
+    its_line : (past : List Entry) (e : Entry) (a : Actor) → actor_of e ≡ a → next_past def past a ≡ Some e
         → line_for board (lines past) a ≡ Some (at past)
-    its_line past e (actors.Thread line dev) is due =
-        let same : line ≡ def.line = sym (ap (line_in def.line) is) ∙ own_line def.line e in
-        ap (find_line (lines past)) same ∙ found past
+    its_line past e (actors.Thread dev) is due =
+        let d = device_found board is_board 0 def (ap (λ ds. slice_get ds 0) alone) dev (has_it (has_device def dev) (next_of_thread def dev past) e due) in
+        ap (device_line (lines past)) d.found ∙ (ap (find_line (lines past)) d.on_line ∙ found past)
     its_line past e (actors.Cpu c) is due = by (is_cpu c (flow def past))
       where
         taken : due_line (lines past) c ≡ Some (at past)
@@ -145,10 +137,10 @@ module _ (def : LineDef) where
         let few = not_all_complete def r past call.0 call.1 in
         current r past [] board.calls (omega arith) (omega (arith, fit, few))
 
-    due_alone : (past : List Entry) (e : Entry) → next_past def past (actor_of def.line e) ≡ Some e
-        → due_move board (lines past) (actor_of def.line e) ≡ Some (def.line, e)
+    due_alone : (past : List Entry) (e : Entry) → next_past def past (actor_of e) ≡ Some e
+        → due_move board (lines past) (actor_of e) ≡ Some (def.line, e)
     due_alone past e due =
-        ap (λ o. due_on o (actor_of def.line e)) (its_line past e (actor_of def.line e) refl due) ∙ ap (move_on def.line) due
+        ap (λ o. due_on o (actor_of e)) (its_line past e (actor_of e) refl due) ∙ ap (move_on def.line) due
 
     abbrev moves : List Entry → List Move
     moves past = map (λ (e : Entry). (def.line, e)) past
@@ -167,7 +159,7 @@ module _ (def : LineDef) where
     is_play [] legal few = tt
     is_play (e ∷ past) legal few = (
       is_play past legal.1 (omega (arith, few)),
-      ap (λ ls. due_move board ls (actor_of def.line e)) (lines_are past) ∙ due_alone past e legal.0,
+      ap (λ ls. due_move board ls (actor_of e)) (lines_are past) ∙ due_alone past e legal.0,
       subst (λ (xs : List Entry). length xs < board.log) (sym (part_is past)) (omega (arith, few)),
     )
 
@@ -183,7 +175,7 @@ cut_at (x ∷ es) zero e is = ap (λ (y : Entry). y ∷ es) (same_Some x e is)
 cut_at (x ∷ es) (suc k) e is = ap (λ (l : List Entry). x ∷ l) (cut_at es k e is)
 
 module _ (s : SystemSeen) (picks : List Actor) (line : LineNo) (es : List Entry) (k : ℕ) (made : IsMade s picks line (take k es))
-    (alone : IsAlone s.board line es) where
+    (is_board : IsBoard s.board) (alone : IsAlone s.board line es) where
   abbrev past : List Entry
   past = reverse (take k es)
 
@@ -192,15 +184,15 @@ module _ (s : SystemSeen) (picks : List Actor) (line : LineNo) (es : List Entry)
       made.lines ∙ (ap (λ ds. lines_at ds (reverse s.log)) alone.only
       ∙ ap (lines alone.def) (ap (λ (l : LineNo). part l (reverse s.log)) alone.number ∙ made.part))
 
-  pub next_alone : (e : Entry) → slice_get es k ≡ Some e → move_of s (actor_of line e) ≡ Some (line, e)
+  pub next_alone : (e : Entry) → slice_get es k ≡ Some e → move_of s (actor_of e) ≡ Some (line, e)
   next_alone e is =
       let all : reverse es ≡ reverse (drop (suc k) es) ++ e ∷ past =
       ap (λ (l : List Entry). reverse l) (cut_at es k e is) ∙ (reverse-append (take k es) (e ∷ drop (suc k) es) ∙ behind e (drop (suc k) es)) in
       let legal : IsLegalPast alone.def (e ∷ past) =
       older_legal alone.def (reverse (drop (suc k) es)) (e ∷ past) (subst (λ (l : List Entry). IsLegalPast alone.def l) all alone.legal) in
-      ap (λ ls. due_move s.board ls (actor_of line e)) lines_now
-      ∙ (ap (λ (l : LineNo). due_move s.board (lines alone.def past) (actor_of l e)) (sym alone.number)
-      ∙ (due_alone alone.def s.board alone.only past e legal.0 ∙ ap (λ (l : LineNo). Some (l, e)) alone.number))
+      ap (λ ls. due_move s.board ls (actor_of e)) lines_now
+      ∙ (ap (λ (l : LineNo). due_move s.board (lines alone.def past) (actor_of e)) (sym alone.number)
+      ∙ (due_alone alone.def s.board is_board alone.only past e legal.0 ∙ ap (λ (l : LineNo). Some (l, e)) alone.number))
     where
       behind : (e : Entry) (rest : List Entry) → reverse (e ∷ rest) ++ past ≡ reverse rest ++ e ∷ past
       behind e rest = ap (λ (l : List Entry). l ++ past) (reverse-append (e ∷ []) rest) ∙ append_assoc (reverse rest) (e ∷ []) past
@@ -222,7 +214,7 @@ module _ (s : SystemSeen) (picks : List Actor) (line : LineNo) (es : List Entry)
   IsNext e (turns.Full of len) = ⊥
   IsNext e turns.NoMemory = Unit {0}
 
-  pub turns_next : (e : Entry) → slice_get es k ≡ Some e → (actor mover : Actor) → actor ≡ actor_of line e → (IsSome (move_of s actor) → mover ≡ actor)
+  pub turns_next : (e : Entry) → slice_get es k ≡ Some e → (actor mover : Actor) → actor ≡ actor_of e → (IsSome (move_of s actor) → mover ≡ actor)
       → (t : Turn) (new : SystemSeen) → Turns s mover t new → IsNext e t
   turns_next e is actor mover who first t new turn = by t turn
     where

@@ -29,7 +29,7 @@ fn push_threads(others: &mut Vec<Actor>, board: &Board, line: LineNo) -> Result<
     for place in 0..board.devices_len() {
         if let Some(device) = board.device(place) {
             if device.line != line {
-                others.push(Actor::Thread(device.line, device.dev))?;
+                others.push(Actor::Thread(device.dev))?;
             }
         }
     }
@@ -39,7 +39,10 @@ fn push_threads(others: &mut Vec<Actor>, board: &Board, line: LineNo) -> Result<
 /// Whether the actor's next move, if it has one, is on another line.
 pub(crate) fn is_elsewhere<L: IrqLine>(system: &System<'_, L>, line: LineNo, actor: Actor) -> bool {
     match actor {
-        Actor::Thread(of, _) => of != line,
+        Actor::Thread(dev) => match system.board().find_device(dev) {
+            Some(device) => device.line != line,
+            None => false,
+        },
         Actor::Cpu(cpu) => is_cpu_elsewhere(system, line, cpu),
         Actor::Driver(driver) => match system.due_call(driver) {
             Some(call) => call.line != line,

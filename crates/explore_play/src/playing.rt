@@ -6,6 +6,7 @@ ghost use Rattle.irq_base.specs.declared.entries.Actor.{Actor};
 ghost use Rattle.irq_base.specs.declared.entries.Entry.{Entry};
 ghost use Rattle.irq_base.specs.declared.lines.LineDef.{LineDef};
 ghost use Rattle.irq_model.specs.Legal.{IsLegalPast};
+ghost use Rattle.board_def.specs.Rules.{IsBoard};
 ghost use Rattle.board_def.specs.Seen.{BoardSeen};
 ghost use Rattle.board_play.specs.Lines.{Move, defs_of};
 ghost use Rattle.board_play.specs.Play.{End, IsChosen, Plays};
@@ -82,13 +83,14 @@ pub fn play_to<L: IrqLine, H: Handler>(
     ensures alone { IsAlone system.old.board line wanted.now
         → IfOk result (λ found. found ≡ true) }
 {
+    system.board().is_board();
     let others = others_of(alloc, system.board(), line)?;
     let mut made = 0;
     while made < wanted.len() {
         if picks.len() >= PICKS {
             return Ok(false);
         }
-        let actor = wanted[made].actor(line);
+        let actor = wanted[made].actor();
         match turn_of(system, line, actor, others.as_slice(), handlers) {
             (mover, Turn::Moved { line: of, entry }) => {
                 picks.push(mover)?;
@@ -110,9 +112,9 @@ pub fn play_to<L: IrqLine, H: Handler>(
 /// On a board of one line each legal history of the line is a play by itself, if the board's log
 /// has room for it: the actors of its entries make it. The newest entry comes first.
 pub fn alone_is_play()
-    ensures law { (board : BoardSeen) (def : LineDef) (past : List Entry)
+    ensures law { (board : BoardSeen) (def : LineDef) (past : List Entry) → IsBoard board
         → defs_of board ≡ def ∷ [] → IsLegalPast def past → length past ≤ board.log
-        → ArePicked board (map (actor_of def.line) past) (map (λ e. (def.line, e)) past) }
+        → ArePicked board (map actor_of past) (map (λ e. (def.line, e)) past) }
 {}
 
 /// Put in place of a board's picks, the picks make each play begin with these moves, whatever picks

@@ -3,7 +3,7 @@ use Rattle.std.proofs.Common.{◌≡◌, ℕ, inl, inr, Bool, true, false, cond,
 use Rattle.std.proofs.Common.{get_or, drop, refl, sym, ap, subst, ◌∙◌, arith}
 use Rattle.std.specs.Str.{bytes_eq}
 use Rattle.irq_base.specs.declared.entries.Entry.{Entry}
-use Rattle.irq_base.specs.declared.entries.Entry.TheVariants as entries
+use Rattle.irq_base.specs.declared.entries.Entry.TheVariants as by
 use Rattle.irq_base.specs.declared.numbers.LineNo.{LineNo}
 use Rattle.line_wanted.specs.declared.left.Left.{Left}
 use Rattle.line_wanted.specs.declared.left.Standing.{Standing}
@@ -81,24 +81,12 @@ apart : (m n : ℕ) (bs cs : List ℕ) → (m ≡ n → ⊥) → m ∷ bs ≡ n 
 apart m n bs cs differ same = differ (ap (λ ds. get_or ds 0 0) same)
 
 not_rest : (e : Entry) → at (entry_words e) 0 ≡ codes "rest" → ⊥
-not_rest (entries.Ask driver dev) = apart 100 114 _ _ (λ i. omega (arith, i))
-not_rest (entries.Take cpu way answer) = apart 99 114 _ _ (λ i. omega (arith, i))
-not_rest (entries.Begin cpu dev) = apart 99 114 _ _ (λ i. omega (arith, i))
-not_rest (entries.Return cpu dev answer served) = apart 99 114 _ _ (λ i. omega (arith, i))
-not_rest (entries.End cpu again unmask note) = apart 99 114 _ _ (λ i. omega (arith, i))
-not_rest (entries.ThreadBegin dev) = apart 116 114 _ _ (λ i. omega (arith, i))
-not_rest (entries.ThreadReturn dev served) = apart 116 114 _ _ (λ i. omega (arith, i))
-not_rest (entries.Finish dev kept unmask) = apart 116 114 _ _ (λ i. omega (arith, i))
-not_rest (entries.Done dev) = apart 116 114 _ _ (λ i. omega (arith, i))
-not_rest (entries.Disable driver) = apart 100 114 _ _ (λ i. omega (arith, i))
-not_rest (entries.HardClear driver) = apart 100 114 _ _ (λ i. omega (arith, i))
-not_rest (entries.Synced driver) = apart 100 114 _ _ (λ i. omega (arith, i))
-not_rest (entries.Enable driver answer) = apart 100 114 _ _ (λ i. omega (arith, i))
-not_rest (entries.Request driver dev flags answer opened) = apart 100 114 _ _ (λ i. omega (arith, i))
-not_rest (entries.Unlink driver dev answer) = apart 100 114 _ _ (λ i. omega (arith, i))
-not_rest (entries.Freed driver dev) = apart 100 114 _ _ (λ i. omega (arith, i))
-not_rest (entries.Affinity driver mask answer) = apart 100 114 _ _ (λ i. omega (arith, i))
-not_rest (entries.Moment driver moment) = apart 100 114 _ _ (λ i. omega (arith, i))
+not_rest (by.Cpu cpu e) = apart 99 114 _ _ (λ i. omega (arith, i))
+not_rest (by.CpuCall cpu call) = apart 99 114 _ _ (λ i. omega (arith, i))
+not_rest (by.Thread dev e) = apart 116 114 _ _ (λ i. omega (arith, i))
+not_rest (by.ThreadCall dev call) = apart 116 114 _ _ (λ i. omega (arith, i))
+not_rest (by.Driver driver e) = apart 100 114 _ _ (λ i. omega (arith, i))
+not_rest (by.DriverCall driver call) = apart 100 114 _ _ (λ i. omega (arith, i))
 
 abbrev line_no : ℕ → LineNo
 line_no n = record { 0 = n }

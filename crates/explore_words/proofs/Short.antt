@@ -6,7 +6,15 @@ use Rattle.std.proofs.lemmas.List.{length-append}
 use Rattle.irq_base.specs.declared.devices.Answer.{Answer}
 use Rattle.irq_base.specs.declared.devices.Answer.TheVariants as answers
 use Rattle.irq_base.specs.declared.entries.Entry.{Entry}
-use Rattle.irq_base.specs.declared.entries.Entry.TheVariants as entries
+use Rattle.irq_base.specs.declared.entries.Entry.TheVariants as by
+use Rattle.irq_base.specs.declared.entries.CpuEntry.{CpuEntry}
+use Rattle.irq_base.specs.declared.entries.CpuEntry.TheVariants as cpus
+use Rattle.irq_base.specs.declared.entries.ThreadEntry.{ThreadEntry}
+use Rattle.irq_base.specs.declared.entries.ThreadEntry.TheVariants as threads
+use Rattle.irq_base.specs.declared.entries.DriverEntry.{DriverEntry}
+use Rattle.irq_base.specs.declared.entries.DriverEntry.TheVariants as drivers
+use Rattle.irq_base.specs.declared.entries.CallEntry.{CallEntry}
+use Rattle.irq_base.specs.declared.entries.CallEntry.TheVariants as called
 use Rattle.irq_base.specs.declared.entries.Errno.TheVariants as errnos
 use Rattle.irq_base.specs.declared.entries.Way.{Way}
 use Rattle.irq_base.specs.declared.entries.Way.TheVariants as ways
@@ -30,10 +38,10 @@ use Rattle.line_wanted.specs.declared.left.Standing.{Standing}
 use Rattle.line_wanted.specs.declared.left.Standing.TheVariants as standings
 use Rattle.line_wanted.specs.declared.wanted.Wanted.{Wanted}
 use Rattle.line_wanted.specs.declared.wanted.Wanted.TheVariants as wants
-use Rattle.log_text.specs.EntryWords.{entry_words}
-use Rattle.log_text.specs.Formed.{IsSmall, IsWritable}
+use Rattle.log_text.specs.EntryWords.{call_words, cpu_words, driver_words, entry_words, thread_words}
+use Rattle.log_text.specs.Formed.{HasSmallCall, HasSmallCpu, HasSmallDriver, HasSmallThread, IsSmall, IsWritable}
 use Rattle.log_text.specs.Words.{way_word, take_word, answer_word, loop_word, mask_word, note_word, bit_word}
-use Rattle.log_text.specs.Words.{flags_word, enable_words, link_words, unlink_word, affinity_words}
+use Rattle.log_text.specs.Words.{flags_word, enable_words, link_words, unlink_word, affinity_words, yes_word}
 use Rattle.explore_words.specs.Rows.{HasRow, Spells, joined, standing_word, waits_word, wanted_words}
 
 -- the bytes of words, each with a byte behind it
@@ -137,46 +145,52 @@ affinity_fits affinities.Later = omega arith
 affinity_fits (affinities.Refused errnos.Inval) = omega arith
 affinity_fits (affinities.Refused errnos.Busy) = omega arith
 
+yes_fits : (x : Bool) → length (yes_word x) ≤ 11
+yes_fits true = omega arith
+yes_fits false = omega arith
+
+cpu_fits : (e : CpuEntry) → HasSmallCpu e → Fit 100 (cpu_words e)
+cpu_fits (cpus.Take way answer) w = let a = way_fits way in let b = take_fits answer in omega (arith, a, b)
+cpu_fits (cpus.Begin dev) w = let a = number_short dev.0 w in omega (arith, a)
+cpu_fits (cpus.Return answer dev served) w =
+    let a = number_short dev.0 w.0 in let b = answer_fits answer in let c = number_short served w.1 in omega (arith, a, b, c)
+cpu_fits (cpus.End again unmask note) w =
+    let a = loop_fits again in let b = mask_fits unmask in let c = note_fits note in omega (arith, a, b, c)
+
+thread_fits : (e : ThreadEntry) → HasSmallThread e → Fit 100 (thread_words e)
+thread_fits threads.Begin w = omega arith
+thread_fits (threads.Return handled served) w = let a = number_short served w in omega (arith, a)
+thread_fits (threads.Finish kept unmask) w = let a = bit_fits kept in let b = mask_fits unmask in omega (arith, a, b)
+thread_fits threads.Done w = omega arith
+
+driver_fits : (e : DriverEntry) → HasSmallDriver e → Fit 100 (driver_words e)
+driver_fits (drivers.Ask edge dev) w = let a = number_short dev.0 w in omega (arith, a)
+driver_fits (drivers.Request flags answer opened dev) w =
+    let a = number_short dev.0 w in
+    let b = flags_by flags.shared flags.oneshot flags.noauto in
+    let c = link_fits answer opened in omega (arith, a, b, c)
+driver_fits (drivers.Affinity answer mask) w = let a = number_short mask w in let b = affinity_fits answer in omega (arith, a, b)
+driver_fits (drivers.Moment moment) w = let a = number_short moment w in omega (arith, a)
+
+call_fits : (call : CallEntry) → HasSmallCall call → Fit 100 (call_words call)
+call_fits called.Disable w = omega arith
+call_fits called.HardClear w = omega arith
+call_fits called.Synced w = omega arith
+call_fits (called.Enable answer) w = let a = enable_fits answer in omega (arith, a)
+call_fits (called.Unlink answer dev) w = let a = number_short dev.0 w in let b = unlink_fits answer in omega (arith, a, b)
+call_fits (called.Freed dev) w = let a = number_short dev.0 w in omega (arith, a)
+call_fits (called.Wake woken dev) w = let a = number_short dev.0 w in let b = yes_fits woken in omega (arith, a, b)
+call_fits (called.Quiet dev) w = let a = number_short dev.0 w in omega (arith, a)
+call_fits (called.Arm edge dev) w = let a = number_short dev.0 w in let b = yes_fits edge in omega (arith, a, b)
+call_fits (called.Serve dev served) w = let a = number_short dev.0 w.0 in let b = number_short served w.1 in omega (arith, a, b)
+
 entry_fits : (e : Entry) → IsWritable e → Fit 300 (entry_words e)
-entry_fits (entries.Ask driver dev) w =
-    let a = number_short driver.0 w.small.0 in let b = number_short dev.0 w.small.1 in omega (arith, a, b)
-entry_fits (entries.Take cpu way answer) w =
-    let a = number_short cpu.0 w.small in let b = way_fits way in let c = take_fits answer in omega (arith, a, b, c)
-entry_fits (entries.Begin cpu dev) w =
-    let a = number_short cpu.0 w.small.0 in let b = number_short dev.0 w.small.1 in omega (arith, a, b)
-entry_fits (entries.Return cpu dev answer served) w =
-    let a = number_short cpu.0 w.small.0 in
-    let b = number_short dev.0 w.small.1 in
-    let c = answer_fits answer in let d = number_short served w.small.2 in omega (arith, a, b, c, d)
-entry_fits (entries.End cpu again unmask note) w =
-    let a = number_short cpu.0 w.small in
-    let b = loop_fits again in let c = mask_fits unmask in let d = note_fits note in omega (arith, a, b, c, d)
-entry_fits (entries.ThreadBegin dev) w = let a = number_short dev.0 w.small in omega (arith, a)
-entry_fits (entries.ThreadReturn dev served) w =
-    let a = number_short dev.0 w.small.0 in let b = number_short served w.small.1 in omega (arith, a, b)
-entry_fits (entries.Finish dev kept unmask) w =
-    let a = number_short dev.0 w.small in let b = bit_fits kept in let c = mask_fits unmask in omega (arith, a, b, c)
-entry_fits (entries.Done dev) w = let a = number_short dev.0 w.small in omega (arith, a)
-entry_fits (entries.Disable driver) w = let a = number_short driver.0 w.small in omega (arith, a)
-entry_fits (entries.HardClear driver) w = let a = number_short driver.0 w.small in omega (arith, a)
-entry_fits (entries.Synced driver) w = let a = number_short driver.0 w.small in omega (arith, a)
-entry_fits (entries.Enable driver answer) w =
-    let a = number_short driver.0 w.small in let b = enable_fits answer in omega (arith, a, b)
-entry_fits (entries.Request driver dev flags answer opened) w =
-    let a = number_short driver.0 w.small.0 in
-    let b = number_short dev.0 w.small.1 in
-    let c = flags_by flags.shared flags.oneshot flags.noauto in
-    let d = link_fits answer opened in omega (arith, a, b, c, d)
-entry_fits (entries.Unlink driver dev answer) w =
-    let a = number_short driver.0 w.small.0 in
-    let b = number_short dev.0 w.small.1 in let c = unlink_fits answer in omega (arith, a, b, c)
-entry_fits (entries.Freed driver dev) w =
-    let a = number_short driver.0 w.small.0 in let b = number_short dev.0 w.small.1 in omega (arith, a, b)
-entry_fits (entries.Affinity driver mask answer) w =
-    let a = number_short driver.0 w.small.0 in
-    let b = number_short mask w.small.1 in let c = affinity_fits answer in omega (arith, a, b, c)
-entry_fits (entries.Moment driver moment) w =
-    let a = number_short driver.0 w.small.0 in let b = number_short moment w.small.1 in omega (arith, a, b)
+entry_fits (by.Cpu cpu e) w = let a = number_short cpu.0 w.small.0 in let b = cpu_fits e w.small.1 in omega (arith, a, b)
+entry_fits (by.Thread dev e) w = let a = number_short dev.0 w.small.0 in let b = thread_fits e w.small.1 in omega (arith, a, b)
+entry_fits (by.Driver driver e) w = let a = number_short driver.0 w.small.0 in let b = driver_fits e w.small.1 in omega (arith, a, b)
+entry_fits (by.CpuCall cpu call) w = let a = number_short cpu.0 w.small.0 in let b = call_fits call w.small.1 in omega (arith, a, b)
+entry_fits (by.ThreadCall dev call) w = let a = number_short dev.0 w.small.0 in let b = call_fits call w.small.1 in omega (arith, a, b)
+entry_fits (by.DriverCall driver call) w = let a = number_short driver.0 w.small.0 in let b = call_fits call w.small.1 in omega (arith, a, b)
 
 standing_fits : (x : Standing) → length (standing_word x) ≤ 11
 standing_fits standings.Stopped = omega arith

@@ -54,6 +54,6 @@ fn is_due(alloc: Global, def: &LineDef, history: &History, entry: Entry) -> Resu
     requires devices { length def.now.devices ≤ 256 }
     ensures { IfOk result (λ due. IsTrue due ↔ IsDue def.now entry (reverse history.now.entries)) }
 {
-    let due = next_slow(alloc, def, history, entry.actor(def.line))?;
+    let due = next_slow(alloc, def, history, entry.actor())?;
     Ok(due == Some(entry))
 }

@@ -18,7 +18,7 @@ fn add_threads(actors: &mut Vec<Actor>, def: &LineDef) -> Result<(), NoMemory> {
     for i in 0..def.devices.len() {
         match def.devices.get(i) {
             Some(device) if device.kind.has_thread() => {
-                actors.push(Actor::Thread(def.line, device.dev))?;
+                actors.push(Actor::Thread(device.dev))?;
             }
             _ => {}
         }

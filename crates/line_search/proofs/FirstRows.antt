@@ -15,7 +15,10 @@ use Rattle.irq_base.specs.declared.lines.FlowKind.TheVariants as flows
 use Rattle.irq_base.specs.declared.lines.LineDef.{LineDef}
 use Rattle.irq_base.specs.declared.entries.Actor.TheVariants as actors
 use Rattle.irq_base.specs.declared.entries.Entry.{Entry}
-use Rattle.irq_base.specs.declared.entries.Entry.TheVariants as entries
+use Rattle.irq_base.specs.declared.entries.Entry.TheVariants as by
+use Rattle.irq_base.specs.declared.entries.CpuEntry.TheVariants as cpus
+use Rattle.irq_base.specs.declared.entries.DriverEntry.TheVariants as drivers
+use Rattle.irq_base.specs.declared.entries.CallEntry.TheVariants as called
 use Rattle.irq_base.specs.declared.entries.Way.TheVariants as ways
 use Rattle.irq_base.specs.declared.entries.TakeAnswer.TheVariants as takes
 use Rattle.irq_base.specs.declared.entries.Note.TheVariants as notes
@@ -68,35 +71,35 @@ first =
 -- ---- the entries
 
 abbrev request : Entry
-request = entries.Request driver dev no_flags links.Linked (opens.Started resends.No)
+request = by.Driver driver (drivers.Request no_flags links.Linked (opens.Started resends.No) dev)
 
 abbrev ask : Entry
-ask = entries.Ask driver dev
+ask = by.Driver driver (drivers.Ask true dev)
 
 abbrev take : Entry
-take = entries.Take cpu ways.Line takes.Handle
+take = by.Cpu cpu (cpus.Take ways.Line takes.Handle)
 
 abbrev begin : Entry
-begin = entries.Begin cpu dev
+begin = by.Cpu cpu (cpus.Begin dev)
 
 abbrev return : Entry
-return = entries.Return cpu dev answers.Handled 1
+return = by.Cpu cpu (cpus.Return answers.Handled dev 1)
 
 -- the end of a round in which nobody was called is counted
 abbrev counted_end : Entry
-counted_end = entries.End cpu false false notes.Counted
+counted_end = by.Cpu cpu (cpus.End false false notes.Counted)
 
 abbrev quiet_end : Entry
-quiet_end = entries.End cpu false false notes.Quiet
+quiet_end = by.Cpu cpu (cpus.End false false notes.Quiet)
 
 abbrev unlink : Entry
-unlink = entries.Unlink driver dev (unlinks.Unlinked true)
+unlink = by.DriverCall driver (called.Unlink (unlinks.Unlinked true) dev)
 
 abbrev clear : Entry
-clear = entries.HardClear driver
+clear = by.DriverCall driver called.HardClear
 
 abbrev freed : Entry
-freed = entries.Freed driver dev
+freed = by.DriverCall driver (called.Freed dev)
 
 -- ---- the pasts, the newest entry first, one to each state, and two more
 
@@ -114,15 +117,15 @@ taken = take ∷ asked
 abbrev uncalled : List Entry
 uncalled = unlink ∷ taken
 
-abbrev called : List Entry
-called = begin ∷ taken
+abbrev at_work : List Entry
+at_work = begin ∷ taken
 
 abbrev returned : List Entry
-returned = return ∷ called
+returned = return ∷ at_work
 
 -- unlinked while the handler is at work
 abbrev unlinked : List Entry
-unlinked = unlink ∷ called
+unlinked = unlink ∷ at_work
 
 abbrev over : List Entry
 over = return ∷ unlinked
@@ -136,7 +139,7 @@ all_ended = unlink ∷ ended
 abbrev states : List (List Entry)
 states =
     [] ∷ (request ∷ []) ∷ asked ∷ taken ∷ untaken ∷ (clear ∷ untaken) ∷ (freed ∷ clear ∷ untaken)
-    ∷ called ∷ uncalled ∷ returned ∷ unlinked ∷ (counted_end ∷ uncalled)
+    ∷ at_work ∷ uncalled ∷ returned ∷ unlinked ∷ (counted_end ∷ uncalled)
     ∷ (clear ∷ counted_end ∷ uncalled) ∷ (freed ∷ clear ∷ counted_end ∷ uncalled)
     ∷ ended ∷ over ∷ all_ended ∷ (clear ∷ all_ended) ∷ (freed ∷ clear ∷ all_ended) ∷ []
 
@@ -181,7 +184,7 @@ nineteen = refl
 -- how many actors have an entry due in each
 due_in : List Entry → ℕ
 due_in past =
-    one_if (is_some (next_past first past (actors.Thread line dev)))
+    one_if (is_some (next_past first past (actors.Thread dev)))
     + (one_if (is_some (next_past first past (actors.Cpu cpu))) + one_if (is_some (next_past first past (actors.Driver driver))))
 
 twenty : map due_in states ≡ 1 ∷ 1 ∷ 2 ∷ 2 ∷ 1 ∷ 1 ∷ 0 ∷ 2 ∷ 1 ∷ 2 ∷ 1 ∷ 1 ∷ 1 ∷ 0 ∷ 1 ∷ 1 ∷ 1 ∷ 1 ∷ 0 ∷ []

@@ -10,22 +10,22 @@ use Rattle.irq_base.specs.declared.devices.DeviceDef.{DeviceDef}
 use Rattle.irq_base.specs.declared.entries.Actor.{Actor}
 use Rattle.irq_base.specs.declared.entries.Actor.TheVariants as actors
 use Rattle.irq_base.specs.declared.entries.Entry.{Entry}
-use Rattle.irq_base.specs.declared.entries.Entry.TheVariants as entries
+use Rattle.irq_base.specs.declared.entries.Entry.TheVariants as by
+use Rattle.irq_base.specs.declared.entries.CpuEntry.TheVariants as cpus
 use Rattle.irq_base.specs.declared.entries.Way.TheVariants as ways
 use Rattle.irq_base.specs.declared.lines.LineDef.{LineDef}
 use Rattle.irq_base.specs.declared.numbers.CpuNo.{CpuNo}
 use Rattle.irq_base.specs.declared.numbers.DevNo.{DevNo}
 use Rattle.irq_base.specs.declared.numbers.DriverNo.{DriverNo}
-use Rattle.irq_base.specs.declared.numbers.LineNo.{LineNo}
 use Rattle.irq_model.specs.Due.{entries_by, due_of}
-use Rattle.irq_model.specs.Kinds.{same_dev, same_driver, same_line}
+use Rattle.irq_model.specs.Kinds.{same_dev, same_driver}
 use Rattle.irq_model.specs.Legal.{IsLegalPast}
 use Rattle.irq_model.specs.Lines.{is_device}
 use Rattle.irq_model.specs.Next.{next_past, next_of_call}
 use Rattle.irq_model.specs.Rounds.{is_cpu}
 use Rattle.irq_model.specs.Signal.{lowest_in}
 use Rattle.irq_model.specs.Valid.{IsValid}
-use Rattle.irq_steps.proofs.Same.{dev_from_same, driver_from_same, line_from_same, cpu_from_same}
+use Rattle.irq_steps.proofs.Same.{dev_from_same, driver_from_same, cpu_from_same}
 use Rattle.irq_line.specs.Queries.{is_some_take}
 use Rattle.act_thread.specs.declared.rows.ThreadRow.{ThreadRow}
 use Rattle.device_table.proofs.Tables.{at_none}
@@ -55,17 +55,17 @@ module _ {X : Type 0} where
   one_is x y (zero, lt, is) = is
   one_is x y (suc k, lt, is) = absurd (omega (arith, lt))
 
-thread_there : (line : LineNo) (xs : List DeviceDef) (d : DevNo) → list_any (is_device d) xs ≡ true → Contains (threads_in line xs) (actors.Thread line d)
-thread_there line [] d h = absurd (let x : ⊥ = cc h in x)
-thread_there line (x ∷ xs) d h = by_test (same_dev d x.dev) refl h (thread_there line xs d)
+thread_there : (xs : List DeviceDef) (d : DevNo) → list_any (is_device d) xs ≡ true → Contains (threads_in xs) (actors.Thread d)
+thread_there [] d h = absurd (let x : ⊥ = cc h in x)
+thread_there (x ∷ xs) d h = by_test (same_dev d x.dev) refl h (thread_there xs d)
   where
     by_test : (b : Bool) → same_dev d x.dev ≡ b → (b || list_any (is_device d) xs) ≡ true
-        → (list_any (is_device d) xs ≡ true → Contains (threads_in line xs) (actors.Thread line d))
-        → Contains (threads_in line (x ∷ xs)) (actors.Thread line d)
+        → (list_any (is_device d) xs ≡ true → Contains (threads_in xs) (actors.Thread d))
+        → Contains (threads_in (x ∷ xs)) (actors.Thread d)
     by_test true same k rest =
-        let P : DevNo → Type 0 = λ y. Contains (threads_in line (x ∷ xs)) (actors.Thread line y) in
-        subst P (sym (dev_from_same d x.dev same)) (here (actors.Thread line x.dev) (threads_in line xs))
-    by_test false other k rest = later (actors.Thread line x.dev) (actors.Thread line d) (threads_in line xs) (rest k)
+        let P : DevNo → Type 0 = λ y. Contains (threads_in (x ∷ xs)) (actors.Thread y) in
+        subst P (sym (dev_from_same d x.dev same)) (here (actors.Thread x.dev) (threads_in xs))
+    by_test false other k rest = later (actors.Thread x.dev) (actors.Thread d) (threads_in xs) (rest k)
 
 driver_there : (rs : List DriverNo) (r : DriverNo) → list_any (same_driver r) rs ≡ true → Contains (drivers_of rs) (actors.Driver r)
 driver_there [] r h = absurd (let x : ⊥ = cc h in x)
@@ -87,7 +87,7 @@ flow_is c None h = cc
 flow_is c (Some d) h = ap Some (sym (cpu_from_same c d h))
 
 takes : (s : StateSeen) (c : CpuNo) (e : Entry) (target line soft : Bool)
-    → cond (not target) None (cond line (Some (entries.Take c ways.Line (take_by s))) (cond soft (Some (entries.Take c ways.Resend (take_by s))) None)) ≡ Some e
+    → cond (not target) None (cond line (Some (by.Cpu c (cpus.Take ways.Line (take_by s)))) (cond soft (Some (by.Cpu c (cpus.Take ways.Resend (take_by s)))) None)) ≡ Some e
     → is_some_take (Some e) ≡ true
 takes s c e true true soft h = ap is_some_take (sym h)
 takes s c e true false true h = ap is_some_take (sym h)
@@ -106,30 +106,25 @@ module _ (def : LineDef) (valid : IsValid def) (g : List Entry) (legal : IsLegal
   abbrev Asked : Actor → Type 0
   Asked a = Contains (actors_by def (state_of def g).desc.flow (taker_of (state_of def g)) (drivers_in def.calls)) a
 
-  thread_asked : (line : LineNo) (d : DevNo) (e : Entry) → next_past def g (actors.Thread line d) ≡ Some e → Asked (actors.Thread line d)
-  thread_asked line d e due = by_line (same_line line def.line) refl (sym (due_is def g scripts are.calls at_places (actors.Thread line d) valid legal) ∙ due)
+  thread_asked : (d : DevNo) (e : Entry) → next_past def g (actors.Thread d) ≡ Some e → Asked (actors.Thread d)
+  thread_asked d e due =
+      by_there (list_any (is_device d) def.devices) refl (sym (due_is def g scripts are.calls at_places (actors.Thread d) valid legal) ∙ due)
     where
-      by_there : (b : Bool) → list_any (is_device d) def.devices ≡ b → thread_due (state_of def g) d ≡ Some e → Asked (actors.Thread def.line d)
+      by_there : (b : Bool) → list_any (is_device d) def.devices ≡ b → thread_due (state_of def g) d ≡ Some e → Asked (actors.Thread d)
       by_there true there h =
-          Contains-append_left (threads_in def.line def.devices)
+          Contains-append_left (threads_in def.devices)
           (cpus_in (state_of def g).desc.flow ++ (cpus_in (taker_of (state_of def g))
           ++ drivers_of (drivers_in def.calls)))
-          (actors.Thread def.line d) (thread_there def.line def.devices d there)
+          (actors.Thread d) (thread_there def.devices d there)
       by_there false none h =
           absurd (let i : ◌≡◌ {A = Option Entry} None (Some e)
           = sym (ap (λ (o : Option ThreadRow). due_of_row (state_of def g) d o)
           (at_none (thread_of g) def.devices d none)) ∙ h in
           let x : ⊥ = cc i in x)
 
-      by_line : (b : Bool) → same_line line def.line ≡ b → cond b (thread_due (state_of def g) d) None ≡ Some e → Asked (actors.Thread line d)
-      by_line true same h =
-          let P : LineNo → Type 0 = λ l. Asked (actors.Thread l d) in
-          subst P (sym (line_from_same line def.line same)) (by_there (list_any (is_device d) def.devices) refl h)
-      by_line false other h = absurd (let x : ⊥ = cc h in x)
-
   behind_threads : (a : Actor) → Contains (cpus_in (state_of def g).desc.flow
       ++ (cpus_in (taker_of (state_of def g)) ++ drivers_of (drivers_in def.calls))) a → Asked a
-  behind_threads a h = Contains-append_right (threads_in def.line def.devices)
+  behind_threads a h = Contains-append_right (threads_in def.devices)
       (cpus_in (state_of def g).desc.flow ++ (cpus_in (taker_of (state_of def g)) ++ drivers_of (drivers_in def.calls)))
       a h
 
@@ -166,6 +161,6 @@ module _ (def : LineDef) (valid : IsValid def) (g : List Entry) (legal : IsLegal
           let x : ⊥ = cc i in x)
 
   pub asked : (a : Actor) (e : Entry) → next_past def g a ≡ Some e → Asked a
-  asked (actors.Thread line d) e due = thread_asked line d e due
+  asked (actors.Thread d) e due = thread_asked d e due
   asked (actors.Cpu c) e due = cpu_asked c e due
   asked (actors.Driver r) e due = driver_asked r e due

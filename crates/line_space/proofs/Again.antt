@@ -4,7 +4,9 @@ use Rattle.std.proofs.Common.{◌∷◌, length, sym, ap, subst, ◌∙◌, arit
 use Rattle.irq_base.specs.declared.calls.Flags.{Flags}
 use Rattle.irq_base.specs.declared.entries.Actor.{Actor}
 use Rattle.irq_base.specs.declared.entries.Entry.{Entry}
-use Rattle.irq_base.specs.declared.entries.Entry.TheVariants as entries
+use Rattle.irq_base.specs.declared.entries.Entry.TheVariants as by
+use Rattle.irq_base.specs.declared.entries.CpuEntry.TheVariants as cpus
+use Rattle.irq_base.specs.declared.entries.ThreadEntry.TheVariants as threads
 use Rattle.irq_base.specs.declared.entries.LinkAnswer.{LinkAnswer}
 use Rattle.irq_base.specs.declared.entries.LinkAnswer.TheVariants as links
 use Rattle.irq_base.specs.declared.lines.LineDef.{LineDef}
@@ -34,13 +36,13 @@ use Rattle.line_marks.specs.State.{StateSeen, IsOf, state_of, state_after}
 use Rattle.line_state.specs.Entries.{entry_by, call_entry, CanMake, CanMakeOfCpu, CanMakeOfThread, CanMakeOfCall}
 use Rattle.line_state.specs.Seen.{IsAimOf, taker_of}
 use Rattle.line_state.specs.declared.due.CallStep.{CallStep}
-use Rattle.line_state.specs.declared.due.CallStep.TheVariants as calls
+use Rattle.line_state.specs.declared.due.CallStep.TheVariants as call_steps
 use Rattle.line_state.specs.declared.due.CpuStep.{CpuStep}
-use Rattle.line_state.specs.declared.due.CpuStep.TheVariants as cpus
+use Rattle.line_state.specs.declared.due.CpuStep.TheVariants as cpu_steps
 use Rattle.line_state.specs.declared.due.DueStep.{DueStep}
 use Rattle.line_state.specs.declared.due.DueStep.TheVariants as steps
 use Rattle.line_state.specs.declared.due.ThreadStep.{ThreadStep}
-use Rattle.line_state.specs.declared.due.ThreadStep.TheVariants as threads
+use Rattle.line_state.specs.declared.due.ThreadStep.TheVariants as thread_steps
 use Rattle.line_futures.proofs.Actions.{flags_same, has_same}
 use Rattle.line_futures.proofs.CanonDue.{due_same}
 use Rattle.line_futures.proofs.CanonSteps.{canon_after}
@@ -60,17 +62,17 @@ unbitted_canon t =
 
 -- what an entry that follows asks for is so of the canonical state, and of one with thread bits
 made_canon : (e : Entry) (s : StateSeen) → IsMade e s → IsMade e (canon s)
-made_canon (entries.Begin cpu dev) s h = h
-made_canon (entries.Return cpu dev answer served) s h = h
-made_canon (entries.End cpu again unmask note) s h = h
-made_canon (entries.ThreadReturn dev served) s h = h
+made_canon (by.Cpu cpu (cpus.Begin dev)) s h = h
+made_canon (by.Cpu cpu (cpus.Return answer dev served)) s h = h
+made_canon (by.Cpu cpu (cpus.End again unmask note)) s h = h
+made_canon (by.Thread dev (threads.Return handled served)) s h = h
 made_canon _ s h = tt
 
 made_bits : (e : Entry) (t : StateSeen) → IsMade e (unbitted t) → IsMade e t
-made_bits (entries.Begin cpu dev) t h = h
-made_bits (entries.Return cpu dev answer served) t h = h
-made_bits (entries.End cpu again unmask note) t h = h
-made_bits (entries.ThreadReturn dev served) t h = h
+made_bits (by.Cpu cpu (cpus.Begin dev)) t h = h
+made_bits (by.Cpu cpu (cpus.Return answer dev served)) t h = h
+made_bits (by.Cpu cpu (cpus.End again unmask note)) t h = h
+made_bits (by.Thread dev (threads.Return handled served)) t h = h
 made_bits _ t h = tt
 
 one_few : (b : Bool) → one_if b < 2 ^ 32 - 1
@@ -165,18 +167,18 @@ module _ {def : LineDef} {g : List Entry} {t : StateSeen} {scripts : List (Drive
       sym (has_same d t.list.actions) ∙ (ap (λ (x : StateSeen). has d x.list.actions) read.again ∙ (has_same d (state_of def g).list.actions ∙ h))
 
   of_cpu_again : (step : CpuStep) → CanMakeOfCpu def step t
-  of_cpu_again (cpus.Take way) = rounds_again
-  of_cpu_again cpus.End = (rounds_again, depth_again, open_again)
+  of_cpu_again (cpu_steps.Take way) = rounds_again
+  of_cpu_again cpu_steps.End = (rounds_again, depth_again, open_again)
   of_cpu_again _ = tt
 
   of_thread_again : (step : ThreadStep) → CanMakeOfThread step t
-  of_thread_again threads.Return = handled_again
+  of_thread_again thread_steps.Return = handled_again
   of_thread_again _ = tt
 
   of_call_again : (r : DriverNo) (step : CallStep) → IsExpected def (call_entry def t r step) (state_of def g) → CanMakeOfCall step t
-  of_call_again r (calls.Ask dev) x = room_again dev
-  of_call_again r calls.Disable x = depth_again
-  of_call_again r (calls.Request dev flags) x =
+  of_call_again r (call_steps.Ask dev) x = room_again dev
+  of_call_again r call_steps.Disable x = depth_again
+  of_call_again r (call_steps.Request dev flags) x =
       absent_again dev (requested def t (state_of def g) r dev flags (answer_by (kind_at t.kinds dev) flags t.list.actions) x)
   of_call_again r _ x = tt
 

@@ -106,7 +106,7 @@ module _ (def : LineDef) (g : List Entry) where
         (actors_by def (state_of def g).desc.flow (taker_of (state_of def g)) (drivers_in def.calls)))
     are_steps = record {
       each = each_step (actors_by def (state_of def g).desc.flow (taker_of (state_of def g)) (drivers_in def.calls));
-      all = λ e due. has_step (actors_by def (state_of def g).desc.flow (taker_of (state_of def g)) (drivers_in def.calls)) (actor_of def.line e) e
-          (asked def valid g legal scripts are at_places (actor_of def.line e) e due) due;
+      all = λ e due. has_step (actors_by def (state_of def g).desc.flow (taker_of (state_of def g)) (drivers_in def.calls)) (actor_of e) e
+          (asked def valid g legal scripts are at_places (actor_of e) e due) due;
       once = once_steps (actors_by def (state_of def g).desc.flow (taker_of (state_of def g)) (drivers_in def.calls)) (actors_apart def valid (state_of def g));
     }

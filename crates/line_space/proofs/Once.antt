@@ -12,7 +12,6 @@ use Rattle.irq_base.specs.declared.lines.LineDef.{LineDef}
 use Rattle.irq_base.specs.declared.numbers.CpuNo.{CpuNo}
 use Rattle.irq_base.specs.declared.numbers.DevNo.{DevNo}
 use Rattle.irq_base.specs.declared.numbers.DriverNo.{DriverNo}
-use Rattle.irq_base.specs.declared.numbers.LineNo.{LineNo}
 use Rattle.irq_model.specs.Kinds.{same_dev, same_driver}
 use Rattle.irq_model.specs.Lines.{is_device}
 use Rattle.irq_model.specs.Rounds.{is_cpu}
@@ -43,33 +42,33 @@ apart_append (x ∷ xs) ys h k other =
 
 -- ---- the threads
 
-thread_from : (line : LineNo) (xs : List DeviceDef) (a : Actor) → Contains (threads_in line xs) a
-    → (d : DevNo) × (a ≡ actors.Thread line d) × (list_any (is_device d) xs ≡ true)
-thread_from line [] a c = absurd (none_in a c)
-thread_from line (x ∷ xs) a c = by_place (Contains-append_cases (actors.Thread line x.dev ∷ []) (threads_in line xs) a c) (thread_from line xs a)
+thread_from : (xs : List DeviceDef) (a : Actor) → Contains (threads_in xs) a
+    → (d : DevNo) × (a ≡ actors.Thread d) × (list_any (is_device d) xs ≡ true)
+thread_from [] a c = absurd (none_in a c)
+thread_from (x ∷ xs) a c = by_place (Contains-append_cases (actors.Thread x.dev ∷ []) (threads_in xs) a c) (thread_from xs a)
   where
-    by_place : Contains (actors.Thread line x.dev ∷ []) a ⊎ Contains (threads_in line xs) a
-        → (Contains (threads_in line xs) a → (d : DevNo) × (a ≡ actors.Thread line d) × (list_any (is_device d) xs ≡ true))
-        → (d : DevNo) × (a ≡ actors.Thread line d) × (list_any (is_device d) (x ∷ xs) ≡ true)
-    by_place (inl p) rest = (x.dev, sym (one_is (actors.Thread line x.dev) a p), ap (λ b. b || list_any (is_device x.dev) xs) (same_self x.dev))
+    by_place : Contains (actors.Thread x.dev ∷ []) a ⊎ Contains (threads_in xs) a
+        → (Contains (threads_in xs) a → (d : DevNo) × (a ≡ actors.Thread d) × (list_any (is_device d) xs ≡ true))
+        → (d : DevNo) × (a ≡ actors.Thread d) × (list_any (is_device d) (x ∷ xs) ≡ true)
+    by_place (inl p) rest = (x.dev, sym (one_is (actors.Thread x.dev) a p), ap (λ b. b || list_any (is_device x.dev) xs) (same_self x.dev))
     by_place (inr p) rest = let t = rest p in (t.0, t.1, ap (λ b. same_dev t.0 x.dev || b) t.2 ∙ last (same_dev t.0 x.dev))
       where
         last : (b : Bool) → (b || true) ≡ true
         last true = refl
         last false = refl
 
-same_thread : (line : LineNo) (d e : DevNo) → ◌≡◌ {A = Actor} (actors.Thread line d) (actors.Thread line e) → d ≡ e
-same_thread line d e is = cc
+same_thread : (d e : DevNo) → ◌≡◌ {A = Actor} (actors.Thread d) (actors.Thread e) → d ≡ e
+same_thread d e is = cc
 
-threads_apart : (line : LineNo) (xs : List DeviceDef) → HasDistinctDevices xs → IsApart (threads_in line xs)
-threads_apart line [] own = tt
-threads_apart line (x ∷ xs) own = (none, threads_apart line xs own.1)
+threads_apart : (xs : List DeviceDef) → HasDistinctDevices xs → IsApart (threads_in xs)
+threads_apart [] own = tt
+threads_apart (x ∷ xs) own = (none, threads_apart xs own.1)
   where
-    none : Contains (threads_in line xs) (actors.Thread line x.dev) → ⊥
+    none : Contains (threads_in xs) (actors.Thread x.dev) → ⊥
     none c =
-        let t = thread_from line xs (actors.Thread line x.dev) c in
+        let t = thread_from xs (actors.Thread x.dev) c in
         let P : DevNo → Type 0 = λ d. list_any (is_device d) xs ≡ true in
-        let there : list_any (is_device x.dev) xs ≡ true = subst P (sym (same_thread line x.dev t.0 t.1)) t.2 in
+        let there : list_any (is_device x.dev) xs ≡ true = subst P (sym (same_thread x.dev t.0 t.1)) t.2 in
         let not_there : list_any (is_device x.dev) xs ≡ false = own.0 in
         cc
 
@@ -148,11 +147,11 @@ drivers_apart (c ∷ cs) = by_there (list_any (same_driver c.0) (drivers_in cs))
 cpu_no_driver : (c : CpuNo) (r : DriverNo) (a : Actor) → a ≡ actors.Cpu c → a ≡ actors.Driver r → ⊥
 cpu_no_driver c r a p q = let h : ◌≡◌ {A = Actor} (actors.Cpu c) (actors.Driver r) = sym p ∙ q in cc h
 
-thread_no_cpu : (line : LineNo) (d : DevNo) (c : CpuNo) (a : Actor) → a ≡ actors.Thread line d → a ≡ actors.Cpu c → ⊥
-thread_no_cpu line d c a p q = let h : ◌≡◌ {A = Actor} (actors.Thread line d) (actors.Cpu c) = sym p ∙ q in cc h
+thread_no_cpu : (d : DevNo) (c : CpuNo) (a : Actor) → a ≡ actors.Thread d → a ≡ actors.Cpu c → ⊥
+thread_no_cpu d c a p q = let h : ◌≡◌ {A = Actor} (actors.Thread d) (actors.Cpu c) = sym p ∙ q in cc h
 
-thread_no_driver : (line : LineNo) (d : DevNo) (r : DriverNo) (a : Actor) → a ≡ actors.Thread line d → a ≡ actors.Driver r → ⊥
-thread_no_driver line d r a p q = let h : ◌≡◌ {A = Actor} (actors.Thread line d) (actors.Driver r) = sym p ∙ q in cc h
+thread_no_driver : (d : DevNo) (r : DriverNo) (a : Actor) → a ≡ actors.Thread d → a ≡ actors.Driver r → ⊥
+thread_no_driver d r a p q = let h : ◌≡◌ {A = Actor} (actors.Thread d) (actors.Driver r) = sym p ∙ q in cc h
 
 module _ (def : LineDef) (valid : IsValid def) (s : StateSeen) where
   abbrev behind_taker : List Actor
@@ -182,17 +181,17 @@ module _ (def : LineDef) (valid : IsValid def) (s : StateSeen) where
       by_place a f (inr p) = let r = driver_from (drivers_in def.calls) a p in cpu_no_driver f.0 r.0 a f.1 r.1
 
   pub actors_apart : IsApart (actors_by def s.desc.flow (taker_of s) (drivers_in def.calls))
-  actors_apart = apart_append (threads_in def.line def.devices) (cpus_in s.desc.flow ++ (cpus_in (taker_of s) ++ drivers_of (drivers_in def.calls)))
-      (threads_apart def.line def.devices valid.distinct) flow_apart
-      (λ a p q. by_place a (thread_from def.line def.devices a p)
+  actors_apart = apart_append (threads_in def.devices) (cpus_in s.desc.flow ++ (cpus_in (taker_of s) ++ drivers_of (drivers_in def.calls)))
+      (threads_apart def.devices valid.distinct) flow_apart
+      (λ a p q. by_place a (thread_from def.devices a p)
       (Contains-append_cases (cpus_in s.desc.flow) (cpus_in (taker_of s) ++ drivers_of (drivers_in def.calls)) a q))
     where
-      by_last : (a : Actor) (d : DevNo) → a ≡ actors.Thread def.line d
+      by_last : (a : Actor) (d : DevNo) → a ≡ actors.Thread d
           → Contains (cpus_in (taker_of s)) a ⊎ Contains (drivers_of (drivers_in def.calls)) a → ⊥
-      by_last a d is (inl p) = let t = cpu_from (taker_of s) a p in thread_no_cpu def.line d t.0 a is t.1
-      by_last a d is (inr p) = let r = driver_from (drivers_in def.calls) a p in thread_no_driver def.line d r.0 a is r.1
+      by_last a d is (inl p) = let t = cpu_from (taker_of s) a p in thread_no_cpu d t.0 a is t.1
+      by_last a d is (inr p) = let r = driver_from (drivers_in def.calls) a p in thread_no_driver d r.0 a is r.1
 
-      by_place : (a : Actor) → (d : DevNo) × (a ≡ actors.Thread def.line d) × (list_any (is_device d) def.devices ≡ true)
+      by_place : (a : Actor) → (d : DevNo) × (a ≡ actors.Thread d) × (list_any (is_device d) def.devices ≡ true)
           → Contains (cpus_in s.desc.flow) a ⊎ Contains (cpus_in (taker_of s) ++ drivers_of (drivers_in def.calls)) a → ⊥
-      by_place a t (inl p) = let c = cpu_from s.desc.flow a p in thread_no_cpu def.line t.0 c.0 a t.1 c.1
+      by_place a t (inl p) = let c = cpu_from s.desc.flow a p in thread_no_cpu t.0 c.0 a t.1 c.1
       by_place a t (inr p) = by_last a t.0 t.1 (Contains-append_cases (cpus_in (taker_of s)) (drivers_of (drivers_in def.calls)) a p)

@@ -7,7 +7,6 @@ use Rattle.irq_base.specs.declared.entries.Entry.{Entry}
 use Rattle.irq_base.specs.declared.lines.LineDef.{LineDef}
 use Rattle.irq_base.specs.declared.numbers.CpuNo.{CpuNo}
 use Rattle.irq_base.specs.declared.numbers.DriverNo.{DriverNo}
-use Rattle.irq_base.specs.declared.numbers.LineNo.{LineNo}
 use Rattle.irq_model.specs.Legal.{IsLegalPast}
 use Rattle.irq_model.specs.Next.{next_past}
 use Rattle.line_words.specs.Node.{node}
@@ -36,9 +35,9 @@ abbrev pub cpus_in : Option CpuNo → List Actor
 cpus_in None = []
 cpus_in (Some c) = actors.Cpu c ∷ []
 
-abbrev pub threads_in : LineNo → List DeviceDef → List Actor
-threads_in line [] = []
-threads_in line (x ∷ xs) = actors.Thread line x.dev ∷ threads_in line xs
+abbrev pub threads_in : List DeviceDef → List Actor
+threads_in [] = []
+threads_in (x ∷ xs) = actors.Thread x.dev ∷ threads_in xs
 
 abbrev pub drivers_of : List DriverNo → List Actor
 drivers_of [] = []
@@ -47,4 +46,4 @@ drivers_of (r ∷ rs) = actors.Driver r ∷ drivers_of rs
 -- the threads, the processor of the flow, the one that takes, and the drivers
 abbrev pub actors_by : LineDef → Option CpuNo → Option CpuNo → List DriverNo → List Actor
 actors_by def flow taker rs =
-    threads_in def.line def.devices ++ (cpus_in flow ++ (cpus_in taker ++ drivers_of rs))
+    threads_in def.devices ++ (cpus_in flow ++ (cpus_in taker ++ drivers_of rs))

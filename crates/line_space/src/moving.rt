@@ -76,11 +76,11 @@ pub(crate) fn add_all(
 /// The threads. The only error is `NoMemory`.
 fn push_threads(actors: &mut Vec<Actor>, def: &LineDef) -> Result<(), NoMemory>
     ensures { OnOk result
-        (actors.new.items ≡ actors.old.items ++ threads_in def.now.line def.now.devices) }
+        (actors.new.items ≡ actors.old.items ++ threads_in def.now.devices) }
 {
     for i in 0..def.devices.len() {
         if let Some(device) = def.devices.get(i) {
-            actors.push(Actor::Thread(def.line, device.dev))?;
+            actors.push(Actor::Thread(device.dev))?;
         }
     }
     Ok(())

@@ -38,7 +38,7 @@ module _ (def : LineDef) (valid : IsValid def) where
 
   pub settled_none : (p : List Entry) → IsSettled def (reverse p) → NoneDue p
   settled_none p settled e due =
-      let none = ap (λ (x : List Entry). next_past def x (actor_of def.line e)) (sym (reverse-reverse p)) ∙ settled.still (actor_of def.line e) in
+      let none = ap (λ (x : List Entry). next_past def x (actor_of e)) (sym (reverse-reverse p)) ∙ settled.still (actor_of e) in
       cc
 
   at_rest : (p : List Entry) → NoneDue p → (a : Actor) → next_past def p a ≡ None

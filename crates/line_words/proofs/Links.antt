@@ -8,7 +8,11 @@ use Rattle.std.specs.Map.{remove_entry}
 use Rattle.irq_base.specs.declared.calls.Flags.{Flags}
 use Rattle.irq_base.specs.declared.entries.AffinityAnswer.TheVariants as moves
 use Rattle.irq_base.specs.declared.entries.Entry.{Entry}
-use Rattle.irq_base.specs.declared.entries.Entry.TheVariants as entries
+use Rattle.irq_base.specs.declared.entries.Entry.TheVariants as by
+use Rattle.irq_base.specs.declared.entries.CpuEntry.TheVariants as cpus
+use Rattle.irq_base.specs.declared.entries.DriverEntry.TheVariants as drivers
+use Rattle.irq_base.specs.declared.entries.CallEntry.{CallEntry}
+use Rattle.irq_base.specs.declared.entries.CallEntry.TheVariants as called
 use Rattle.irq_base.specs.declared.entries.Errno.TheVariants as errors
 use Rattle.irq_base.specs.declared.entries.LinkAnswer.TheVariants as links
 use Rattle.irq_base.specs.declared.entries.UnlinkAnswer.TheVariants as unlinks
@@ -24,7 +28,7 @@ use Rattle.act_list.specs.Lists.{flags_of, action_by}
 use Rattle.act_list.specs.declared.actions.Action.{Action}
 use Rattle.affinity.specs.Kept.{HasProcessor}
 use Rattle.line_marks.proofs.ExpectedOf.{expected}
-use Rattle.line_marks.specs.Actions.{actions_of, actions_after}
+use Rattle.line_marks.specs.Actions.{actions_of, actions_after, actions_by_call}
 use Rattle.line_marks.specs.Aim.{waiting_of}
 use Rattle.line_marks.specs.Expected.{IsExpected}
 use Rattle.line_marks.specs.State.{StateSeen, state_of}
@@ -175,9 +179,15 @@ later_by : (some later : Bool) → moves.Later ≡ cond some (cond later moves.L
 later_by true later h = refl
 later_by false later h = cc
 
+call_step : (call : CallEntry) (t : List (DevNo × Action)) → AllGo [] (flags_of t) → AllGo [] (flags_of (actions_by_call call t))
+call_step (called.Unlink (unlinks.Unlinked last) dev) t h =
+    let P : List Item → Type 0 = λ l. AllGo [] l in
+    subst P (sym (flags_less (same_dev dev) t)) (one_less (same_dev dev) [] [] (flags_of t) (record { any = λ q k. k; few = omega arith }) h)
+call_step _ t h = h
+
 module _ (def : LineDef) where
   step : (e : Entry) (s : StateSeen) → IsExpected def e s → AllGo [] (flags_of s.list.actions) → AllGo [] (flags_of (actions_after e s.list.actions))
-  step (entries.Request driver dev flags links.Linked opened) s x h =
+  step (by.Driver driver (drivers.Request flags links.Linked opened dev)) s x h =
       let t = s.list.actions in
       let b = linked_by (flags.shared && flags.noauto) (is_mismatch flags t) (flags.oneshot && not (ltb (length t) 64)) _ x.1 in
       let long = long_by t in
@@ -185,20 +195,18 @@ module _ (def : LineDef) where
       subst P (sym (flags_more t dev (action_by flags t)))
       (one_more [] (flags_of t) (dev, flags) h
       (sym (has_by dev t) ∙ x.0, sym (mismatch_by flags t) ∙ b.0, λ o. let few = few_by flags.oneshot (length t) b.1 o in omega (arith, few, long)))
-  step (entries.Unlink driver dev (unlinks.Unlinked last)) s x h =
-      let P : List Item → Type 0 = λ l. AllGo [] l in
-      subst P (sym (flags_less (same_dev dev) s.list.actions))
-      (one_less (same_dev dev) [] [] (flags_of s.list.actions) (record { any = λ q k. k; few = omega arith }) h)
-  step (entries.Request driver dev flags (links.Refused error) opened) s x h = h
-  step (entries.Unlink driver dev unlinks.NotThere) s x h = h
+  step (by.Driver driver (drivers.Request flags (links.Refused error) opened dev)) s x h = h
+  step (by.CpuCall cpu call) s x h = call_step call s.list.actions h
+  step (by.ThreadCall dev call) s x h = call_step call s.list.actions h
+  step (by.DriverCall driver call) s x h = call_step call s.list.actions h
   step _ s x h = h
 
   waits : (e : Entry) (past : List Entry) → IsExpected def e (state_of def past) → HasProcessor def.cpus (waiting_of past)
       → HasProcessor def.cpus (waiting_of (e ∷ past))
-  waits (entries.Affinity driver mask moves.Later) past x h = later_by (is_some (lowest_in def.cpus mask)) def.later x
-  waits (entries.Affinity driver mask moves.Now) past x h = tt
-  waits (entries.Affinity driver mask (moves.Refused error)) past x h = h
-  waits (entries.Take cpu way answer) past x h = tt
+  waits (by.Driver driver (drivers.Affinity moves.Later mask)) past x h = later_by (is_some (lowest_in def.cpus mask)) def.later x
+  waits (by.Driver driver (drivers.Affinity moves.Now mask)) past x h = tt
+  waits (by.Driver driver (drivers.Affinity (moves.Refused error) mask)) past x h = h
+  waits (by.Cpu cpu (cpus.Take way answer)) past x h = tt
   waits _ past x h = h
 
   module _ (valid : IsValid def) where

@@ -1,21 +1,16 @@
 -- The lowest thread that has an entry due, device by device.
-use Rattle.std.proofs.Common.{◌≡◌, ℕ, ◌≤◌, Bool, true, false, cond, nat_le, List, [], ◌∷◌, Option, Some, None, refl}
+use Rattle.std.proofs.Common.{◌≡◌, ℕ, ◌≤◌, Bool, true, false, cond, nat_le, List, [], ◌∷◌, Option, Some, None, is_some, refl}
 use Rattle.std.proofs.Common.{sym, ap, subst, ◌∙◌, arith, leb-true, leb-false, ◌⊎◌, inl, inr}
-use Rattle.std.specs.Prelude.{IsSome}
+use Rattle.std.specs.Prelude.{IsTrue}
 use Rattle.std.specs.List.{list_any}
-use Rattle.std.proofs.lemmas.Bool.{false≢true, or_cases, cond-true}
+use Rattle.std.proofs.lemmas.Bool.{false≢true, or_cases}
 use Rattle.irq_base.specs.declared.numbers.DevNo.{DevNo}
 use Rattle.irq_base.specs.declared.devices.DeviceDef.{DeviceDef}
-use Rattle.irq_base.specs.declared.entries.Actor.TheVariants as actors
 use Rattle.irq_base.specs.declared.entries.Entry.{Entry}
 use Rattle.irq_base.specs.declared.lines.LineDef.{LineDef}
-use Rattle.irq_model.specs.Lines.{is_device}
-use Rattle.irq_model.specs.Legal.{IsLegalPast}
-use Rattle.irq_model.specs.Next.{next_past, next_of_thread}
-use Rattle.irq_model.specs.Valid.{IsValid}
-use Rattle.irq_steps.proofs.Same.{dev_from_same, same_self_line}
-use Rattle.irq_laws.proofs.KeptAlways.{kept}
-use Rattle.play_laws.proofs.Listed.{thread_device}
+use Rattle.irq_model.specs.Lines.{is_device, has_device}
+use Rattle.irq_model.specs.Next.{next_of_thread}
+use Rattle.irq_steps.proofs.Same.{dev_from_same}
 use Rattle.plain_line.specs.Looked.{IsLowestAt, IsThreadDueAt, is_thread_due, lower_of}
 
 -- the lowest of so_far and of the devices that count
@@ -109,20 +104,16 @@ lowest_is p (x ∷ xs) so_far c =
     (lowest_is p xs (lower_of so_far x.dev (p x.dev)) (lower_counts p so_far x.dev (p x.dev) refl c))
 
 -- an entry of a thread is due only if the device is one of the line's
-due_device : (def : LineDef) (past : List Entry) → IsValid def → IsLegalPast def past → (d : DevNo)
-    → IsThreadDueAt def past d → list_any (is_device d) def.devices ≡ true
-due_device def past valid legal d = by_due (next_past def past (actors.Thread def.line d)) refl
+due_device : (def : LineDef) (past : List Entry) (d : DevNo) → IsThreadDueAt def past d → list_any (is_device d) def.devices ≡ true
+due_device def past d = by_test (has_device def d)
   where
-    own : next_past def past (actors.Thread def.line d) ≡ next_of_thread def d past
-    own = cond-true _ _ _ (same_self_line def.line)
+    by_test : (b : Bool) → IsTrue (is_some (cond b (next_of_thread def d past) None)) → b ≡ true
+    by_test true h = refl
+    by_test false h = absurd (false≢true h)
 
-    by_due : (o : Option Entry) → next_past def past (actors.Thread def.line d) ≡ o → IsSome o → list_any (is_device d) def.devices ≡ true
-    by_due None is h = absurd (false≢true h)
-    by_due (Some e) is h = thread_device def past d e (kept def past valid legal) (sym own ∙ is)
-
-pub lowest_found : (def : LineDef) (past : List Entry) (o : Option DevNo) → IsValid def → IsLegalPast def past
+pub lowest_found : (def : LineDef) (past : List Entry) (o : Option DevNo)
     → o ≡ lowest_of (is_thread_due def past) None def.devices → IsLowestAt def past o
-lowest_found def past o valid legal is = subst (λ (x : Option DevNo). IsLowestAt def past x) (sym is)
+lowest_found def past o is = subst (λ (x : Option DevNo). IsLowestAt def past x) (sym is)
     (found (lowest_of (is_thread_due def past) None def.devices) all.counts all.below)
   where
     all : IsLowestOf (is_thread_due def past) None def.devices
@@ -131,5 +122,5 @@ lowest_found def past o valid legal is = subst (λ (x : Option DevNo). IsLowestA
     found : (r : Option DevNo) → Counts (is_thread_due def past) r
         → ((d : DevNo) → list_any (is_device d) def.devices ≡ true → is_thread_due def past d ≡ true → Below r d)
         → IsLowestAt def past r
-    found None c below = λ d h. below d (due_device def past valid legal d h) h
-    found (Some l) c below = (c, λ d h. below d (due_device def past valid legal d h) h)
+    found None c below = λ d h. below d (due_device def past d h) h
+    found (Some l) c below = (c, λ d h. below d (due_device def past d h) h)

@@ -18,7 +18,7 @@ IsTakerAt def past taker =
 
 -- an entry is due of the device's thread
 abbrev pub is_thread_due : LineDef → List Entry → DevNo → Bool
-is_thread_due def past dev = is_some (next_past def past (actors.Thread def.line dev))
+is_thread_due def past dev = is_some (next_past def past (actors.Thread dev))
 
 abbrev pub IsThreadDueAt : LineDef → List Entry → DevNo → Type 0
 IsThreadDueAt def past dev = IsTrue (is_thread_due def past dev)

@@ -5,7 +5,7 @@ ghost use Rattle.irq_model.specs.Valid.{IsValid};
 ghost use Rattle.irq_line.specs.Queries.{is_some_take, blocks_at};
 ghost use Rattle.plain_line.specs.Looked.{IsLooked, IsTakerAt, IsLowestAt, is_thread_due, lower_of};
 
-use irq_base::{Actor, Blocks, CpuNo, DevNo, DeviceDef, Entry, LineDef, NoMemory};
+use irq_base::{Actor, Blocks, CpuEntry, CpuNo, DevNo, DeviceDef, Entry, LineDef, NoMemory};
 use plain_next::{
     any_device, flow, holds_mutex, is_being_freed, is_running, is_woken, next_past, target,
 };
@@ -57,13 +57,12 @@ fn taker(alloc: Global, def: &LineDef, past: &[Entry]) -> Result<Option<CpuNo>, 
 fn is_some_take(due: Option<Entry>) -> bool
     ensures { result ≡ is_some_take due }
 {
-    matches!(due, Some(Entry::Take { .. }))
+    matches!(due, Some(Entry::Cpu(_, CpuEntry::Take { .. })))
 }
 
 /// The lowest device by number whose thread has an entry due.
 fn lowest_thread(alloc: Global, def: &LineDef, past: &[Entry]) -> Result<Option<DevNo>, NoMemory>
     requires valid { IsValid def.now }
-    requires legal { IsLegalPast def.now past.now }
     requires few { length past.now ≤ 100000000 }
     ensures { IfOk result (IsLowestAt def.now past.now) }
 {
@@ -94,7 +93,7 @@ fn is_thread_due(alloc: Global, def: &LineDef, past: &[Entry], dev: DevNo) -> Re
     requires few { length past.now ≤ 100000000 }
     ensures { IfOk result (λ due. due ≡ is_thread_due def.now past.now dev) }
 {
-    let due = next_past(alloc, def, past, Actor::Thread(def.line, dev))?;
+    let due = next_past(alloc, def, past, Actor::Thread(dev))?;
     Ok(due.is_some())
 }
 

@@ -4,7 +4,7 @@ ghost use Rattle.irq_line.specs.Answers.{IsSaidFor};
 ghost use Rattle.irq_line.specs.Runs.{device_of, run_ended};
 
 use callbacks::{Callbacks, Handler, Said};
-use irq_base::{DevNo, DeviceDef, Entry, LineDef, Part, Run};
+use irq_base::{CpuEntry, DevNo, DeviceDef, Entry, LineDef, Part, Run, ThreadEntry};
 use plain_next::{asks_of_handler, asks_of_thread, kind_of};
 
 /// Whether the answer that was handed in is this run's answer.
@@ -67,12 +67,12 @@ fn run_ended(def: &LineDef, past: &[Entry], entry: Entry) -> Option<Run>
     ensures { result ≡ run_ended def.now past.now entry }
 {
     match entry {
-        Entry::Return { dev, .. } => Some(Run {
+        Entry::Cpu(_, CpuEntry::Return { dev, .. }) => Some(Run {
             def: device(def, dev),
             part: Part::Primary,
             unserved: asks_of_handler(def, dev, past),
         }),
-        Entry::ThreadReturn { dev, .. } => Some(Run {
+        Entry::Thread(dev, ThreadEntry::Return { .. }) => Some(Run {
             def: device(def, dev),
             part: Part::Thread,
             unserved: asks_of_thread(def, dev, past),

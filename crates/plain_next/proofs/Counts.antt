@@ -1,8 +1,11 @@
 -- The counts for the rule on spurious interrupts are at most the number of entries.
-use Rattle.std.proofs.Common.{◌≡◌, ℕ, ◌+◌, ◌≤◌, Bool, true, false, List, [], ◌∷◌, length, suc, subst, sym, arith, cond, nat_lt, ◌==◌}
+use Rattle.std.proofs.Common.{◌≡◌, ℕ, ◌+◌, ◌≤◌, Bool, true, false, List, [], ◌∷◌, length, suc, subst, sym, arith, cond, ◌==◌}
 use Rattle.irq_base.specs.declared.lines.LineDef.{LineDef}
 use Rattle.irq_base.specs.declared.entries.Entry.{Entry}
-use Rattle.irq_base.specs.declared.entries.Entry.TheVariants as entries
+use Rattle.irq_base.specs.declared.entries.Entry.TheVariants as by
+use Rattle.irq_base.specs.declared.entries.CpuEntry.TheVariants as cpus
+use Rattle.irq_base.specs.declared.entries.ThreadEntry.TheVariants as threads
+use Rattle.irq_base.specs.declared.entries.DriverEntry.TheVariants as drivers
 use Rattle.irq_base.specs.declared.entries.Note.TheVariants as notes
 use Rattle.irq_base.specs.declared.entries.LinkAnswer.TheVariants as links
 use Rattle.irq_model.specs.Spurious.{Counts, Noted, counted, unhandled, judged, judged_by_threads, noted, counts_of, now, round_wakes, round_handles}
@@ -61,11 +64,11 @@ after n c h = record {
 
 pub counts_within : (def : LineDef) (past : List Entry) → IsWithin (length past) (counts_of def past)
 counts_within def [] = record { irq_count = omega arith; irqs_unhandled = omega arith; threads_handled = omega arith }
-counts_within def (entries.ThreadReturn dev served ∷ past) =
+counts_within def (by.Thread dev (threads.Return handled served) ∷ past) =
     let c = counts_of def past in
     let h = counts_within def past in
     let served_more : Counts = record c { threads_handled = c.threads_handled + 1 } in
-    elim (nat_lt 0 served) as (λ b. IsWithin (suc (length past)) (cond b served_more c)) [
+    elim handled as (λ b. IsWithin (suc (length past)) (cond b served_more c)) [
       | true ↦ record {
         irq_count = omega (arith, h.irq_count);
         irqs_unhandled
@@ -74,10 +77,10 @@ counts_within def (entries.ThreadReturn dev served ∷ past) =
       }
       | false ↦ after (length past) c (more (length past) c h)
     ]
-counts_within def (entries.Request driver dev flags links.Linked opened ∷ past) =
+counts_within def (by.Driver driver (drivers.Request flags links.Linked opened dev) ∷ past) =
     let h = counts_within def past in
     record { irq_count = omega arith; irqs_unhandled = omega arith; threads_handled = omega (arith, h.threads_handled) }
-counts_within def (entries.End cpu again unmask note ∷ past) =
+counts_within def (by.Cpu cpu (cpus.End again unmask note) ∷ past) =
     after (length past) _ (noted_within def.window def.limit (now past) (length past) (round_wakes def past)
     (round_handles def past) (counts_of def past) (counts_within def past))
 counts_within def (_ ∷ past) = after (length past) (counts_of def past) (more (length past) (counts_of def past) (counts_within def past))

@@ -4,7 +4,8 @@ use Rattle.std.proofs.Common.{take, drop, get_or, sym, ap, ◌∙◌, arith, dro
 use Rattle.std.proofs.lemmas.List.{take-append-drop, length-take-le, get_or-take, drop-append-le}
 use Rattle.irq_base.specs.declared.lines.LineDef.{LineDef}
 use Rattle.irq_base.specs.declared.entries.Entry.{Entry}
-use Rattle.irq_base.specs.declared.entries.Entry.TheVariants as entries
+use Rattle.irq_base.specs.declared.entries.Entry.TheVariants as by
+use Rattle.irq_base.specs.declared.entries.ThreadEntry.TheVariants as threads
 use Rattle.irq_model.specs.Kinds.{is_take}
 use Rattle.irq_model.specs.Masks.{is_masked}
 use Rattle.irq_model.specs.Edges.{was_open, is_taken, is_alive, is_sent, is_sent_edge}
@@ -37,7 +38,7 @@ pub opened_more : (def : LineDef) (past : List Entry) (place i : ℕ) (o m : Boo
 opened_more def past place i o m a b l p q =
     let rest = drop place past in
     let front = drop i (take place past) in
-    let none : Entry = entries.Done (record { 0 = 0 }) in
+    let none : Entry = by.Thread (record { 0 = 0 }) threads.Done in
     let x = get_or past (i - 1) none in
     let next : suc (i - 1) ≡ i = omega arith in
     let step : drop (i - 1) (take place past) ≡ x ∷ front =

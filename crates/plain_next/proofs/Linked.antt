@@ -1,17 +1,21 @@
 -- The linked devices with one more entry.
-use Rattle.std.proofs.Common.{◌≡◌, Bool, true, false, not, ◌&&◌, ◌||◌, cond, List, [], ◌∷◌, ◌++◌, refl, sym, ap, ◌∙◌, eq-eqb}
+use Rattle.std.proofs.Common.{◌≡◌, Bool, true, false, not, ◌&&◌, ◌||◌, cond, List, [], ◌∷◌, ◌++◌, Some, is_some, refl, sym, ap, subst, ◌∙◌, eq-eqb}
 use Rattle.std.specs.List.{filter}
 use Rattle.std.proofs.lemmas.List.Elements.{filter-append, filter_agree}
 use Rattle.irq_base.specs.declared.numbers.DevNo.{DevNo}
 use Rattle.irq_base.specs.declared.numbers.DriverNo.{DriverNo}
 use Rattle.irq_base.specs.declared.calls.Flags.{Flags}
 use Rattle.irq_base.specs.declared.entries.Entry.{Entry}
-use Rattle.irq_base.specs.declared.entries.Entry.TheVariants as entries
+use Rattle.irq_base.specs.declared.entries.Entry.TheVariants as by
+use Rattle.irq_base.specs.declared.entries.DriverEntry.TheVariants as drivers
+use Rattle.irq_base.specs.declared.entries.CallEntry.{CallEntry}
+use Rattle.irq_base.specs.declared.entries.CallEntry.TheVariants as called
 use Rattle.irq_base.specs.declared.entries.Opened.{Opened}
 use Rattle.irq_base.specs.declared.entries.LinkAnswer.TheVariants as links
 use Rattle.irq_base.specs.declared.entries.UnlinkAnswer.TheVariants as unlinks
-use Rattle.irq_model.specs.Kinds.{same_dev}
+use Rattle.irq_model.specs.Kinds.{same_dev, unlinks_this}
 use Rattle.irq_model.specs.Links.{linked, requested, is_linked}
+use Rattle.plain_next.specs.Calls.{dev_linked, dev_unlinked, dev_unlinked_in}
 
 -- the devices other than d
 abbrev pub without : DevNo → List DevNo → List DevNo
@@ -41,10 +45,10 @@ pub same_self : (d : DevNo) → same_dev d d ≡ true
 same_self d = eq-eqb d.0 d.0 refl
 
 -- a request that is linked puts its device last
-pub linked_request : (driver : DriverNo) (dev : DevNo) (flags : Flags) (opened : Opened) (past : List Entry)
-    → linked (entries.Request driver dev flags links.Linked opened ∷ past) ≡ without dev (linked past) ++ dev ∷ []
-linked_request driver dev flags opened past =
-    let now = is_linked (entries.Request driver dev flags links.Linked opened ∷ past) in
+linked_more : (driver : DriverNo) (dev : DevNo) (flags : Flags) (opened : Opened) (past : List Entry)
+    → linked (by.Driver driver (drivers.Request flags links.Linked opened dev) ∷ past) ≡ without dev (linked past) ++ dev ∷ []
+linked_more driver dev flags opened past =
+    let now = is_linked (by.Driver driver (drivers.Request flags links.Linked opened dev) ∷ past) in
     let others : filter now (without dev (requested past)) ≡ without dev (linked past) =
     filter-filter now (λ x. not (same_dev x dev)) (requested past)
     ∙ (filter_agree (λ x. not (same_dev x dev) && now x) (λ x. is_linked past x && not (same_dev x dev))
@@ -54,10 +58,30 @@ linked_request driver dev flags opened past =
     filter-append now (without dev (requested past)) (dev ∷ [])
     ∙ (ap (λ ds. ds ++ filter now (dev ∷ [])) others ∙ ap (λ ds. without dev (linked past) ++ ds) itself)
 
--- an unlink takes its device out
-pub linked_unlink : (driver : DriverNo) (dev : DevNo) (last : Bool) (past : List Entry)
-    → linked (entries.Unlink driver dev (unlinks.Unlinked last) ∷ past) ≡ without dev (linked past)
-linked_unlink driver dev last past =
-    let now = is_linked (entries.Unlink driver dev (unlinks.Unlinked last) ∷ past) in
-    filter_agree now (λ x. is_linked past x && not (same_dev x dev)) (λ x. kept_else (same_dev x dev) (is_linked past x)) (requested past)
-    ∙ sym (filter-filter (λ x. not (same_dev x dev)) (is_linked past) (requested past))
+pub linked_request : (e : Entry) (dev : DevNo) (past : List Entry) → Some dev ≡ dev_linked e → linked (e ∷ past) ≡ without dev (linked past) ++ dev ∷ []
+linked_request (by.Driver driver (drivers.Request flags links.Linked opened d)) dev past h =
+    let h' : Some dev ≡ Some d = h in
+    let same : d ≡ dev = cc in
+    subst (λ x. linked (by.Driver driver (drivers.Request flags links.Linked opened d) ∷ past) ≡ without x (linked past) ++ x ∷ []) same
+    (linked_more driver d flags opened past)
+linked_request _ dev past h = let no : true ≡ false = ap is_some h in cc
+
+-- what the step of a call leaves linked
+abbrev left : CallEntry → List Entry → List DevNo
+left call past = filter (λ d. false || (not (unlinks_this d call) && is_linked past d)) (requested past)
+
+left_without : (call : CallEntry) (dev : DevNo) (past : List Entry) → Some dev ≡ dev_unlinked_in (Some call) → left call past ≡ without dev (linked past)
+left_without (called.Unlink (unlinks.Unlinked last) d) dev past h =
+    let h' : Some dev ≡ Some d = h in
+    let same : d ≡ dev = cc in
+    subst (λ x. left (called.Unlink (unlinks.Unlinked last) d) past ≡ without x (linked past)) same
+    (filter_agree _ (λ x. is_linked past x && not (same_dev x d)) (λ x. kept_else (same_dev x d) (is_linked past x)) (requested past)
+    ∙ sym (filter-filter (λ x. not (same_dev x d)) (is_linked past) (requested past)))
+left_without _ dev past h = let no : true ≡ false = ap is_some h in cc
+
+-- an unlink takes its device out, whoever makes it
+pub linked_unlink : (e : Entry) (dev : DevNo) (past : List Entry) → Some dev ≡ dev_unlinked e → linked (e ∷ past) ≡ without dev (linked past)
+linked_unlink (by.CpuCall cpu call) dev past h = left_without call dev past h
+linked_unlink (by.ThreadCall d call) dev past h = left_without call dev past h
+linked_unlink (by.DriverCall driver call) dev past h = left_without call dev past h
+linked_unlink _ dev past h = let no : true ≡ false = ap is_some h in cc

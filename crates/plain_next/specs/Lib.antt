@@ -1,3 +1,4 @@
+pub mod Calls
 pub mod MaskTable
 pub mod Passes
 pub mod Tests

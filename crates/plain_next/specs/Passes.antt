@@ -44,4 +44,4 @@ passes tests.LinkedRequest = is_linked_request
 passes (tests.Links d) = links_dev d
 passes (tests.Unlinks d) = unlinks_dev d
 passes (tests.Freed d) = is_freed d
-passes (tests.FreedBy r) = is_freed_by r
+passes (tests.FreedBy a) = is_freed_by a

@@ -7,9 +7,11 @@ ghost use Rattle.irq_model.specs.Due.{calls_by, entries_by, begins_not_there, en
 ghost use Rattle.irq_model.specs.Due.{due_of, due_call, is_being_freed_at, holds_mutex};
 
 use crate::entry_tests::EntryTest;
-use crate::kinds::is_by_driver;
+use crate::kinds::{call_of, is_by_driver, is_unlink};
 use crate::places::{has, stands};
-use irq_base::{Call, CallList, DevNo, DriverNo, Entry, LineDef, NoMemory, UnlinkAnswer};
+use irq_base::{
+    Actor, Call, CallEntry, CallList, DevNo, DriverNo, Entry, LineDef, NoMemory, UnlinkAnswer,
+};
 use std::alloc::Global;
 
 /// The driver's first call that isn't complete, and how many entries it has made.
@@ -25,7 +27,7 @@ pub fn due_call(
     Ok(due_of(&def.calls, driver, &entries))
 }
 
-/// The request mutex is held, from an unlink until the same driver has completed the free.
+/// The request mutex is held, from an unlink until its maker has completed the free.
 pub fn holds_mutex(past: &[Entry]) -> bool
     ensures { result ≡ holds_mutex past.now }
 {
@@ -75,13 +77,16 @@ fn entries_by(alloc: Global, driver: DriverNo, past: &[Entry]) -> Result<Vec<Ent
 fn begins_not_there(entries: &[Entry]) -> bool
     ensures { result ≡ begins_not_there entries.now }
 {
-    matches!(
-        entries.first(),
-        Some(Entry::Unlink {
-            answer: UnlinkAnswer::NotThere,
-            ..
-        })
-    )
+    match entries.first() {
+        Some(e) => matches!(
+            call_of(*e),
+            Some(CallEntry::Unlink {
+                answer: UnlinkAnswer::NotThere,
+                ..
+            })
+        ),
+        None => false,
+    }
 }
 
 /// How many entries a call makes, given the driver's entries from the call's first one on.
@@ -115,26 +120,20 @@ fn due_of(calls: &CallList, driver: DriverNo, entries: &[Entry]) -> Option<(Call
     None
 }
 
-/// A free of the driver is at its end among these.
+/// A free of the actor is at its end among these.
 #[tactic(auto, unfolding(crate::specs::Passes::passes))]
-fn has_freed(entries: &[Entry], driver: DriverNo) -> bool
-    ensures { result ≡ list_any (is_freed_by driver) entries.now }
+fn has_freed(entries: &[Entry], actor: Actor) -> bool
+    ensures { result ≡ list_any (is_freed_by actor) entries.now }
 {
-    has(entries, EntryTest::FreedBy(driver))
+    has(entries, EntryTest::FreedBy(actor))
 }
 
-/// The newest entry of `upto` unlinked a device, and its driver's free isn't complete.
+/// The newest entry of `upto` unlinked a device, and its maker's free isn't complete.
 fn is_being_freed_at(after: &[Entry], upto: &[Entry]) -> bool
     ensures { result ≡ is_being_freed_at after.now upto.now }
 {
-    match upto.first().copied() {
-        Some(
-            Entry::Unlink {
-                driver,
-                answer: UnlinkAnswer::Unlinked { .. },
-                ..
-            },
-        ) => !has_freed(after, driver),
-        _ => false,
+    match upto.first() {
+        Some(e) => is_unlink(*e) && !has_freed(after, e.actor()),
+        None => false,
     }
 }

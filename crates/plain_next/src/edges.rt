@@ -4,7 +4,7 @@ ghost use Rattle.irq_model.specs.Edges.{is_edge, was_open, is_sent_edge, is_take
 ghost use Rattle.irq_model.specs.Edges.{is_sent};
 ghost use Rattle.plain_next.specs.MaskTable.{IsMaskTable};
 
-use crate::kinds::{is_again, is_any_ask, is_chip_start, is_take};
+use crate::kinds::{is_again, is_chip_start, is_device_edge, is_take};
 use crate::lines::{is_edge_line, is_eoi_flow};
 use crate::masks::is_masked;
 use irq_base::{Entry, LineDef, NoMemory};
@@ -23,13 +23,13 @@ pub fn is_sent(alloc: Global, def: &LineDef, past: &[Entry]) -> Result<bool, NoM
     Ok(false)
 }
 
-/// An entry at which an edge comes: an ask, a start that the chip resends, and on the fast-EOI flow
-/// an end that retriggers.
+/// An entry at which an edge comes: one that the device makes, a start that the chip resends, and on
+/// the fast-EOI flow an end that retriggers.
 fn is_edge(def: &LineDef, entry: Entry) -> bool
     ensures { result ≡ is_edge def.now entry }
 {
     is_edge_line(def)
-        && (is_any_ask(entry) || is_chip_start(entry) || (is_eoi_flow(def) && is_again(entry)))
+        && (is_device_edge(entry) || is_chip_start(entry) || (is_eoi_flow(def) && is_again(entry)))
 }
 
 /// Whether the line is masked at each place: item `i` is for `past[i..]`, the last item for the

@@ -14,7 +14,7 @@ use crate::kinds::{
     is_thread_begin, is_thread_return, links_dev, returns_handled, returns_wake, unlinks_dev,
     wakes,
 };
-use irq_base::{DevNo, DriverNo, Entry, FlowKind, Kind, Trigger};
+use irq_base::{Actor, DevNo, Entry, FlowKind, Kind, Trigger};
 
 /// A test on one entry.
 #[derive(Clone, Copy)]
@@ -73,8 +73,8 @@ pub enum EntryTest {
     Unlinks(DevNo),
     /// The device's free is at its end.
     Freed(DevNo),
-    /// The driver's free of a device is at its end.
-    FreedBy(DriverNo),
+    /// The actor's free of a device is at its end.
+    FreedBy(Actor),
 }
 
 /// Whether the entry passes the test.
@@ -110,7 +110,7 @@ pub fn passes(test: EntryTest, entry: Entry) -> bool
         EntryTest::Links(dev) => links_dev(dev, entry),
         EntryTest::Unlinks(dev) => unlinks_dev(dev, entry),
         EntryTest::Freed(dev) => is_freed(dev, entry),
-        EntryTest::FreedBy(driver) => is_freed_by(driver, entry),
+        EntryTest::FreedBy(actor) => is_freed_by(actor, entry),
     }
 }
 

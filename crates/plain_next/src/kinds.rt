@@ -1,6 +1,6 @@
 //! Tests on one entry.
 ghost use Rattle.std.specs.Prelude.{◌≡◌};
-ghost use Rattle.irq_model.specs.Kinds.{is_any_ask, is_ask, is_begin, is_return};
+ghost use Rattle.irq_model.specs.Kinds.{is_device_edge, is_ask, is_begin, is_return};
 ghost use Rattle.irq_model.specs.Kinds.{is_begin_or_return, returns_wake, returns_handled, wakes};
 ghost use Rattle.irq_model.specs.Kinds.{is_thread_begin, is_thread_return, is_finish};
 ghost use Rattle.irq_model.specs.Kinds.{is_cleared_finish, is_done, is_take, is_resend_take};
@@ -8,47 +8,63 @@ ghost use Rattle.irq_model.specs.Kinds.{is_handle, is_busy, is_off, is_again, is
 ghost use Rattle.irq_model.specs.Kinds.{is_reopening, is_linked_request, links_dev, unlinks_dev};
 ghost use Rattle.irq_model.specs.Kinds.{is_last_unlink, opened_by_enable, opened_of, is_start};
 ghost use Rattle.irq_model.specs.Kinds.{is_chip_start, is_soft_start, is_disable, is_by_driver};
-ghost use Rattle.irq_model.specs.Kinds.{is_freed, is_freed_by};
+ghost use Rattle.irq_model.specs.Kinds.{is_unlink, is_freed, is_freed_by};
 ghost use Rattle.irq_model.specs.Links.{is_deepening, is_lowering};
+ghost use Rattle.plain_next.specs.Calls.{call_of, dev_linked, dev_unlinked};
 
 use irq_base::{
-    Actor, Answer, DevNo, DriverNo, EnableAnswer, Entry, LineNo, LinkAnswer, Note, Opened, Resend,
-    TakeAnswer, UnlinkAnswer, Way,
+    Actor, Answer, CallEntry, CpuEntry, DevNo, DriverEntry, DriverNo, EnableAnswer, Entry,
+    LinkAnswer, Note, Opened, Resend, TakeAnswer, ThreadEntry, UnlinkAnswer, Way,
 };
 
-/// A device asks for service.
-pub fn is_any_ask(entry: Entry) -> bool
-    ensures { result ≡ is_any_ask entry }
+/// The step of a call, whoever made it.
+pub fn call_of(entry: Entry) -> Option<CallEntry>
+    ensures { result ≡ call_of entry }
 {
-    matches!(entry, Entry::Ask { .. })
+    match entry {
+        Entry::CpuCall(_, call) | Entry::ThreadCall(_, call) | Entry::DriverCall(_, call) => {
+            Some(call)
+        }
+        Entry::Cpu(..) | Entry::Thread(..) | Entry::Driver(..) => None,
+    }
+}
+
+/// A device makes an edge, if the line is raised by edges.
+pub fn is_device_edge(entry: Entry) -> bool
+    ensures { result ≡ is_device_edge entry }
+{
+    matches!(entry, Entry::Driver(_, DriverEntry::Ask { edge: true, .. }))
 }
 
 /// The device asks for service.
 pub fn is_ask(dev: DevNo, entry: Entry) -> bool
     ensures { result ≡ is_ask dev entry }
 {
-    matches!(entry, Entry::Ask { dev: other, .. } if dev == other)
+    matches!(entry, Entry::Driver(_, DriverEntry::Ask { dev: other, .. }) if dev == other)
 }
 
 /// The device's handler begins.
 pub fn is_begin(dev: DevNo, entry: Entry) -> bool
     ensures { result ≡ is_begin dev entry }
 {
-    matches!(entry, Entry::Begin { dev: other, .. } if dev == other)
+    matches!(entry, Entry::Cpu(_, CpuEntry::Begin { dev: other }) if dev == other)
 }
 
 /// The device's handler returns.
 pub fn is_return(dev: DevNo, entry: Entry) -> bool
     ensures { result ≡ is_return dev entry }
 {
-    matches!(entry, Entry::Return { dev: other, .. } if dev == other)
+    matches!(entry, Entry::Cpu(_, CpuEntry::Return { dev: other, .. }) if dev == other)
 }
 
 /// A handler begins or returns.
 pub fn is_begin_or_return(entry: Entry) -> bool
     ensures { result ≡ is_begin_or_return entry }
 {
-    matches!(entry, Entry::Begin { .. } | Entry::Return { .. })
+    matches!(
+        entry,
+        Entry::Cpu(_, CpuEntry::Begin { .. } | CpuEntry::Return { .. })
+    )
 }
 
 /// A handler returns and wakes its thread.
@@ -57,10 +73,13 @@ pub fn returns_wake(entry: Entry) -> bool
 {
     matches!(
         entry,
-        Entry::Return {
-            answer: Answer::Wake,
-            ..
-        }
+        Entry::Cpu(
+            _,
+            CpuEntry::Return {
+                answer: Answer::Wake,
+                ..
+            },
+        )
     )
 }
 
@@ -70,10 +89,13 @@ pub fn returns_handled(entry: Entry) -> bool
 {
     matches!(
         entry,
-        Entry::Return {
-            answer: Answer::Handled,
-            ..
-        }
+        Entry::Cpu(
+            _,
+            CpuEntry::Return {
+                answer: Answer::Handled,
+                ..
+            },
+        )
     )
 }
 
@@ -81,49 +103,52 @@ pub fn returns_handled(entry: Entry) -> bool
 pub fn wakes(dev: DevNo, entry: Entry) -> bool
     ensures { result ≡ wakes dev entry }
 {
-    matches!(entry, Entry::Return { dev: other, answer: Answer::Wake, .. } if dev == other)
+    matches!(
+        entry,
+        Entry::Cpu(_, CpuEntry::Return { dev: other, answer: Answer::Wake, .. }) if dev == other
+    )
 }
 
 /// The device's thread handler begins.
 pub fn is_thread_begin(dev: DevNo, entry: Entry) -> bool
     ensures { result ≡ is_thread_begin dev entry }
 {
-    matches!(entry, Entry::ThreadBegin { dev: other } if dev == other)
+    matches!(entry, Entry::Thread(other, ThreadEntry::Begin) if dev == other)
 }
 
 /// The device's thread handler returns.
 pub fn is_thread_return(dev: DevNo, entry: Entry) -> bool
     ensures { result ≡ is_thread_return dev entry }
 {
-    matches!(entry, Entry::ThreadReturn { dev: other, .. } if dev == other)
+    matches!(entry, Entry::Thread(other, ThreadEntry::Return { .. }) if dev == other)
 }
 
 /// The device's thread finishes its one-shot run.
 pub fn is_finish(dev: DevNo, entry: Entry) -> bool
     ensures { result ≡ is_finish dev entry }
 {
-    matches!(entry, Entry::Finish { dev: other, .. } if dev == other)
+    matches!(entry, Entry::Thread(other, ThreadEntry::Finish { .. }) if dev == other)
 }
 
 /// The device's thread gives its bit up.
 pub fn is_cleared_finish(dev: DevNo, entry: Entry) -> bool
     ensures { result ≡ is_cleared_finish dev entry }
 {
-    matches!(entry, Entry::Finish { dev: other, kept: false, .. } if dev == other)
+    matches!(entry, Entry::Thread(other, ThreadEntry::Finish { kept: false, .. }) if dev == other)
 }
 
 /// The device's thread is done with its run.
 pub fn is_done(dev: DevNo, entry: Entry) -> bool
     ensures { result ≡ is_done dev entry }
 {
-    matches!(entry, Entry::Done { dev: other } if dev == other)
+    matches!(entry, Entry::Thread(other, ThreadEntry::Done) if dev == other)
 }
 
 /// A processor takes an interrupt.
 pub fn is_take(entry: Entry) -> bool
     ensures { result ≡ is_take entry }
 {
-    matches!(entry, Entry::Take { .. })
+    matches!(entry, Entry::Cpu(_, CpuEntry::Take { .. }))
 }
 
 /// A processor takes a software resend.
@@ -132,10 +157,13 @@ pub fn is_resend_take(entry: Entry) -> bool
 {
     matches!(
         entry,
-        Entry::Take {
-            way: Way::Resend,
-            ..
-        }
+        Entry::Cpu(
+            _,
+            CpuEntry::Take {
+                way: Way::Resend,
+                ..
+            },
+        )
     )
 }
 
@@ -145,10 +173,13 @@ pub fn is_handle(entry: Entry) -> bool
 {
     matches!(
         entry,
-        Entry::Take {
-            answer: TakeAnswer::Handle,
-            ..
-        }
+        Entry::Cpu(
+            _,
+            CpuEntry::Take {
+                answer: TakeAnswer::Handle,
+                ..
+            },
+        )
     )
 }
 
@@ -158,10 +189,13 @@ pub fn is_busy(entry: Entry) -> bool
 {
     matches!(
         entry,
-        Entry::Take {
-            answer: TakeAnswer::Busy,
-            ..
-        }
+        Entry::Cpu(
+            _,
+            CpuEntry::Take {
+                answer: TakeAnswer::Busy,
+                ..
+            },
+        )
     )
 }
 
@@ -171,10 +205,13 @@ pub fn is_off(entry: Entry) -> bool
 {
     matches!(
         entry,
-        Entry::Take {
-            answer: TakeAnswer::Off,
-            ..
-        }
+        Entry::Cpu(
+            _,
+            CpuEntry::Take {
+                answer: TakeAnswer::Off,
+                ..
+            },
+        )
     )
 }
 
@@ -182,14 +219,14 @@ pub fn is_off(entry: Entry) -> bool
 pub fn is_again(entry: Entry) -> bool
     ensures { result ≡ is_again entry }
 {
-    matches!(entry, Entry::End { again: true, .. })
+    matches!(entry, Entry::Cpu(_, CpuEntry::End { again: true, .. }))
 }
 
 /// An end that leaves.
 pub fn is_leave(entry: Entry) -> bool
     ensures { result ≡ is_leave entry }
 {
-    matches!(entry, Entry::End { again: false, .. })
+    matches!(entry, Entry::Cpu(_, CpuEntry::End { again: false, .. }))
 }
 
 /// An end whose note disables the line.
@@ -198,10 +235,13 @@ pub fn is_kill(entry: Entry) -> bool
 {
     matches!(
         entry,
-        Entry::End {
-            note: Note::Killed,
-            ..
-        }
+        Entry::Cpu(
+            _,
+            CpuEntry::End {
+                note: Note::Killed,
+                ..
+            },
+        )
     )
 }
 
@@ -211,7 +251,8 @@ pub fn is_reopening(entry: Entry) -> bool
 {
     matches!(
         entry,
-        Entry::End { unmask: true, .. } | Entry::Finish { unmask: true, .. }
+        Entry::Cpu(_, CpuEntry::End { unmask: true, .. })
+            | Entry::Thread(_, ThreadEntry::Finish { unmask: true, .. })
     )
 }
 
@@ -221,10 +262,13 @@ pub fn is_linked_request(entry: Entry) -> bool
 {
     matches!(
         entry,
-        Entry::Request {
-            answer: LinkAnswer::Linked,
-            ..
-        }
+        Entry::Driver(
+            _,
+            DriverEntry::Request {
+                answer: LinkAnswer::Linked,
+                ..
+            },
+        )
     )
 }
 
@@ -232,7 +276,43 @@ pub fn is_linked_request(entry: Entry) -> bool
 pub fn links_dev(dev: DevNo, entry: Entry) -> bool
     ensures { result ≡ links_dev dev entry }
 {
-    matches!(entry, Entry::Request { dev: other, answer: LinkAnswer::Linked, .. } if dev == other)
+    matches!(
+        entry,
+        Entry::Driver(_, DriverEntry::Request { dev: other, answer: LinkAnswer::Linked, .. })
+            if dev == other
+    )
+}
+
+/// The device of a request that was linked.
+pub fn dev_linked(entry: Entry) -> Option<DevNo>
+    ensures { result ≡ dev_linked entry }
+{
+    match entry {
+        Entry::Driver(
+            _,
+            DriverEntry::Request {
+                dev,
+                answer: LinkAnswer::Linked,
+                ..
+            },
+        ) => Some(dev),
+        _ => None,
+    }
+}
+
+/// The device that was unlinked.
+pub fn dev_unlinked(entry: Entry) -> Option<DevNo>
+    ensures { result ≡ dev_unlinked entry }
+{
+    match call_of(entry) {
+        Some(
+            CallEntry::Unlink {
+                dev,
+                answer: UnlinkAnswer::Unlinked { .. },
+            },
+        ) => Some(dev),
+        _ => None,
+    }
 }
 
 /// The device was unlinked.
@@ -240,8 +320,9 @@ pub fn unlinks_dev(dev: DevNo, entry: Entry) -> bool
     ensures { result ≡ unlinks_dev dev entry }
 {
     matches!(
-        entry,
-        Entry::Unlink { dev: other, answer: UnlinkAnswer::Unlinked { .. }, .. } if dev == other
+        call_of(entry),
+        Some(CallEntry::Unlink { dev: other, answer: UnlinkAnswer::Unlinked { .. } })
+            if dev == other
     )
 }
 
@@ -250,11 +331,11 @@ pub fn is_last_unlink(entry: Entry) -> bool
     ensures { result ≡ is_last_unlink entry }
 {
     matches!(
-        entry,
-        Entry::Unlink {
+        call_of(entry),
+        Some(CallEntry::Unlink {
             answer: UnlinkAnswer::Unlinked { last: true },
             ..
-        }
+        })
     )
 }
 
@@ -273,9 +354,11 @@ pub fn opened_by_enable(answer: EnableAnswer) -> Opened
 fn opened_of(entry: Entry) -> Opened
     ensures { result ≡ opened_of entry }
 {
-    match entry {
-        Entry::Enable { answer, .. } => opened_by_enable(answer),
-        Entry::Request { opened, .. } => opened,
+    if let Entry::Driver(_, DriverEntry::Request { opened, .. }) = entry {
+        return opened;
+    }
+    match call_of(entry) {
+        Some(CallEntry::Enable { answer }) => opened_by_enable(answer),
         _ => Opened::No,
     }
 }
@@ -315,7 +398,7 @@ pub fn is_soft_start(entry: Entry) -> bool
 pub fn is_disable(entry: Entry) -> bool
     ensures { result ≡ is_disable entry }
 {
-    matches!(entry, Entry::Disable { .. })
+    matches!(call_of(entry), Some(CallEntry::Disable))
 }
 
 /// A disable, or an end whose note disables the line.
@@ -336,19 +419,32 @@ pub fn is_lowering(entry: Entry) -> bool
 pub fn is_by_driver(driver: DriverNo, entry: Entry) -> bool
     ensures { result ≡ is_by_driver driver entry }
 {
-    matches!(entry.actor(LineNo(0)), Actor::Driver(other) if driver == other)
+    matches!(entry.actor(), Actor::Driver(other) if driver == other)
 }
 
-/// The driver's free of a device is at its end.
-pub fn is_freed_by(driver: DriverNo, entry: Entry) -> bool
-    ensures { result ≡ is_freed_by driver entry }
+/// The actor's free of a device is at its end.
+pub fn is_freed_by(actor: Actor, entry: Entry) -> bool
+    ensures { result ≡ is_freed_by actor entry }
 {
-    matches!(entry, Entry::Freed { driver: other, .. } if driver == other)
+    actor == entry.actor() && matches!(call_of(entry), Some(CallEntry::Freed { .. }))
+}
+
+/// A device was unlinked.
+pub fn is_unlink(entry: Entry) -> bool
+    ensures { result ≡ is_unlink entry }
+{
+    matches!(
+        call_of(entry),
+        Some(CallEntry::Unlink {
+            answer: UnlinkAnswer::Unlinked { .. },
+            ..
+        })
+    )
 }
 
 /// The device's free is at its end.
 pub fn is_freed(dev: DevNo, entry: Entry) -> bool
     ensures { result ≡ is_freed dev entry }
 {
-    matches!(entry, Entry::Freed { dev: other, .. } if dev == other)
+    matches!(call_of(entry), Some(CallEntry::Freed { dev: other }) if dev == other)
 }

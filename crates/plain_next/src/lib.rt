@@ -15,6 +15,7 @@ mod lines;
 mod links;
 mod masks;
 mod next;
+mod next_call;
 mod next_cpu;
 mod next_driver;
 mod next_thread;

@@ -5,7 +5,7 @@ ghost use Rattle.irq_base.specs.declared.numbers.DevNo.{DevNo};
 ghost use Rattle.irq_model.specs.Places.{count_of};
 ghost use Rattle.plain_next.specs.Tests.{Computes};
 ghost use Rattle.irq_model.specs.Lines.{is_edge_line, is_level_line, is_eoi_flow, serves};
-ghost use Rattle.irq_model.specs.Lines.{kind_in, kind_of, is_in_mask};
+ghost use Rattle.irq_model.specs.Lines.{has_device, kind_in, kind_of, is_in_mask};
 
 use irq_base::{DevNo, DeviceDef, DeviceList, FlowKind, Kind, LineDef, Trigger};
 
@@ -67,6 +67,13 @@ pub fn kind_of(def: &LineDef, dev: DevNo) -> Kind
     ensures { result ≡ kind_of def.now dev }
 {
     kind_in(&def.devices, dev)
+}
+
+/// The line has the device.
+pub fn has_device(def: &LineDef, dev: DevNo) -> bool
+    ensures { result ≡ has_device def.now dev }
+{
+    any_device(def, |other| dev == other)
 }
 
 /// The processor with this number is in the mask.

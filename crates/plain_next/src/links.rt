@@ -9,9 +9,9 @@ ghost use Rattle.irq_model.specs.Links.{base, depth, is_disabled, flags_in, link
 ghost use Rattle.irq_model.specs.Links.{is_oneshot, has_spurious_mark};
 
 use crate::entry_tests::EntryTest;
-use crate::kinds::{is_last_unlink, is_linked_request, is_start};
+use crate::kinds::{dev_linked, dev_unlinked, is_last_unlink, is_linked_request, is_start};
 use crate::places::{count_of, last_of, stands};
-use irq_base::{DevNo, Entry, Flags, LinkAnswer, NoMemory, UnlinkAnswer};
+use irq_base::{DevNo, DriverEntry, Entry, Flags, NoMemory};
 use std::alloc::Global;
 
 /// The device was linked, and not unlinked since.
@@ -45,13 +45,9 @@ fn request(devices: &mut Vec<DevNo>, entry: Entry) -> Result<(), NoMemory>
         ((past : List Entry) → devices.old.items ≡ requested past
         → devices.new.items ≡ requested (entry ∷ past)) }
 {
-    match entry {
-        Entry::Request {
-            dev,
-            answer: LinkAnswer::Linked,
-            ..
-        } => put_last(devices, dev),
-        _ => Ok(()),
+    match dev_linked(entry) {
+        Some(dev) => put_last(devices, dev),
+        None => Ok(()),
     }
 }
 
@@ -89,18 +85,10 @@ fn link_or_unlink(devices: &mut Vec<DevNo>, entry: Entry) -> Result<(), NoMemory
         ((past : List Entry) → devices.old.items ≡ linked past
         → devices.new.items ≡ linked (entry ∷ past)) }
 {
-    match entry {
-        Entry::Request {
-            dev,
-            answer: LinkAnswer::Linked,
-            ..
-        } => put_last(devices, dev)?,
-        Entry::Unlink {
-            dev,
-            answer: UnlinkAnswer::Unlinked { .. },
-            ..
-        } => take_out(devices, dev),
-        _ => {}
+    if let Some(dev) = dev_linked(entry) {
+        put_last(devices, dev)?;
+    } else if let Some(dev) = dev_unlinked(entry) {
+        take_out(devices, dev);
     }
     Ok(())
 }
@@ -171,7 +159,7 @@ fn flags_in(entry: Option<Entry>) -> Flags
     ensures { result ≡ flags_in entry }
 {
     match entry {
-        Some(Entry::Request { flags, .. }) => flags,
+        Some(Entry::Driver(_, DriverEntry::Request { flags, .. })) => flags,
         _ => Flags::NONE,
     }
 }

@@ -2,10 +2,11 @@
 ghost use Rattle.std.specs.Prelude.{◌≡◌, ◌+◌, ◌<◌, ◌≤◌, ◌∷◌, drop, length, reverse, IfOk};
 ghost use Rattle.irq_model.specs.Next.{next, next_past};
 
+use crate::lines::has_device;
 use crate::next_cpu::next_of_cpu;
 use crate::next_driver::next_of_driver;
 use crate::next_thread::next_of_thread;
-use irq_base::{Actor, DevNo, Entry, History, LineDef, LineNo, NoMemory};
+use irq_base::{Actor, DevNo, Entry, History, LineDef, NoMemory};
 use std::alloc::Global;
 
 /// The entries of the history, the newest first.
@@ -32,7 +33,7 @@ pub fn next_past(
     ensures { IfOk result (λ entry. entry ≡ next_past def.now past.now actor) }
 {
     match actor {
-        Actor::Thread(line, d) => next_of_line_thread(alloc, def, line, d, past),
+        Actor::Thread(d) => next_of_own_thread(alloc, def, d, past),
         Actor::Cpu(c) => next_of_cpu(alloc, def, c, past),
         Actor::Driver(r) => next_of_driver(alloc, def, r, past),
     }
@@ -76,18 +77,17 @@ fn entry_at(history: &History, place: usize) -> Entry
     }
 }
 
-/// The entry that is due for the thread of the line's device; none for a thread of another line.
-fn next_of_line_thread(
+/// The entry that is due for the thread of the device; none if the line lacks the device.
+fn next_of_own_thread(
     alloc: Global,
     def: &LineDef,
-    line: LineNo,
     dev: DevNo,
     past: &[Entry],
 ) -> Result<Option<Entry>, NoMemory>
     requires { length past.now ≤ 100000000 }
-    ensures { IfOk result (λ entry. entry ≡ next_past def.now past.now (Actor.Thread line dev)) }
+    ensures { IfOk result (λ entry. entry ≡ next_past def.now past.now (Actor.Thread dev)) }
 {
-    if line != def.line {
+    if !has_device(def, dev) {
         return Ok(None);
     }
     next_of_thread(alloc, def, dev, past)

@@ -18,7 +18,8 @@ use crate::spurious::note_of;
 use crate::threads::is_some_unfinished;
 use crate::waiting::{is_pending, is_soft};
 use irq_base::{
-    Answer, CpuNo, DevNo, Entry, FlowKind, Kind, LineDef, NoMemory, Note, Part, TakeAnswer, Way,
+    Answer, CpuEntry, CpuNo, DevNo, Entry, FlowKind, Kind, LineDef, NoMemory, Note, Part,
+    TakeAnswer, Way,
 };
 use std::alloc::Global;
 
@@ -62,12 +63,16 @@ fn return_of(def: &LineDef, cpu: CpuNo, dev: DevNo, past: &[Entry]) -> Entry
 {
     let kind = kind_of(def, dev);
     let unserved = asks_of_handler(def, dev, past);
-    Entry::Return {
+    let answer = primary_answer(kind, unserved);
+    let served = served_by_handler(kind, unserved);
+    Entry::Cpu(
         cpu,
-        dev,
-        answer: primary_answer(kind, unserved),
-        served: served_by_handler(kind, unserved),
-    }
+        CpuEntry::Return {
+            answer,
+            dev,
+            served,
+        },
+    )
 }
 
 /// Disabled already, or by this very note.
@@ -83,24 +88,30 @@ fn is_off_now(alloc: Global, past: &[Entry], note: Note) -> Result<bool, NoMemor
 fn end_edge(def: &LineDef, cpu: CpuNo, past: &[Entry], note: Note, again: bool) -> Entry
     ensures { result ≡ end_edge def.now cpu past.now note again }
 {
-    Entry::End {
+    let unmask = again && is_masked(def, past);
+    Entry::Cpu(
         cpu,
-        again,
-        unmask: again && is_masked(def, past),
-        note,
-    }
+        CpuEntry::End {
+            again,
+            unmask,
+            note,
+        },
+    )
 }
 
 /// The end of a flow that may open the line, unless a thread still holds it.
 fn end_level(def: &LineDef, cpu: CpuNo, past: &[Entry], note: Note, may_open: bool) -> Entry
     ensures { result ≡ end_level def.now cpu past.now note may_open }
 {
-    Entry::End {
+    let unmask = may_open && is_masked(def, past) && !is_some_unfinished(def, past);
+    Entry::Cpu(
         cpu,
-        again: false,
-        unmask: may_open && is_masked(def, past) && !is_some_unfinished(def, past),
-        note,
-    }
+        CpuEntry::End {
+            again: false,
+            unmask,
+            note,
+        },
+    )
 }
 
 /// The flow's end: the edge flow goes on with what is pending; the level flow opens the line; the
@@ -119,12 +130,14 @@ fn end_by_flow(
     Ok(match def.flow {
         FlowKind::Edge => end_edge(def, cpu, past, note, is_pending(def, past) && !off),
         FlowKind::Level => end_level(def, cpu, past, note, !off),
-        FlowKind::Eoi if is_edge_line(def) => Entry::End {
+        FlowKind::Eoi if is_edge_line(def) => Entry::Cpu(
             cpu,
-            again: is_pending(def, past) && !off,
-            unmask: false,
-            note,
-        },
+            CpuEntry::End {
+                again: is_pending(def, past) && !off,
+                unmask: false,
+                note,
+            },
+        ),
         FlowKind::Eoi => end_level(def, cpu, past, note, !off && is_oneshot(past)),
     })
 }
@@ -149,7 +162,7 @@ fn begin_or_end(
     ensures { IfOk result (λ entry. entry ≡ begin_or_end def.now cpu past.now left) }
 {
     match left {
-        Some(d) => Ok(Entry::Begin { cpu, dev: d }),
+        Some(dev) => Ok(Entry::Cpu(cpu, CpuEntry::Begin { dev })),
         None => end_of(alloc, def, cpu, past),
     }
 }
@@ -221,7 +234,7 @@ fn next_take(
     } else {
         return Ok(None);
     };
-    Ok(Some(Entry::Take { cpu, way, answer }))
+    Ok(Some(Entry::Cpu(cpu, CpuEntry::Take { way, answer })))
 }
 
 /// The entry that is due for the processor.

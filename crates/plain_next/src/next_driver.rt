@@ -1,25 +1,20 @@
 //! The rows of the table for drivers.
-ghost use Rattle.std.specs.Prelude.{◌≡◌, ◌≤◌, length, IfOk, Some};
+ghost use Rattle.std.specs.Prelude.{◌≡◌, ◌≤◌, length, IfOk, Some, option_map};
 ghost use Rattle.std.specs.List.{list_any};
-ghost use Rattle.irq_model.specs.Next.{resend_of, enable_answer, flags_differ, same_flag};
-ghost use Rattle.irq_model.specs.Next.{link_answer, opened_by_request, request_of, is_only};
-ghost use Rattle.irq_model.specs.Next.{unlink_answer, affinity_answer, hard_clear_of, synced_of};
-ghost use Rattle.irq_model.specs.Next.{freed_of, next_of_sync, next_of_disable, next_of_free};
-ghost use Rattle.irq_model.specs.Next.{next_of_request, next_of_call};
+ghost use Rattle.irq_model.specs.Next.{flags_differ, same_flag, link_answer, opened_by_request};
+ghost use Rattle.irq_model.specs.Next.{request_of, affinity_answer, next_of_request, next_of_call};
 ghost use Rattle.irq_model.specs.Due.{due_call};
 ghost use Rattle.irq_model.specs.Links.{linking_flags};
 
 use crate::due::{due_call, holds_mutex};
 use crate::kinds::opened_by_enable;
-use crate::lines::{is_edge_line, kind_of};
-use crate::links::{depth, has_spurious_mark, is_linked, is_none_linked, linked, linking_flags};
-use crate::rounds::has_flow;
+use crate::lines::kind_of;
+use crate::links::{has_spurious_mark, is_none_linked, linked, linking_flags};
+use crate::next_call::{enable_answer, next_of_disable, next_of_free, next_of_sync, resend_of};
 use crate::signal::lowest_in;
-use crate::threads::{active_count, is_running, is_woken};
-use crate::waiting::is_pending;
 use irq_base::{
-    AffinityAnswer, Call, DevNo, DriverNo, EnableAnswer, Entry, Errno, Flags, Kind, LineDef,
-    LinkAnswer, NoMemory, Opened, Resend, UnlinkAnswer,
+    AffinityAnswer, Call, CallEntry, DevNo, DriverEntry, DriverNo, Entry, Errno, Flags, Kind,
+    LineDef, LinkAnswer, NoMemory, Opened,
 };
 use std::alloc::Global;
 
@@ -40,36 +35,6 @@ pub fn next_of_driver(
         Some((call, n)) => next_of_call(alloc, def, driver, past, call, n),
         None => Ok(None),
     }
-}
-
-/// How a start sends again what is pending; a level shows by itself.
-fn resend_of(def: &LineDef, past: &[Entry]) -> Resend
-    ensures { result ≡ resend_of def.now past.now }
-{
-    if !(is_edge_line(def) && is_pending(def, past)) {
-        Resend::No
-    } else if def.retriggers {
-        Resend::Chip
-    } else {
-        Resend::Soft
-    }
-}
-
-/// What an enable answers.
-fn enable_answer(alloc: Global, def: &LineDef, past: &[Entry]) -> Result<EnableAnswer, NoMemory>
-    requires { length past.now ≤ 100000000 }
-    ensures { IfOk result (λ answer. answer ≡ enable_answer def.now past.now) }
-{
-    if is_none_linked(alloc, past)? {
-        return Ok(EnableAnswer::Unbalanced);
-    }
-    Ok(match depth(alloc, past)? {
-        0 => EnableAnswer::Unbalanced,
-        1 => EnableAnswer::Started {
-            resend: resend_of(def, past),
-        },
-        _ => EnableAnswer::Lowered,
-    })
 }
 
 fn is_same_flag(new: bool, old: bool) -> bool
@@ -163,36 +128,15 @@ fn request_of(
         LinkAnswer::Linked => opened_by_request(alloc, def, flags, past)?,
         LinkAnswer::Refused(_) => Opened::No,
     };
-    Ok(Entry::Request {
+    Ok(Entry::Driver(
         driver,
-        dev,
-        flags,
-        answer,
-        opened,
-    })
-}
-
-/// The device is linked, and nothing else is.
-fn is_only(dev: DevNo, devices: &[DevNo]) -> bool
-    ensures { result ≡ is_only dev devices.now }
-{
-    match devices {
-        [only] => dev == *only,
-        _ => false,
-    }
-}
-
-/// What a free finds.
-fn unlink_answer(alloc: Global, dev: DevNo, past: &[Entry]) -> Result<UnlinkAnswer, NoMemory>
-    ensures { IfOk result (λ answer. answer ≡ unlink_answer dev past.now) }
-{
-    if !is_linked(past, dev) {
-        return Ok(UnlinkAnswer::NotThere);
-    }
-    let devices = linked(alloc, past)?;
-    Ok(UnlinkAnswer::Unlinked {
-        last: is_only(dev, &devices),
-    })
+        DriverEntry::Request {
+            flags,
+            answer,
+            opened,
+            dev,
+        },
+    ))
 }
 
 /// What a change of affinity answers.
@@ -206,89 +150,6 @@ fn affinity_answer(def: &LineDef, mask: u32) -> AffinityAnswer
         AffinityAnswer::Later
     } else {
         AffinityAnswer::Now
-    }
-}
-
-/// The hard clear, once no flow is in progress.
-fn hard_clear_of(def: &LineDef, driver: DriverNo, past: &[Entry]) -> Option<Entry>
-    ensures { result ≡ hard_clear_of def.now driver past.now }
-{
-    if has_flow(def, past) {
-        None
-    } else {
-        Some(Entry::HardClear { driver })
-    }
-}
-
-/// The end of a synchronization, once no thread is woken or in a run.
-fn synced_of(def: &LineDef, driver: DriverNo, past: &[Entry]) -> Option<Entry>
-    requires { length def.now.devices ≤ 256 }
-    ensures { result ≡ synced_of def.now driver past.now }
-{
-    if active_count(def, past) == 0 {
-        Some(Entry::Synced { driver })
-    } else {
-        None
-    }
-}
-
-/// The end of a free, once the device's thread is at rest.
-fn freed_of(driver: DriverNo, dev: DevNo, past: &[Entry]) -> Option<Entry>
-    ensures { result ≡ freed_of driver dev past.now }
-{
-    if is_woken(past, dev) || is_running(past, dev) {
-        None
-    } else {
-        Some(Entry::Freed { driver, dev })
-    }
-}
-
-/// The next entry of a synchronization that has made `n` entries.
-fn next_of_sync(def: &LineDef, driver: DriverNo, n: usize, past: &[Entry]) -> Option<Entry>
-    requires { length def.now.devices ≤ 256 }
-    ensures { result ≡ next_of_sync def.now driver n past.now }
-{
-    match n {
-        0 => hard_clear_of(def, driver, past),
-        _ => synced_of(def, driver, past),
-    }
-}
-
-/// The next entry of a disable that has made `n` entries.
-fn next_of_disable(def: &LineDef, driver: DriverNo, n: usize, past: &[Entry]) -> Option<Entry>
-    requires { length def.now.devices ≤ 256 }
-    ensures { result ≡ next_of_disable def.now driver n past.now }
-{
-    match n {
-        0 => Some(Entry::Disable { driver }),
-        1 => hard_clear_of(def, driver, past),
-        _ => synced_of(def, driver, past),
-    }
-}
-
-/// The next entry of a free that has made `n` entries.
-fn next_of_free(
-    alloc: Global,
-    def: &LineDef,
-    driver: DriverNo,
-    dev: DevNo,
-    n: usize,
-    past: &[Entry],
-) -> Result<Option<Entry>, NoMemory>
-    ensures { IfOk result (λ entry. entry ≡ next_of_free def.now driver dev n past.now) }
-{
-    match n {
-        0 if holds_mutex(past) => Ok(None),
-        0 => {
-            let answer = unlink_answer(alloc, dev, past)?;
-            Ok(Some(Entry::Unlink {
-                driver,
-                dev,
-                answer,
-            }))
-        }
-        1 => Ok(hard_clear_of(def, driver, past)),
-        _ => Ok(freed_of(driver, dev, past)),
     }
 }
 
@@ -310,6 +171,13 @@ fn next_of_request(
     Ok(Some(request_of(alloc, def, driver, dev, flags, past)?))
 }
 
+/// The step, made by the driver.
+fn by_driver(driver: DriverNo, step: Option<CallEntry>) -> Option<Entry>
+    ensures { result ≡ option_map (Entry.DriverCall driver) step }
+{
+    Some(Entry::DriverCall(driver, step?))
+}
+
 /// The next entry of the driver's due call, which has made `n` entries.
 fn next_of_call(
     alloc: Global,
@@ -325,21 +193,20 @@ fn next_of_call(
     ensures { IfOk result (λ entry. entry ≡ next_of_call def.now driver past.now (Some (call, n))) }
 {
     Ok(match call {
-        Call::Ask { dev } => Some(Entry::Ask { driver, dev }),
+        Call::Ask { dev } => Some(Entry::Driver(driver, DriverEntry::Ask { edge: true, dev })),
         Call::Request { dev, flags } => next_of_request(alloc, def, driver, dev, flags, past)?,
-        Call::Free { dev } => next_of_free(alloc, def, driver, dev, n, past)?,
-        Call::Disable => next_of_disable(def, driver, n, past),
-        Call::DisableNosync => Some(Entry::Disable { driver }),
-        Call::Enable => Some(Entry::Enable {
-            driver,
-            answer: enable_answer(alloc, def, past)?,
-        }),
-        Call::Sync => next_of_sync(def, driver, n, past),
-        Call::Affinity { mask } => Some(Entry::Affinity {
-            driver,
-            mask,
-            answer: affinity_answer(def, mask),
-        }),
-        Call::Moment { at } => Some(Entry::Moment { driver, at }),
+        Call::Free { dev } => by_driver(driver, next_of_free(alloc, def, dev, n, past)?),
+        Call::Disable => by_driver(driver, next_of_disable(def, n, past)),
+        Call::DisableNosync => Some(Entry::DriverCall(driver, CallEntry::Disable)),
+        Call::Enable => {
+            let answer = enable_answer(alloc, def, past)?;
+            Some(Entry::DriverCall(driver, CallEntry::Enable { answer }))
+        }
+        Call::Sync => by_driver(driver, next_of_sync(def, n, past)),
+        Call::Affinity { mask } => {
+            let answer = affinity_answer(def, mask);
+            Some(Entry::Driver(driver, DriverEntry::Affinity { answer, mask }))
+        }
+        Call::Moment { at } => Some(Entry::Driver(driver, DriverEntry::Moment { at })),
     })
 }

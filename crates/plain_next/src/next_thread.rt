@@ -4,7 +4,7 @@ ghost use Rattle.std.specs.List.{list_any};
 ghost use Rattle.irq_model.specs.Places.{since};
 ghost use Rattle.irq_model.specs.Kinds.{is_finish, is_thread_begin, is_thread_return};
 ghost use Rattle.irq_model.specs.Next.{asks_of_thread, finish_unmasks, finish_or_done};
-ghost use Rattle.irq_model.specs.Next.{next_of_thread};
+ghost use Rattle.irq_model.specs.Next.{next_of_thread, thread_return};
 
 use crate::asks::unserved_asks;
 use crate::entry_tests::EntryTest;
@@ -13,7 +13,7 @@ use crate::masks::is_masked;
 use crate::places::{before, has, since};
 use crate::rounds::has_flow;
 use crate::threads::{is_other_unfinished, is_running, is_woken};
-use irq_base::{DevNo, Entry, LineDef, NoMemory};
+use irq_base::{DevNo, Entry, LineDef, NoMemory, ThreadEntry};
 use std::alloc::Global;
 
 /// How many asks were unserved as the thread's run began.
@@ -41,6 +41,14 @@ fn has_finished(past: &[Entry], dev: DevNo) -> bool
 {
     let returned = since(past, EntryTest::ThreadReturn(dev));
     has(returned, EntryTest::Finish(dev))
+}
+
+/// The return of the thread's handler, whose answer is IRQ_HANDLED if the run served.
+fn thread_return(dev: DevNo, served: u32) -> Entry
+    ensures { result ≡ thread_return dev served }
+{
+    let handled = served > 0;
+    Entry::Thread(dev, ThreadEntry::Return { handled, served })
 }
 
 /// Whether a finish unmasks the line.
@@ -74,17 +82,14 @@ fn finish_or_done(
     ensures { IfOk result (λ entry. entry ≡ finish_or_done def.now dev past.now) }
 {
     if !is_oneshot(past) || has_finished(past, dev) {
-        return Ok(Some(Entry::Done { dev }));
+        return Ok(Some(Entry::Thread(dev, ThreadEntry::Done)));
     }
     if has_flow(def, past) {
         return Ok(None);
     }
     let unmask = finish_unmasks(alloc, def, dev, past)?;
-    Ok(Some(Entry::Finish {
-        dev,
-        kept: is_woken(past, dev),
-        unmask,
-    }))
+    let kept = is_woken(past, dev);
+    Ok(Some(Entry::Thread(dev, ThreadEntry::Finish { kept, unmask })))
 }
 
 /// The entry that is due for the device's thread.
@@ -98,13 +103,11 @@ pub fn next_of_thread(
     ensures { IfOk result (λ entry. entry ≡ next_of_thread def.now dev past.now) }
 {
     if !is_running(past, dev) {
-        return Ok(is_woken(past, dev).then_some(Entry::ThreadBegin { dev }));
+        return Ok(is_woken(past, dev).then_some(Entry::Thread(dev, ThreadEntry::Begin)));
     }
     if !has_returned(past, dev) {
-        return Ok(Some(Entry::ThreadReturn {
-            dev,
-            served: asks_of_thread(def, dev, past),
-        }));
+        let served = asks_of_thread(def, dev, past);
+        return Ok(Some(thread_return(dev, served)));
     }
     finish_or_done(alloc, def, dev, past)
 }

@@ -5,7 +5,7 @@ ghost use Rattle.irq_model.specs.Rounds.{first_left, dev_of_begin, at_work};
 
 use crate::entry_tests::EntryTest;
 use crate::places::{has, last_of, since};
-use irq_base::{CpuNo, DevNo, Entry, LineDef};
+use irq_base::{CpuEntry, CpuNo, DevNo, Entry, LineDef};
 
 /// The processor of the last take that is handled, unless an end that closes follows it.
 #[tactic(auto, unfolding(crate::specs::Passes::passes))]
@@ -58,7 +58,7 @@ fn cpu_of_handle(entry: Option<Entry>) -> Option<CpuNo>
     ensures { result ≡ cpu_of_handle entry }
 {
     match entry {
-        Some(Entry::Take { cpu, .. }) => Some(cpu),
+        Some(Entry::Cpu(cpu, CpuEntry::Take { .. })) => Some(cpu),
         _ => None,
     }
 }
@@ -76,7 +76,7 @@ fn dev_of_begin(entry: Option<Entry>) -> Option<DevNo>
     ensures { result ≡ dev_of_begin entry }
 {
     match entry {
-        Some(Entry::Begin { dev, .. }) => Some(dev),
+        Some(Entry::Cpu(_, CpuEntry::Begin { dev })) => Some(dev),
         _ => None,
     }
 }

@@ -12,7 +12,7 @@ use crate::lines::{is_edge_line, is_in_mask, serves};
 use crate::masks::is_masked;
 use crate::places::has;
 use crate::rounds::has_flow;
-use irq_base::{AffinityAnswer, CpuNo, Entry, LineDef, NoMemory};
+use irq_base::{AffinityAnswer, CpuNo, DriverEntry, Entry, LineDef, NoMemory};
 use std::alloc::Global;
 
 /// An edge is sent; or the level is high, the line is open, and no interrupt is in service.
@@ -41,16 +41,22 @@ fn puts_in_force(after: &[Entry], upto: &[Entry]) -> bool
 {
     match upto.first().copied() {
         Some(
-            Entry::Affinity {
-                answer: AffinityAnswer::Now,
-                ..
-            },
+            Entry::Driver(
+                _,
+                DriverEntry::Affinity {
+                    answer: AffinityAnswer::Now,
+                    ..
+                },
+            ),
         ) => true,
         Some(
-            Entry::Affinity {
-                answer: AffinityAnswer::Later,
-                ..
-            },
+            Entry::Driver(
+                _,
+                DriverEntry::Affinity {
+                    answer: AffinityAnswer::Later,
+                    ..
+                },
+            ),
         ) => has_take(after),
         _ => false,
     }
@@ -61,7 +67,7 @@ fn mask_of(mask: u32, upto: &[Entry]) -> u32
     ensures { result ≡ mask_of mask upto.now }
 {
     match upto.first().copied() {
-        Some(Entry::Affinity { mask: new, .. }) => new,
+        Some(Entry::Driver(_, DriverEntry::Affinity { mask: new, .. })) => new,
         _ => mask,
     }
 }

@@ -1,5 +1,5 @@
 //! The rule on spurious interrupts.
-ghost use Rattle.std.specs.Prelude.{◌≡◌, ◌≤◌, ◌∷◌, length};
+ghost use Rattle.std.specs.Prelude.{◌≡◌, ◌≤◌, ◌+◌, ◌∷◌, length};
 ghost use Rattle.irq_model.specs.Spurious.{counted, unhandled, judged, judged_by_threads, noted};
 ghost use Rattle.irq_model.specs.Spurious.{now, round_wakes, round_handles, noted_end, counts_of};
 ghost use Rattle.irq_model.specs.Spurious.{note_of};
@@ -7,7 +7,7 @@ ghost use Rattle.irq_model.specs.Spurious.{note_of};
 use crate::entry_tests::EntryTest;
 use crate::places::has;
 use crate::rounds::round;
-use irq_base::{Entry, LineDef, LinkAnswer, Note};
+use irq_base::{CpuEntry, DriverEntry, Entry, LineDef, LinkAnswer, Note, ThreadEntry};
 use std::marker::Model;
 
 /// What the line keeps for the rule.
@@ -17,7 +17,7 @@ struct SpuriousCounts {
     irq_count: u32,
     /// The ends of the open window that were unhandled.
     irqs_unhandled: u32,
-    /// The runs of threads that served.
+    /// The runs of threads that answered IRQ_HANDLED.
     threads_handled: u32,
     /// An end woke a thread and waits to be judged by what the threads did.
     deferred: bool,
@@ -198,7 +198,7 @@ fn now(past: &[Entry]) -> u32
 {
     let mut latest = 0;
     for i in (0..past.len()).rev() {
-        if let Entry::Moment { at, .. } = past[i] {
+        if let Entry::Driver(_, DriverEntry::Moment { at }) = past[i] {
             latest = at.max(latest);
         }
     }
@@ -232,6 +232,17 @@ fn noted_end(def: &LineDef, past: &[Entry], kept: SpuriousCounts) -> NotedEnd
     noted(def.window, def.limit, now(past), wake, handled, kept)
 }
 
+/// One more run of a thread answered IRQ_HANDLED.
+fn one_more_handled(kept: SpuriousCounts) -> SpuriousCounts
+    requires { kept.threads_handled ≤ 100000000 }
+    ensures { result ≡ record kept { threads_handled = kept.threads_handled + 1 } }
+{
+    SpuriousCounts {
+        threads_handled: kept.threads_handled + 1,
+        ..kept
+    }
+}
+
 /// What one more entry makes of the counts.
 fn counts_after(def: &LineDef, entry: Entry, past: &[Entry], kept: SpuriousCounts) -> SpuriousCounts
     requires few { length past.now ≤ 100000000 }
@@ -239,19 +250,19 @@ fn counts_after(def: &LineDef, entry: Entry, past: &[Entry], kept: SpuriousCount
     ensures { result ≡ counts_of def.now (entry ∷ past.now) }
 {
     match entry {
-        Entry::ThreadReturn { served, .. } if served > 0 => SpuriousCounts {
-            threads_handled: kept.threads_handled + 1,
-            ..kept
-        },
-        Entry::Request {
-            answer: LinkAnswer::Linked,
-            ..
-        } => SpuriousCounts {
+        Entry::Thread(_, ThreadEntry::Return { handled: true, .. }) => one_more_handled(kept),
+        Entry::Driver(
+            _,
+            DriverEntry::Request {
+                answer: LinkAnswer::Linked,
+                ..
+            },
+        ) => SpuriousCounts {
             irq_count: 0,
             irqs_unhandled: 0,
             ..kept
         },
-        Entry::End { .. } => noted_end(def, past, kept).counts,
+        Entry::Cpu(_, CpuEntry::End { .. }) => noted_end(def, past, kept).counts,
         _ => kept,
     }
 }

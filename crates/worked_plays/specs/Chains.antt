@@ -6,7 +6,11 @@ use Rattle.irq_base.specs.declared.devices.Kind.TheVariants as kinds
 use Rattle.irq_base.specs.declared.domains.ControllerKind.TheVariants as levels
 use Rattle.irq_base.specs.declared.entries.Actor.TheVariants as actors
 use Rattle.irq_base.specs.declared.entries.EnableAnswer.TheVariants as enables
-use Rattle.irq_base.specs.declared.entries.Entry.TheVariants as entries
+use Rattle.irq_base.specs.declared.entries.Entry.TheVariants as by
+use Rattle.irq_base.specs.declared.entries.CpuEntry.TheVariants as cpus
+use Rattle.irq_base.specs.declared.entries.ThreadEntry.TheVariants as threads
+use Rattle.irq_base.specs.declared.entries.DriverEntry.TheVariants as drivers
+use Rattle.irq_base.specs.declared.entries.CallEntry.TheVariants as called
 use Rattle.irq_base.specs.declared.entries.LinkAnswer.TheVariants as links
 use Rattle.irq_base.specs.declared.entries.Note.TheVariants as notes
 use Rattle.irq_base.specs.declared.entries.Opened.TheVariants as opens
@@ -40,18 +44,17 @@ one_child = record {
 
 abbrev pub one_child_rows : List ChainEntry
 one_child_rows =
-    steps.Child (line 1) (entries.Request (driver 1) (dev 1) no_flags links.Linked
-    (opens.Started resends.No))
-    ∷ steps.Child (line 1) (entries.Ask (driver 1) (dev 1))
+    steps.Child (line 1) (by.Driver (driver 1) (drivers.Request no_flags links.Linked (opens.Started resends.No) (dev 1)))
+    ∷ steps.Child (line 1) (by.Driver (driver 1) (drivers.Ask true (dev 1)))
     ∷ steps.Enter (cpu 0) 1
-    ∷ steps.Child (line 1) (entries.Take (cpu 0) ways.Line takes.Handle)
-    ∷ steps.Child (line 1) (entries.Begin (cpu 0) (dev 1))
-    ∷ steps.Child (line 1) (entries.Return (cpu 0) (dev 1) answers.Handled 1)
-    ∷ steps.Child (line 1) (entries.End (cpu 0) false false notes.Quiet)
+    ∷ steps.Child (line 1) (by.Cpu (cpu 0) (cpus.Take ways.Line takes.Handle))
+    ∷ steps.Child (line 1) (by.Cpu (cpu 0) (cpus.Begin (dev 1)))
+    ∷ steps.Child (line 1) (by.Cpu (cpu 0) (cpus.Return answers.Handled (dev 1) 1))
+    ∷ steps.Child (line 1) (by.Cpu (cpu 0) (cpus.End false false notes.Quiet))
     ∷ steps.Exit (cpu 0)
-    ∷ steps.Child (line 1) (entries.Unlink (driver 1) (dev 1) (unlinks.Unlinked true))
-    ∷ steps.Child (line 1) (entries.HardClear (driver 1))
-    ∷ steps.Child (line 1) (entries.Freed (driver 1) (dev 1))
+    ∷ steps.Child (line 1) (by.DriverCall (driver 1) (called.Unlink (unlinks.Unlinked true) (dev 1)))
+    ∷ steps.Child (line 1) (by.DriverCall (driver 1) called.HardClear)
+    ∷ steps.Child (line 1) (by.DriverCall (driver 1) (called.Freed (dev 1)))
     ∷ []
 
 -- two children in one chain, the lower place first
@@ -76,21 +79,19 @@ two_children = record {
 
 abbrev pub two_children_rows : List ChainEntry
 two_children_rows =
-    steps.Child (line 1) (entries.Request (driver 1) (dev 1) no_flags links.Linked
-    (opens.Started resends.No))
-    ∷ steps.Child (line 2) (entries.Request (driver 1) (dev 2) no_flags links.Linked
-    (opens.Started resends.No))
-    ∷ steps.Child (line 2) (entries.Ask (driver 1) (dev 2))
-    ∷ steps.Child (line 1) (entries.Ask (driver 1) (dev 1))
+    steps.Child (line 1) (by.Driver (driver 1) (drivers.Request no_flags links.Linked (opens.Started resends.No) (dev 1)))
+    ∷ steps.Child (line 2) (by.Driver (driver 1) (drivers.Request no_flags links.Linked (opens.Started resends.No) (dev 2)))
+    ∷ steps.Child (line 2) (by.Driver (driver 1) (drivers.Ask true (dev 2)))
+    ∷ steps.Child (line 1) (by.Driver (driver 1) (drivers.Ask true (dev 1)))
     ∷ steps.Enter (cpu 0) 3
-    ∷ steps.Child (line 1) (entries.Take (cpu 0) ways.Line takes.Handle)
-    ∷ steps.Child (line 1) (entries.Begin (cpu 0) (dev 1))
-    ∷ steps.Child (line 1) (entries.Return (cpu 0) (dev 1) answers.Handled 1)
-    ∷ steps.Child (line 1) (entries.End (cpu 0) false true notes.Quiet)
-    ∷ steps.Child (line 2) (entries.Take (cpu 0) ways.Line takes.Handle)
-    ∷ steps.Child (line 2) (entries.Begin (cpu 0) (dev 2))
-    ∷ steps.Child (line 2) (entries.Return (cpu 0) (dev 2) answers.Handled 1)
-    ∷ steps.Child (line 2) (entries.End (cpu 0) false true notes.Quiet)
+    ∷ steps.Child (line 1) (by.Cpu (cpu 0) (cpus.Take ways.Line takes.Handle))
+    ∷ steps.Child (line 1) (by.Cpu (cpu 0) (cpus.Begin (dev 1)))
+    ∷ steps.Child (line 1) (by.Cpu (cpu 0) (cpus.Return answers.Handled (dev 1) 1))
+    ∷ steps.Child (line 1) (by.Cpu (cpu 0) (cpus.End false true notes.Quiet))
+    ∷ steps.Child (line 2) (by.Cpu (cpu 0) (cpus.Take ways.Line takes.Handle))
+    ∷ steps.Child (line 2) (by.Cpu (cpu 0) (cpus.Begin (dev 2)))
+    ∷ steps.Child (line 2) (by.Cpu (cpu 0) (cpus.Return answers.Handled (dev 2) 1))
+    ∷ steps.Child (line 2) (by.Cpu (cpu 0) (cpus.End false true notes.Quiet))
     ∷ steps.Exit (cpu 0)
     ∷ []
 
@@ -118,28 +119,26 @@ asks_again = record {
 
 abbrev pub asks_again_rows : List ChainEntry
 asks_again_rows =
-    steps.Child (line 1) (entries.Request (driver 1) (dev 1) no_flags links.Linked
-    (opens.Started resends.No))
-    ∷ steps.Child (line 2) (entries.Request (driver 1) (dev 2) no_flags links.Linked
-    (opens.Started resends.No))
-    ∷ steps.Child (line 1) (entries.Ask (driver 1) (dev 1))
-    ∷ steps.Child (line 2) (entries.Ask (driver 1) (dev 2))
+    steps.Child (line 1) (by.Driver (driver 1) (drivers.Request no_flags links.Linked (opens.Started resends.No) (dev 1)))
+    ∷ steps.Child (line 2) (by.Driver (driver 1) (drivers.Request no_flags links.Linked (opens.Started resends.No) (dev 2)))
+    ∷ steps.Child (line 1) (by.Driver (driver 1) (drivers.Ask true (dev 1)))
+    ∷ steps.Child (line 2) (by.Driver (driver 1) (drivers.Ask true (dev 2)))
     ∷ steps.Enter (cpu 0) 3
-    ∷ steps.Child (line 1) (entries.Take (cpu 0) ways.Line takes.Handle)
-    ∷ steps.Child (line 1) (entries.Begin (cpu 0) (dev 1))
-    ∷ steps.Child (line 1) (entries.Return (cpu 0) (dev 1) answers.Handled 1)
-    ∷ steps.Child (line 1) (entries.End (cpu 0) false true notes.Quiet)
-    ∷ steps.Child (line 1) (entries.Ask (driver 2) (dev 1))
-    ∷ steps.Child (line 2) (entries.Take (cpu 0) ways.Line takes.Handle)
-    ∷ steps.Child (line 2) (entries.Begin (cpu 0) (dev 2))
-    ∷ steps.Child (line 2) (entries.Return (cpu 0) (dev 2) answers.Handled 1)
-    ∷ steps.Child (line 2) (entries.End (cpu 0) false true notes.Quiet)
+    ∷ steps.Child (line 1) (by.Cpu (cpu 0) (cpus.Take ways.Line takes.Handle))
+    ∷ steps.Child (line 1) (by.Cpu (cpu 0) (cpus.Begin (dev 1)))
+    ∷ steps.Child (line 1) (by.Cpu (cpu 0) (cpus.Return answers.Handled (dev 1) 1))
+    ∷ steps.Child (line 1) (by.Cpu (cpu 0) (cpus.End false true notes.Quiet))
+    ∷ steps.Child (line 1) (by.Driver (driver 2) (drivers.Ask true (dev 1)))
+    ∷ steps.Child (line 2) (by.Cpu (cpu 0) (cpus.Take ways.Line takes.Handle))
+    ∷ steps.Child (line 2) (by.Cpu (cpu 0) (cpus.Begin (dev 2)))
+    ∷ steps.Child (line 2) (by.Cpu (cpu 0) (cpus.Return answers.Handled (dev 2) 1))
+    ∷ steps.Child (line 2) (by.Cpu (cpu 0) (cpus.End false true notes.Quiet))
     ∷ steps.Exit (cpu 0)
     ∷ steps.Enter (cpu 0) 1
-    ∷ steps.Child (line 1) (entries.Take (cpu 0) ways.Line takes.Handle)
-    ∷ steps.Child (line 1) (entries.Begin (cpu 0) (dev 1))
-    ∷ steps.Child (line 1) (entries.Return (cpu 0) (dev 1) answers.Handled 1)
-    ∷ steps.Child (line 1) (entries.End (cpu 0) false true notes.Quiet)
+    ∷ steps.Child (line 1) (by.Cpu (cpu 0) (cpus.Take ways.Line takes.Handle))
+    ∷ steps.Child (line 1) (by.Cpu (cpu 0) (cpus.Begin (dev 1)))
+    ∷ steps.Child (line 1) (by.Cpu (cpu 0) (cpus.Return answers.Handled (dev 1) 1))
+    ∷ steps.Child (line 1) (by.Cpu (cpu 0) (cpus.End false true notes.Quiet))
     ∷ steps.Exit (cpu 0)
     ∷ []
 
@@ -164,21 +163,20 @@ edge_within = record {
 
 abbrev pub edge_within_rows : List ChainEntry
 edge_within_rows =
-    steps.Child (line 1) (entries.Request (driver 1) (dev 1) no_flags links.Linked
-    (opens.Started resends.No))
-    ∷ steps.Child (line 1) (entries.Ask (driver 1) (dev 1))
+    steps.Child (line 1) (by.Driver (driver 1) (drivers.Request no_flags links.Linked (opens.Started resends.No) (dev 1)))
+    ∷ steps.Child (line 1) (by.Driver (driver 1) (drivers.Ask true (dev 1)))
     ∷ steps.Enter (cpu 0) 1
-    ∷ steps.Child (line 1) (entries.Take (cpu 0) ways.Line takes.Handle)
-    ∷ steps.Child (line 1) (entries.Begin (cpu 0) (dev 1))
-    ∷ steps.Child (line 1) (entries.Ask (driver 1) (dev 1))
-    ∷ steps.Child (line 1) (entries.Return (cpu 0) (dev 1) answers.Handled 1)
-    ∷ steps.Child (line 1) (entries.End (cpu 0) false false notes.Quiet)
+    ∷ steps.Child (line 1) (by.Cpu (cpu 0) (cpus.Take ways.Line takes.Handle))
+    ∷ steps.Child (line 1) (by.Cpu (cpu 0) (cpus.Begin (dev 1)))
+    ∷ steps.Child (line 1) (by.Driver (driver 1) (drivers.Ask true (dev 1)))
+    ∷ steps.Child (line 1) (by.Cpu (cpu 0) (cpus.Return answers.Handled (dev 1) 1))
+    ∷ steps.Child (line 1) (by.Cpu (cpu 0) (cpus.End false false notes.Quiet))
     ∷ steps.Exit (cpu 0)
     ∷ steps.Enter (cpu 0) 1
-    ∷ steps.Child (line 1) (entries.Take (cpu 0) ways.Line takes.Handle)
-    ∷ steps.Child (line 1) (entries.Begin (cpu 0) (dev 1))
-    ∷ steps.Child (line 1) (entries.Return (cpu 0) (dev 1) answers.Handled 1)
-    ∷ steps.Child (line 1) (entries.End (cpu 0) false false notes.Quiet)
+    ∷ steps.Child (line 1) (by.Cpu (cpu 0) (cpus.Take ways.Line takes.Handle))
+    ∷ steps.Child (line 1) (by.Cpu (cpu 0) (cpus.Begin (dev 1)))
+    ∷ steps.Child (line 1) (by.Cpu (cpu 0) (cpus.Return answers.Handled (dev 1) 1))
+    ∷ steps.Child (line 1) (by.Cpu (cpu 0) (cpus.End false false notes.Quiet))
     ∷ steps.Exit (cpu 0)
     ∷ []
 
@@ -203,21 +201,20 @@ level_within = record {
 
 abbrev pub level_within_rows : List ChainEntry
 level_within_rows =
-    steps.Child (line 1) (entries.Request (driver 1) (dev 1) no_flags links.Linked
-    (opens.Started resends.No))
-    ∷ steps.Child (line 1) (entries.Ask (driver 1) (dev 1))
+    steps.Child (line 1) (by.Driver (driver 1) (drivers.Request no_flags links.Linked (opens.Started resends.No) (dev 1)))
+    ∷ steps.Child (line 1) (by.Driver (driver 1) (drivers.Ask true (dev 1)))
     ∷ steps.Enter (cpu 0) 1
-    ∷ steps.Child (line 1) (entries.Take (cpu 0) ways.Line takes.Handle)
-    ∷ steps.Child (line 1) (entries.Begin (cpu 0) (dev 1))
-    ∷ steps.Child (line 1) (entries.Ask (driver 1) (dev 1))
-    ∷ steps.Child (line 1) (entries.Return (cpu 0) (dev 1) answers.Handled 1)
-    ∷ steps.Child (line 1) (entries.End (cpu 0) false false notes.Quiet)
+    ∷ steps.Child (line 1) (by.Cpu (cpu 0) (cpus.Take ways.Line takes.Handle))
+    ∷ steps.Child (line 1) (by.Cpu (cpu 0) (cpus.Begin (dev 1)))
+    ∷ steps.Child (line 1) (by.Driver (driver 1) (drivers.Ask true (dev 1)))
+    ∷ steps.Child (line 1) (by.Cpu (cpu 0) (cpus.Return answers.Handled (dev 1) 1))
+    ∷ steps.Child (line 1) (by.Cpu (cpu 0) (cpus.End false false notes.Quiet))
     ∷ steps.Exit (cpu 0)
     ∷ steps.Enter (cpu 0) 1
-    ∷ steps.Child (line 1) (entries.Take (cpu 0) ways.Line takes.Handle)
-    ∷ steps.Child (line 1) (entries.Begin (cpu 0) (dev 1))
-    ∷ steps.Child (line 1) (entries.Return (cpu 0) (dev 1) answers.Handled 1)
-    ∷ steps.Child (line 1) (entries.End (cpu 0) false false notes.Quiet)
+    ∷ steps.Child (line 1) (by.Cpu (cpu 0) (cpus.Take ways.Line takes.Handle))
+    ∷ steps.Child (line 1) (by.Cpu (cpu 0) (cpus.Begin (dev 1)))
+    ∷ steps.Child (line 1) (by.Cpu (cpu 0) (cpus.Return answers.Handled (dev 1) 1))
+    ∷ steps.Child (line 1) (by.Cpu (cpu 0) (cpus.End false false notes.Quiet))
     ∷ steps.Exit (cpu 0)
     ∷ []
 
@@ -240,18 +237,17 @@ threads_first = record {
 
 abbrev pub threads_first_rows : List ChainEntry
 threads_first_rows =
-    steps.Child (line 1) (entries.Request (driver 1) (dev 1) oneshot_flag links.Linked
-    (opens.Started resends.No))
-    ∷ steps.Child (line 1) (entries.Ask (driver 1) (dev 1))
+    steps.Child (line 1) (by.Driver (driver 1) (drivers.Request oneshot_flag links.Linked (opens.Started resends.No) (dev 1)))
+    ∷ steps.Child (line 1) (by.Driver (driver 1) (drivers.Ask true (dev 1)))
     ∷ steps.Enter (cpu 0) 1
-    ∷ steps.Child (line 1) (entries.Take (cpu 0) ways.Line takes.Handle)
-    ∷ steps.Child (line 1) (entries.Begin (cpu 0) (dev 1))
-    ∷ steps.Child (line 1) (entries.Return (cpu 0) (dev 1) answers.Wake 0)
-    ∷ steps.Child (line 1) (entries.ThreadBegin (dev 1))
-    ∷ steps.Child (line 1) (entries.ThreadReturn (dev 1) 1)
-    ∷ steps.Child (line 1) (entries.End (cpu 0) false false notes.Quiet)
-    ∷ steps.Child (line 1) (entries.Finish (dev 1) false true)
-    ∷ steps.Child (line 1) (entries.Done (dev 1))
+    ∷ steps.Child (line 1) (by.Cpu (cpu 0) (cpus.Take ways.Line takes.Handle))
+    ∷ steps.Child (line 1) (by.Cpu (cpu 0) (cpus.Begin (dev 1)))
+    ∷ steps.Child (line 1) (by.Cpu (cpu 0) (cpus.Return answers.Wake (dev 1) 0))
+    ∷ steps.Child (line 1) (by.Thread (dev 1) threads.Begin)
+    ∷ steps.Child (line 1) (by.Thread (dev 1) (threads.Return true 1))
+    ∷ steps.Child (line 1) (by.Cpu (cpu 0) (cpus.End false false notes.Quiet))
+    ∷ steps.Child (line 1) (by.Thread (dev 1) (threads.Finish false true))
+    ∷ steps.Child (line 1) (by.Thread (dev 1) threads.Done)
     ∷ steps.Exit (cpu 0)
     ∷ []
 
@@ -276,19 +272,18 @@ soft_resend = record {
 
 abbrev pub soft_resend_rows : List ChainEntry
 soft_resend_rows =
-    steps.Child (line 1) (entries.Request (driver 1) (dev 1) no_flags links.Linked
-    (opens.Started resends.No))
-    ∷ steps.Child (line 1) (entries.Disable (driver 1))
-    ∷ steps.Child (line 1) (entries.Ask (driver 1) (dev 1))
+    steps.Child (line 1) (by.Driver (driver 1) (drivers.Request no_flags links.Linked (opens.Started resends.No) (dev 1)))
+    ∷ steps.Child (line 1) (by.DriverCall (driver 1) called.Disable)
+    ∷ steps.Child (line 1) (by.Driver (driver 1) (drivers.Ask true (dev 1)))
     ∷ steps.Enter (cpu 0) 1
-    ∷ steps.Child (line 1) (entries.Take (cpu 0) ways.Line takes.Off)
+    ∷ steps.Child (line 1) (by.Cpu (cpu 0) (cpus.Take ways.Line takes.Off))
     ∷ steps.Exit (cpu 0)
-    ∷ steps.Child (line 1) (entries.Enable (driver 1) (enables.Started resends.Soft))
+    ∷ steps.Child (line 1) (by.DriverCall (driver 1) (called.Enable (enables.Started resends.Soft)))
     ∷ steps.Enter (cpu 0) 1
-    ∷ steps.Child (line 1) (entries.Take (cpu 0) ways.Resend takes.Handle)
-    ∷ steps.Child (line 1) (entries.Begin (cpu 0) (dev 1))
-    ∷ steps.Child (line 1) (entries.Return (cpu 0) (dev 1) answers.Handled 1)
-    ∷ steps.Child (line 1) (entries.End (cpu 0) false false notes.Quiet)
+    ∷ steps.Child (line 1) (by.Cpu (cpu 0) (cpus.Take ways.Resend takes.Handle))
+    ∷ steps.Child (line 1) (by.Cpu (cpu 0) (cpus.Begin (dev 1)))
+    ∷ steps.Child (line 1) (by.Cpu (cpu 0) (cpus.Return answers.Handled (dev 1) 1))
+    ∷ steps.Child (line 1) (by.Cpu (cpu 0) (cpus.End false false notes.Quiet))
     ∷ steps.Exit (cpu 0)
     ∷ []
 
@@ -317,25 +312,23 @@ sibling_disabled = record {
 
 abbrev pub sibling_disabled_rows : List ChainEntry
 sibling_disabled_rows =
-    steps.Child (line 1) (entries.Request (driver 1) (dev 1) no_flags links.Linked
-    (opens.Started resends.No))
-    ∷ steps.Child (line 2) (entries.Request (driver 1) (dev 2) no_flags links.Linked
-    (opens.Started resends.No))
-    ∷ steps.Child (line 1) (entries.Ask (driver 1) (dev 1))
-    ∷ steps.Child (line 2) (entries.Ask (driver 1) (dev 2))
+    steps.Child (line 1) (by.Driver (driver 1) (drivers.Request no_flags links.Linked (opens.Started resends.No) (dev 1)))
+    ∷ steps.Child (line 2) (by.Driver (driver 1) (drivers.Request no_flags links.Linked (opens.Started resends.No) (dev 2)))
+    ∷ steps.Child (line 1) (by.Driver (driver 1) (drivers.Ask true (dev 1)))
+    ∷ steps.Child (line 2) (by.Driver (driver 1) (drivers.Ask true (dev 2)))
     ∷ steps.Enter (cpu 0) 3
-    ∷ steps.Child (line 1) (entries.Take (cpu 0) ways.Line takes.Handle)
-    ∷ steps.Child (line 2) (entries.Disable (driver 1))
-    ∷ steps.Child (line 1) (entries.Begin (cpu 0) (dev 1))
-    ∷ steps.Child (line 1) (entries.Return (cpu 0) (dev 1) answers.Handled 1)
-    ∷ steps.Child (line 1) (entries.End (cpu 0) false true notes.Quiet)
-    ∷ steps.Child (line 2) (entries.Take (cpu 0) ways.Line takes.Off)
+    ∷ steps.Child (line 1) (by.Cpu (cpu 0) (cpus.Take ways.Line takes.Handle))
+    ∷ steps.Child (line 2) (by.DriverCall (driver 1) called.Disable)
+    ∷ steps.Child (line 1) (by.Cpu (cpu 0) (cpus.Begin (dev 1)))
+    ∷ steps.Child (line 1) (by.Cpu (cpu 0) (cpus.Return answers.Handled (dev 1) 1))
+    ∷ steps.Child (line 1) (by.Cpu (cpu 0) (cpus.End false true notes.Quiet))
+    ∷ steps.Child (line 2) (by.Cpu (cpu 0) (cpus.Take ways.Line takes.Off))
     ∷ steps.Exit (cpu 0)
-    ∷ steps.Child (line 2) (entries.Enable (driver 1) (enables.Started resends.No))
+    ∷ steps.Child (line 2) (by.DriverCall (driver 1) (called.Enable (enables.Started resends.No)))
     ∷ steps.Enter (cpu 0) 2
-    ∷ steps.Child (line 2) (entries.Take (cpu 0) ways.Line takes.Handle)
-    ∷ steps.Child (line 2) (entries.Begin (cpu 0) (dev 2))
-    ∷ steps.Child (line 2) (entries.Return (cpu 0) (dev 2) answers.Handled 1)
-    ∷ steps.Child (line 2) (entries.End (cpu 0) false true notes.Quiet)
+    ∷ steps.Child (line 2) (by.Cpu (cpu 0) (cpus.Take ways.Line takes.Handle))
+    ∷ steps.Child (line 2) (by.Cpu (cpu 0) (cpus.Begin (dev 2)))
+    ∷ steps.Child (line 2) (by.Cpu (cpu 0) (cpus.Return answers.Handled (dev 2) 1))
+    ∷ steps.Child (line 2) (by.Cpu (cpu 0) (cpus.End false true notes.Quiet))
     ∷ steps.Exit (cpu 0)
     ∷ []

@@ -6,7 +6,10 @@ use Rattle.irq_base.specs.declared.devices.Kind.TheVariants as kinds
 use Rattle.irq_base.specs.declared.domains.ControllerKind.TheVariants as levels
 use Rattle.irq_base.specs.declared.entries.Actor.TheVariants as actors
 use Rattle.irq_base.specs.declared.entries.EnableAnswer.TheVariants as enables
-use Rattle.irq_base.specs.declared.entries.Entry.TheVariants as entries
+use Rattle.irq_base.specs.declared.entries.Entry.TheVariants as by
+use Rattle.irq_base.specs.declared.entries.CpuEntry.TheVariants as cpus
+use Rattle.irq_base.specs.declared.entries.DriverEntry.TheVariants as drivers
+use Rattle.irq_base.specs.declared.entries.CallEntry.TheVariants as called
 use Rattle.irq_base.specs.declared.entries.LinkAnswer.TheVariants as links
 use Rattle.irq_base.specs.declared.entries.Note.TheVariants as notes
 use Rattle.irq_base.specs.declared.entries.Opened.TheVariants as opens
@@ -38,20 +41,19 @@ armed = record {
 
 abbrev pub armed_rows : List SleepEntry
 armed_rows =
-    sleeps.Step (line 1) (entries.Request (driver 1) (dev 1) no_flags links.Linked
-    (opens.Started resends.No))
-    ∷ sleeps.Step (line 1) (entries.Disable (driver 65535))
-    ∷ sleeps.Step (line 1) (entries.HardClear (driver 65535))
-    ∷ sleeps.Step (line 1) (entries.Synced (driver 65535))
+    sleeps.Step (line 1) (by.Driver (driver 1) (drivers.Request no_flags links.Linked (opens.Started resends.No) (dev 1)))
+    ∷ sleeps.Step (line 1) (by.DriverCall (driver 65535) called.Disable)
+    ∷ sleeps.Step (line 1) (by.DriverCall (driver 65535) called.HardClear)
+    ∷ sleeps.Step (line 1) (by.DriverCall (driver 65535) called.Synced)
     ∷ sleeps.Asleep
-    ∷ sleeps.Step (line 1) (entries.Ask (driver 1) (dev 1))
-    ∷ sleeps.Step (line 1) (entries.Take (cpu 0) ways.Line takes.Off)
+    ∷ sleeps.Step (line 1) (by.Driver (driver 1) (drivers.Ask true (dev 1)))
+    ∷ sleeps.Step (line 1) (by.Cpu (cpu 0) (cpus.Take ways.Line takes.Off))
     ∷ sleeps.Wake (Some (line 1))
-    ∷ sleeps.Step (line 1) (entries.Enable (driver 65535) (enables.Started resends.Chip))
-    ∷ sleeps.Step (line 1) (entries.Take (cpu 0) ways.Line takes.Handle)
-    ∷ sleeps.Step (line 1) (entries.Begin (cpu 0) (dev 1))
-    ∷ sleeps.Step (line 1) (entries.Return (cpu 0) (dev 1) answers.Handled 1)
-    ∷ sleeps.Step (line 1) (entries.End (cpu 0) false false notes.Quiet)
+    ∷ sleeps.Step (line 1) (by.DriverCall (driver 65535) (called.Enable (enables.Started resends.Chip)))
+    ∷ sleeps.Step (line 1) (by.Cpu (cpu 0) (cpus.Take ways.Line takes.Handle))
+    ∷ sleeps.Step (line 1) (by.Cpu (cpu 0) (cpus.Begin (dev 1)))
+    ∷ sleeps.Step (line 1) (by.Cpu (cpu 0) (cpus.Return answers.Handled (dev 1) 1))
+    ∷ sleeps.Step (line 1) (by.Cpu (cpu 0) (cpus.End false false notes.Quiet))
     ∷ []
 
 -- an interrupt of a line that is not armed does not
@@ -73,18 +75,17 @@ unarmed = record {
 
 abbrev pub unarmed_rows : List SleepEntry
 unarmed_rows =
-    sleeps.Step (line 1) (entries.Request (driver 1) (dev 1) no_flags links.Linked
-    (opens.Started resends.No))
-    ∷ sleeps.Step (line 1) (entries.Disable (driver 65535))
-    ∷ sleeps.Step (line 1) (entries.HardClear (driver 65535))
-    ∷ sleeps.Step (line 1) (entries.Synced (driver 65535))
+    sleeps.Step (line 1) (by.Driver (driver 1) (drivers.Request no_flags links.Linked (opens.Started resends.No) (dev 1)))
+    ∷ sleeps.Step (line 1) (by.DriverCall (driver 65535) called.Disable)
+    ∷ sleeps.Step (line 1) (by.DriverCall (driver 65535) called.HardClear)
+    ∷ sleeps.Step (line 1) (by.DriverCall (driver 65535) called.Synced)
     ∷ sleeps.Asleep
-    ∷ sleeps.Step (line 1) (entries.Ask (driver 1) (dev 1))
-    ∷ sleeps.Step (line 1) (entries.Take (cpu 0) ways.Line takes.Off)
+    ∷ sleeps.Step (line 1) (by.Driver (driver 1) (drivers.Ask true (dev 1)))
+    ∷ sleeps.Step (line 1) (by.Cpu (cpu 0) (cpus.Take ways.Line takes.Off))
     ∷ sleeps.Wake None
-    ∷ sleeps.Step (line 1) (entries.Enable (driver 65535) (enables.Started resends.Chip))
-    ∷ sleeps.Step (line 1) (entries.Take (cpu 0) ways.Line takes.Handle)
-    ∷ sleeps.Step (line 1) (entries.Begin (cpu 0) (dev 1))
-    ∷ sleeps.Step (line 1) (entries.Return (cpu 0) (dev 1) answers.Handled 1)
-    ∷ sleeps.Step (line 1) (entries.End (cpu 0) false false notes.Quiet)
+    ∷ sleeps.Step (line 1) (by.DriverCall (driver 65535) (called.Enable (enables.Started resends.Chip)))
+    ∷ sleeps.Step (line 1) (by.Cpu (cpu 0) (cpus.Take ways.Line takes.Handle))
+    ∷ sleeps.Step (line 1) (by.Cpu (cpu 0) (cpus.Begin (dev 1)))
+    ∷ sleeps.Step (line 1) (by.Cpu (cpu 0) (cpus.Return answers.Handled (dev 1) 1))
+    ∷ sleeps.Step (line 1) (by.Cpu (cpu 0) (cpus.End false false notes.Quiet))
     ∷ []

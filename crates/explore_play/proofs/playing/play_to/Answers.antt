@@ -6,6 +6,7 @@ use Rattle.irq_base.specs.declared.entries.Actor.{Actor}
 use Rattle.irq_base.specs.declared.numbers.LineNo.{LineNo}
 use Rattle.irq_model.specs.Kinds.{same_line}
 use Rattle.irq_steps.proofs.Same.{same_self_line}
+use Rattle.board_def.specs.Rules.{IsBoard}
 use Rattle.board_def.specs.Seen.{BoardSeen}
 use Rattle.board_core.specs.Turns.{Moves, Turns, move_of}
 use Rattle.board_core.specs.declared.turns.Turn.{Turn}
@@ -28,6 +29,7 @@ loop-made-preserved-then-eq g c =
     record {
       board = moves.board ∙ c.loop-made.invariant.board;
       layout = moves.layout ∙ c.loop-made.invariant.layout;
+      is_board = c.loop-made.invariant.is_board;
       made = made_here old new c.loop-made.picks.items c.push.new.self.items mover c.args.line (take c.loop-made.made c.args.wanted.now)
           c.in_default-Moved.of c.in_default-Moved.entry c.loop-made.invariant.made moves c.in_ok-push-in_default-Moved.ensures.items same
           (take (c.loop-made.made + 1) c.args.wanted.now)
@@ -50,12 +52,14 @@ loop-made-preserved g c =
     record {
       board = moves.board ∙ c.loop-made.invariant.board;
       layout = moves.layout ∙ c.loop-made.invariant.layout;
+      is_board = c.loop-made.invariant.is_board;
       made = made_elsewhere old new c.loop-made.picks.items c.push.new.self.items mover c.args.line (take c.loop-made.made c.args.wanted.now)
           c.in_default-Moved.of c.in_default-Moved.entry c.loop-made.invariant.made moves c.in_ok-push-in_default-Moved.ensures.items other;
       few = omega (arith, count, c.len.ensures, c.if-len-ge-PICKS.false);
       within = c.loop-made.invariant.within;
       alone = λ alone. absurd (
           let next = turns_next old c.loop-made.picks.items c.args.line c.args.wanted.now c.loop-made.made c.loop-made.invariant.made
+          (subst IsBoard (sym c.loop-made.invariant.board) c.loop-made.invariant.is_board)
           (subst (λ (b : BoardSeen). IsAlone b c.args.line c.args.wanted.now) (sym c.loop-made.invariant.board) alone)
           _ (slice_get-get_or c.args.wanted.now c.loop-made.made _ c.loop-made-test.true) c.actor-actor.result mover
           c.actor-actor.ensures c.turn_of.ensures.first (turns.Moved c.in_default-Moved.of c.in_default-Moved.entry) new moves in
@@ -68,6 +72,7 @@ returns-then-not-is_at-clause-alone g c = λ alone.
     let new = c.turn_of.new.system in
     let mover = c.turn_of.result.0 in
     let next = turns_next old c.loop-made.picks.items c.args.line c.args.wanted.now c.loop-made.made c.loop-made.invariant.made
+    (subst IsBoard (sym c.loop-made.invariant.board) c.loop-made.invariant.is_board)
     (subst (λ (b : BoardSeen). IsAlone b c.args.line c.args.wanted.now) (sym c.loop-made.invariant.board) alone)
     _ (slice_get-get_or c.args.wanted.now c.loop-made.made _ c.loop-made-test.true) c.actor-actor.result mover
     c.actor-actor.ensures c.turn_of.ensures.first (turns.Moved c.in_default-Moved.of c.in_default-Moved.entry) new
@@ -81,6 +86,7 @@ returns-in_default-NotYet-clause-alone g c = λ alone.
     let new = c.turn_of.new.system in
     let mover = c.turn_of.result.0 in
     let next = turns_next old c.loop-made.picks.items c.args.line c.args.wanted.now c.loop-made.made c.loop-made.invariant.made
+    (subst IsBoard (sym c.loop-made.invariant.board) c.loop-made.invariant.is_board)
     (subst (λ (b : BoardSeen). IsAlone b c.args.line c.args.wanted.now) (sym c.loop-made.invariant.board) alone)
     _ (slice_get-get_or c.args.wanted.now c.loop-made.made _ c.loop-made-test.true) c.actor-actor.result mover
     c.actor-actor.ensures c.turn_of.ensures.first turns.NotYet new

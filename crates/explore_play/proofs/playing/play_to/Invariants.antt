@@ -1,4 +1,5 @@
 use Rattle.std.proofs.Common.{length, ◌-◌, ◌≡◌, ◌≤◌, take}
+use Rattle.board_def.specs.Rules.{IsBoard}
 use Rattle.explore_play.specs.Made.{IsAlone, IsMade}
 use Rattle.explore_play.proofs.playing.play_to.Given as goal
 
@@ -6,6 +7,7 @@ abbrev pub invariant-loop-made : goal.invariant-loop-made
 invariant-loop-made g l = record {
   board : l.system.board ≡ l.fn.system.board;
   layout : l.system.layout ≡ l.fn.system.layout;
+  is_board : IsBoard l.fn.system.board;
   made : IsMade l.system l.picks.items l.line (take l.made l.wanted);
   few : length l.picks.items ≤ 65536;
   within : l.made ≤ length l.wanted;

@@ -9,7 +9,7 @@ use Rattle.irq_vectors.proofs.judging.is_due.Goals as goal
 pub returns : goal.returns
 returns c =
     let past = reverse c.args.history.now.entries in
-    let due : c.in_ok-due.due ≡ next_past c.args.def.now past (actor_of c.args.def.now.line c.args.entry) =
+    let due : c.in_ok-due.due ≡ next_past c.args.def.now past (actor_of c.args.entry) =
     c.in_ok-due.ensures ∙ ap (λ (a : Actor). next_past c.args.def.now past a) c.actor.ensures in
     let P : Option Entry → Type 0 = λ found. IsTrue c.eq.result ↔ (found ≡ Some c.args.entry) in
     subst P due (found_same c.in_ok-due.due c.args.entry c.eq.result c.eq.ensures)

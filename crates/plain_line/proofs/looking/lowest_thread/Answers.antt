@@ -19,5 +19,5 @@ returns c =
     let devices = c.args.def.now.devices in
     let none_left : drop c.loop-i.i devices ≡ [] = nil_from_length (drop c.loop-i.i devices) (length-drop c.loop-i.i devices ∙ omega arith) in
     let p = is_thread_due c.args.def.now c.args.past.now in
-    lowest_found c.args.def.now c.args.past.now c.loop-i.lowest c.requires.valid c.requires.legal
+    lowest_found c.args.def.now c.args.past.now c.loop-i.lowest
     (sym (c.loop-i.invariant ∙ ap (lowest_of p c.loop-i.lowest) none_left))

@@ -1,0 +1,28 @@
+-- The steps of calls, whoever made them, and the devices that entries link and unlink.
+use Rattle.std.specs.Prelude.{Option, Some, None}
+use Rattle.irq_base.specs.declared.numbers.DevNo.{DevNo}
+use Rattle.irq_base.specs.declared.entries.CallEntry.{CallEntry}
+use Rattle.irq_base.specs.declared.entries.CallEntry.TheVariants as called
+use Rattle.irq_base.specs.declared.entries.DriverEntry.TheVariants as drivers
+use Rattle.irq_base.specs.declared.entries.LinkAnswer.TheVariants as links
+use Rattle.irq_base.specs.declared.entries.UnlinkAnswer.TheVariants as unlinks
+use Rattle.irq_base.specs.declared.entries.Entry.{Entry}
+use Rattle.irq_base.specs.declared.entries.Entry.TheVariants as by
+
+-- the step of a call that the entry is
+abbrev pub call_of : Entry → Option CallEntry
+call_of (by.CpuCall cpu call) = Some call
+call_of (by.ThreadCall dev call) = Some call
+call_of (by.DriverCall driver call) = Some call
+call_of _ = None
+
+abbrev pub dev_linked : Entry → Option DevNo
+dev_linked (by.Driver driver (drivers.Request flags links.Linked opened dev)) = Some dev
+dev_linked _ = None
+
+abbrev pub dev_unlinked_in : Option CallEntry → Option DevNo
+dev_unlinked_in (Some (called.Unlink (unlinks.Unlinked last) dev)) = Some dev
+dev_unlinked_in _ = None
+
+abbrev pub dev_unlinked : Entry → Option DevNo
+dev_unlinked e = dev_unlinked_in (call_of e)
