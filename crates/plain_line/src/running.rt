@@ -1,5 +1,6 @@
 //! The run of a handler that an entry ends.
 ghost use Rattle.std.specs.Prelude.{◌≡◌, ◌≤◌, length, ◌↔◌, IsTrue, IfSome, Some, None};
+ghost use Rattle.irq_base.specs.declared.numbers.CpuNo.{CpuNo};
 ghost use Rattle.irq_line.specs.Answers.{IsSaidFor};
 ghost use Rattle.irq_line.specs.Runs.{device_of, run_ended};
 
@@ -61,22 +62,44 @@ fn device(def: &LineDef, dev: DevNo) -> DeviceDef
     }
 }
 
+/// The run of a handler that the processor's entry ends.
+fn run_of_cpu(def: &LineDef, past: &[Entry], entry: CpuEntry) -> Option<Run>
+    requires { length past.now ≤ 100000000 }
+    ensures { (cpu : CpuNo) → result ≡ run_ended def.now past.now (Entry.Cpu cpu entry) }
+{
+    match entry {
+        CpuEntry::Return { dev, .. } => Some(Run {
+            def: device(def, dev),
+            part: Part::Primary,
+            unserved: asks_of_handler(def, dev, past),
+        }),
+        _ => None,
+    }
+}
+
+/// The run of the device's thread that the thread's entry ends.
+fn run_of_thread(def: &LineDef, past: &[Entry], dev: DevNo, entry: ThreadEntry) -> Option<Run>
+    requires { length past.now ≤ 100000000 }
+    ensures { result ≡ run_ended def.now past.now (Entry.Thread dev entry) }
+{
+    match entry {
+        ThreadEntry::Return { .. } => Some(Run {
+            def: device(def, dev),
+            part: Part::Thread,
+            unserved: asks_of_thread(def, dev, past),
+        }),
+        _ => None,
+    }
+}
+
 /// The run that the entry ends, after a past whose newest entry comes first.
 fn run_ended(def: &LineDef, past: &[Entry], entry: Entry) -> Option<Run>
     requires { length past.now ≤ 100000000 }
     ensures { result ≡ run_ended def.now past.now entry }
 {
     match entry {
-        Entry::Cpu(_, CpuEntry::Return { dev, .. }) => Some(Run {
-            def: device(def, dev),
-            part: Part::Primary,
-            unserved: asks_of_handler(def, dev, past),
-        }),
-        Entry::Thread(dev, ThreadEntry::Return { .. }) => Some(Run {
-            def: device(def, dev),
-            part: Part::Thread,
-            unserved: asks_of_thread(def, dev, past),
-        }),
+        Entry::Cpu(_, entry) => run_of_cpu(def, past, entry),
+        Entry::Thread(dev, entry) => run_of_thread(def, past, dev, entry),
         _ => None,
     }
 }
