@@ -158,10 +158,10 @@ def list_of(what):
     enums, rows = LISTS[what], []
     found = naming(enums)
     parts = [
-        ("Each is named here, mostly by a match over all, at which the compiler or the prover stops:", ("each", "program"), with_heads),
-        ("Some are named here, to be looked at:", ("some", "program"), by_crate),
-        ("In the reference and the tests each is named here:", ("each", "beside"), by_crate),
-        ("In the reference and the tests some are named here:", ("some", "beside"), by_crate),
+        ("Each is named here:", ("each", "program"), with_heads),
+        ("Some are named here:", ("some", "program"), by_crate),
+        ("In the reference and the tests each:", ("each", "beside"), by_crate),
+        ("In the reference and the tests some:", ("some", "beside"), by_crate),
     ]
     for title, key, rows_of in parts:
         rows += [title, "", *rows_of(found[key]), ""] if key in found else []
