@@ -4,7 +4,9 @@ A citation of Linux is names with a file behind: `NAME`, `NAME` (`FILE`), (`NAME
 folder is one of kernel/irq, or one that the page names with its folder too; each name has to be declared in it. In the
 sections on differences of DEFINITIONS each other name with an underscore that isn't ours has to be declared in
 kernel/irq, in its headers or in a file that is cited there. There too each difference has an anchor of its own, and the
-boards and the rules of the harness's profile that are named are those of kernel/, each of them.
+boards and the rules of the harness's profile that are named are those of kernel/, each of them. A board of kernel/boards
+cites in its comments, as docs/DEFINITIONS.md#ANCHOR, exactly the differences that name it, and so does its row in the table
+of kernel/README; tools/trace judge names anchors that are there.
 """
 
 import functools
@@ -21,6 +23,10 @@ CITED = rf"({NAME}(?:(?:, | and ){NAME})*)(?: \(|, | of ){FILE}"
 # The sections on differences; the one whose items are some, those whose tables have some.
 FIRST, ITEMS, TABLES, LAST = "\n## 24. ", "\n## 25. ", "\n## 26. ", "\n<!-- the files that this page links"
 ANCHOR = r'<a id="([a-z0-9-]+)"></a>'
+# The harness; an anchor as it is cited outside of the page; the differences that tools/trace judge knows.
+KERNEL = TOP / "kernel"
+AT = r"docs/DEFINITIONS\.md#([a-z0-9-]+)"
+REASONS = TOP / "tools" / "tracing" / "reasons.py"
 
 
 @functools.cache
@@ -78,8 +84,28 @@ def sections(text):
 
 def boards_of(text):
     """The boards that are named as showing a difference."""
-    named = re.findall(r"\*\*Board\*\*: ([^.;]*)|[Tt]he board (`\w+`) shows", text)
-    return {it for pair in named for it in re.findall(r"`([a-z0-9_]+)`", "".join(pair))}
+    return {it for named in re.findall(r"\*\*Board\*\*: ([^.;]*)", text) for it in re.findall(r"`([a-z0-9_]+)`", named)}
+
+
+def shown(text):
+    """Each difference, by its anchor, with each board that is named as showing it."""
+    for part in re.split(r"(?=<a id=)", sections(text))[1:]:
+        for board in boards_of(part.partition("\n\n")[0]):
+            yield re.match(ANCHOR, part)[1], board
+
+
+def cited_by_boards():
+    """Each anchor that the comments of a board of the harness cite, with that board."""
+    for file in sorted((KERNEL / "boards").glob("*.board")):
+        for comment in re.findall(r"^#.*", file.read_text(encoding="utf-8"), re.M):
+            yield from ((anchor, file.stem) for anchor in re.findall(AT, comment))
+
+
+def cited_by_rows():
+    """Each anchor that the row of a board cites in the table of differences of kernel/README, with that board."""
+    table = (KERNEL / "README.md").read_text(encoding="utf-8")
+    for board, cell in re.findall(r"^\|[^|\n]*\| `(\w+)`: ([^|\n]*)\|", table, re.M):
+        yield from ((anchor, board) for anchor in re.findall(AT, cell))
 
 
 def rules_of(text):
@@ -89,7 +115,7 @@ def rules_of(text):
 
 def rules_there():
     """The rules that the harness has."""
-    found = re.search(r"^RULES = \((.*?)^\)", (TOP / "kernel" / "boardtext.py").read_text(encoding="utf-8"), re.M | re.S)
+    found = re.search(r"^RULES = \((.*?)^\)", (KERNEL / "boardtext.py").read_text(encoding="utf-8"), re.M | re.S)
     return set(re.findall(r'"([a-z-]+)"', found[1] if found else ""))
 
 
@@ -97,6 +123,18 @@ def both_ways(place, what, named, there):
     """Yields each that is named or there, and whether it is both."""
     for it in sorted(named | there):
         yield f"{what} {it}: " + ("no difference names it" if it in there else f"not in {place}"), it in named & there
+
+
+def look_at_citings(text):
+    """Yields each citing of a difference by a board, and by its row of kernel/README, that is there or has to be, and whether it is both."""
+    anchors, named = set(re.findall(ANCHOR, text)), set(shown(text))
+    for place, cited in ("the board {}", set(cited_by_boards())), ("the row of {} in kernel/README.md", set(cited_by_rows())):
+        for anchor, board in sorted(named | cited):
+            lacks = "which doesn't name it" if anchor in anchors else "which isn't there"
+            fault = f"cites {anchor}, {lacks}" if (anchor, board) in cited else f"doesn't cite {anchor}, which names it"
+            yield f"{place.format(board)}: {fault}", (anchor, board) in named & cited
+    for anchor in sorted(set(re.findall(r'^    "([a-z0-9-]+)": "', REASONS.read_text(encoding="utf-8"), re.M))):
+        yield f"{REASONS.name}: no anchor {anchor}", anchor in anchors
 
 
 def others(text, ours):
@@ -119,9 +157,10 @@ def look_at_differences(text):
     """Yields what is wrong of an item of the list of differences, and whether it is right."""
     listed = sections(text)
     if listed:
-        boards = {it.stem for it in (TOP / "kernel" / "boards").glob("*.board")}
+        boards = {it.stem for it in (KERNEL / "boards").glob("*.board")}
         yield from both_ways("kernel/boards", "the board", boards_of(listed), boards)
         yield from both_ways("kernel/boardtext.py", "the rule", rules_of(listed), rules_there())
+        yield from look_at_citings(text)
     for anchor in sorted(set(re.findall(ANCHOR, text))):
         yield f"the anchor {anchor}: more than one of it", len(re.findall(rf'<a id="{anchor}">', text)) == 1
     list_, items = listed.partition(ITEMS)[2].partition(TABLES)[0], listed.partition(TABLES)[2]
