@@ -134,12 +134,18 @@ def outside(what):
             yield name
 
 
+def in_folders(names):
+    """The names of files in a row: without the folder where it is that of the one before."""
+    folders = ["", *(it.rpartition("/")[0] for it in names)]
+    return ", ".join(f"`{it.rpartition('/')[2] if folders[at] == folders[at + 1] else it}`" for at, it in enumerate(names))
+
+
 def by_crate(files):
     """A row for each crate, with its files."""
     crates = {}
     for crate, file in files:
-        crates.setdefault(crate.name, []).append(f"`{file.relative_to(TOP / 'crates')}`")
-    return [f"- {', '.join(it)}" for it in crates.values()]
+        crates.setdefault(crate.name, []).append(str(file.relative_to(TOP / "crates")))
+    return [f"- {in_folders(it)}" for it in crates.values()]
 
 
 def with_heads(files):
@@ -152,15 +158,15 @@ def list_of(what):
     enums, rows = LISTS[what], []
     found = naming(enums)
     parts = [
-        ("Each is named here, mostly by a match over all, at which the compiler or the prover stops:", ("each", "program"), with_heads),
-        ("Some are named here, to be looked at:", ("some", "program"), by_crate),
-        ("In the reference and the tests each is named here:", ("each", "beside"), by_crate),
-        ("In the reference and the tests some are named here:", ("some", "beside"), by_crate),
+        ("Each is named here:", ("each", "program"), with_heads),
+        ("Some are named here:", ("some", "program"), by_crate),
+        ("In the reference and the tests each:", ("each", "beside"), by_crate),
+        ("In the reference and the tests some:", ("some", "beside"), by_crate),
     ]
     for title, key, rows_of in parts:
         rows += [title, "", *rows_of(found[key]), ""] if key in found else []
     if names := list(outside(what)):
-        rows += [f"Outside of `crates/` their words stand in {', '.join(f'`{it}`' for it in names)}.", ""]
+        rows += [f"Outside of `crates/` their words stand in {in_folders(names)}.", ""]
     each, some = (len(found.get((it, "proofs"), [])) for it in ("each", "some"))
     rows += [f"Proofs that go by cases: {each} name each, {some} some. `tools/cited --proofs {enums[0]}` prints them."]
     return "\n".join(rows) + "\n"

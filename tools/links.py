@@ -1,7 +1,7 @@
 """Links: makes each file that a document names in backticks a link, by a list of links at the document's end.
 
 A link is a name in brackets, [`NAME`], with a row [`NAME`]: FILE in the list. In the kernel's table of ARCHITECTURE the
-definitions of irq_model, the functions of the program and the laws of irq_laws are links too.
+definitions of irq_model and the functions of the program are links too.
 """
 
 import re
@@ -11,7 +11,6 @@ from repository import TOP, read_crates
 PAGES = [f"docs/{it}.md" for it in ("ARCHITECTURE", "DEFINITIONS", "GLOSSARY", "PROMISES", "TOUR")]
 MARK = "\n<!-- the files that this page links, by tools/cited --links -->\n"
 HEAD = "| kernel | entry | definition | program | law |\n"
-LAWS = "crates/irq_laws/src/lib.rt"
 
 
 def file_of(name):
@@ -54,23 +53,20 @@ class Page:
         """The text with each name linked for which there is a file."""
         return re.sub(rf"(?<!\[){pattern}(?!\])", lambda it: self.link(it[1], path_of(it[1])), text)
 
-    def row(self, row, functions_, laws):
+    def row(self, row, functions_):
         """A row of the kernel's table."""
         start, kernel, entry, definition, program, law, end = row.split("|")
         definition = re.sub(r"`(\w+)` of `(\w+/specs)`", lambda it: f"`{it[2]}/{it[1]}.antt`" if file_of(f"{it[2]}/{it[1]}.antt") else it[0], definition)
         definition = self.each(definition, lambda it: file_of(it) or file_of(f"irq_model/specs/{it}.antt"))
         program = self.each(program, lambda it: file_of(it) or functions_.get(tuple(it.split("::"))))
-        if " of `" not in law:
-            law = self.each(law, lambda it: LAWS if it in laws else None)
         return "|".join([start, kernel, entry, definition, program, law, end])
 
     def written(self):
         """The document with its links, and the list of those that it has."""
         before, head, rest = self.body.partition(HEAD)
         table, _, after = rest.partition("\n\n")
-        laws = re.findall(r"^pub fn (\w+)", (TOP / LAWS).read_text(encoding="utf-8"), re.M)
         known = functions() if head else {}
-        table = "\n".join(self.row(it, known, laws) if "`" in it else it for it in table.split("\n"))
+        table = "\n".join(self.row(it, known) if "`" in it else it for it in table.split("\n"))
         parts = [before, f"{head}{table}\n\n" if head else "", after]
         parts = [it if it.startswith(HEAD) else self.each(it, file_of) for it in parts]
         body = "".join(parts)

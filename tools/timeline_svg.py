@@ -12,6 +12,8 @@ BARS = ("flow", "handler", "thread", "until done", "chain", "asleep")
 OF_ALL_LINES = ("chain", "asleep")
 BANDS = ("depth", "masked", "pending")
 SHADES = ("#f9fafb", "#f3f4f6")
+# Of all words and marks that have no other colour.
+INK = "#111827"
 ACTORS = {"t": "thread", "c": "processor", "d": "driver"}
 GRID = 10
 # Wide enough to read a row's place off, and not wider than a page.
@@ -39,15 +41,16 @@ class Picture:
             f'fill="{colour}"><title>{escape(title)}</title></rect>'
         )
 
-    def text(self, x, y, words, fill="#111827", anchor="start"):
-        self.shapes.append(f'<text x="{x}" y="{y}" fill="{fill}" text-anchor="{anchor}">{escape(words)}</text>')
+    def text(self, x, y, words, fill=INK, anchor="start"):
+        other = (f' fill="{fill}"' if fill != INK else "") + (f' text-anchor="{anchor}"' if anchor != "start" else "")
+        self.shapes.append(f'<text x="{x}" y="{y}"{other}>{escape(words)}</text>')
 
     def whole(self):
         """The file."""
         wide, high = max(self.across(self.last + 2), self.legend), self.bottom + GAP
         head = (
             f'<svg xmlns="http://www.w3.org/2000/svg" width="{wide}" height="{high}" viewBox="0 0 {wide} {high}" '
-            f'font-family="sans-serif" font-size="11">\n<rect width="{wide}" height="{high}" fill="#ffffff"/>\n'
+            f'fill="{INK}" font-family="sans-serif" font-size="11">\n<rect width="{wide}" height="{high}" fill="#ffffff"/>\n'
         )
         return head + "\n".join(self.shapes) + "\n</svg>\n"
 
@@ -101,7 +104,7 @@ def lane_of(picture, actor, top, bars, rows):
     for number, row in rows:
         x = picture.across(number)
         picture.shapes.append(
-            f'<path d="M{x} {top + LANE - 6}v6" stroke="#111827" stroke-width="2">'
+            f'<path d="M{x} {top + LANE - 6}v6" stroke="{INK}" stroke-width="2">'
             f"<title>{escape(f'{number}: {row}')}</title></path>"
         )
 
