@@ -26,8 +26,8 @@ use Rattle.board_play.proofs.Members.{AreApart}
 use Rattle.board_core.proofs.LowestMover.{at_first, at_second, either_at, thread_first, cpu_first, driver_first, no_thread, no_cpu, no_driver, script_of}
 use Rattle.board_core.proofs.Movers.{some_with}
 use Rattle.board_core.proofs.ScriptLaws.{script_line}
-use Rattle.board_core.proofs.Standing.{line_at, driver_at, no_call}
-use Rattle.board_core.proofs.LowestStanding.{line_number_within, driver_number_within}
+use Rattle.board_core.proofs.Standing.{driver_at, no_call}
+use Rattle.board_core.proofs.LowestStanding.{driver_number_within}
 use Rattle.board_core.proofs.Kept.{KeptSystem}
 
 module _ (lines : List LineReadiness) where
@@ -51,27 +51,23 @@ module _ {view : SystemSeen} (system : KeptSystem view) where
   abbrev seen : SystemSeen
   seen = seen_of board layout lines order
 
-  pub first_thread : (t : ReadyThread) (line : LineNo)
-      → Some (readies.Thread t) ≡ lowest_thread_or_cpu parts.ready.lines
-      → slice_get parts.line_numbers t.line ≡ Some line.0
-      → IsFirstOf view (threads_of view.board ++ cpus_of view.board) (Some (actors.Thread line t.dev))
-  first_thread t line found at =
-      let x = line_at system t.line line at in
-      let h = thread_first system t x.0 (says parts.ready.lines (Some (readies.Thread t)) found) x.1 in
-      let its : IsFirstOf seen (threads_of board ++ cpus_of board) (Some (actors.Thread x.0.def.line t.dev)) =
+  pub first_thread : (t : ReadyThread) → Some (readies.Thread t) ≡ lowest_thread_or_cpu parts.ready.lines
+      → IsFirstOf view (threads_of view.board ++ cpus_of view.board) (Some (actors.Thread t.dev))
+  first_thread t found =
+      let h = thread_first system t (says parts.ready.lines (Some (readies.Thread t)) found) in
+      let its : IsFirstOf seen (threads_of board ++ cpus_of board) (Some (actors.Thread t.dev)) =
       record {
         place = h.place;
-        at = at_first (threads_of board) (cpus_of board) h.place (actors.Thread x.0.def.line t.dev) h.at;
+        at = at_first (threads_of board) (cpus_of board) h.place (actors.Thread t.dev) h.at;
         moves = ap (λ (o : Option Move). is_some o) h.due_is;
         before = λ j b less at_b. elim (either_at (threads_of board) (cpus_of board) j b at_b) [
           | inl thread ↦ h.before j b less thread
           | inr cpu ↦ absurd (let e = cpu.1 in let w = slice_get_within (threads_of board) h.place
-              (actors.Thread x.0.def.line t.dev) h.at in omega (arith, e, w, less))
+              (actors.Thread t.dev) h.at in omega (arith, e, w, less))
         ];
       } in
-      subst (λ (s : SystemSeen). IsFirstOf s (threads_of s.board ++ cpus_of s.board) (Some (actors.Thread line t.dev)))
-      view_is (subst (λ (l : LineNo). IsFirstOf seen (threads_of board ++ cpus_of board) (Some (actors.Thread l t.dev)))
-      x.2 its)
+      subst (λ (s : SystemSeen). IsFirstOf s (threads_of s.board ++ cpus_of s.board) (Some (actors.Thread t.dev)))
+      view_is its
 
   pub first_cpu : (c : CpuNo) → Some (readies.Cpu c) ≡ lowest_thread_or_cpu parts.ready.lines
       → IsFirstOf view (threads_of view.board ++ cpus_of view.board) (Some (actors.Cpu c))
@@ -170,9 +166,6 @@ module _ {view : SystemSeen} (system : KeptSystem view) where
   script_within j d at = let t = script_at j d at in slice_get_within scripts j t.0 t.1
 
   -- ---- the bounds of places
-
-  pub number_within : (t : ReadyThread) → Some (readies.Thread t) ≡ lowest_thread_or_cpu parts.ready.lines → t.line < length parts.line_numbers
-  number_within t found = line_number_within system t (says parts.ready.lines (Some (readies.Thread t)) found)
 
   pub driver_within : (j : ℕ) → Some j ≡ lowest_driver parts.ready → j < length parts.driver_numbers
   driver_within j found = driver_number_within system j (sym found)

@@ -80,8 +80,8 @@ module _ {view : SystemSeen} (system : KeptSystem view) {a : Actor} {stand : Sta
           omega (arith, l, n, e)
       by_actor (actors.Cpu c) None of = tt
       by_actor (actors.Cpu c) (Some j) of = absurd of
-      by_actor (actors.Thread line d) None of = tt
-      by_actor (actors.Thread line d) (Some j) of = absurd of
+      by_actor (actors.Thread d) None of = tt
+      by_actor (actors.Thread d) (Some j) of = absurd of
 
   pub driver_within : IfSome stand.script (λ j. j < length parts.ready.drivers)
   driver_within = by_place stand.script script_within

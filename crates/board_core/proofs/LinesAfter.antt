@@ -105,4 +105,4 @@ module _ (board : BoardSeen) (isb : IsBoard board) (lines : List BoardLine) (k :
       (ap (λ (o : Option BoardLine). due_on o (actors.Driver r)) cur
       ∙ ap (λ (o : Option Entry). move_on x.def.line o) due)
   step_keeps (actors.Cpu c) i x e at due cur = other_keeps (actors.Cpu c) i x e at due (λ r. refl)
-  step_keeps (actors.Thread line d) i x e at due cur = other_keeps (actors.Thread line d) i x e at due (λ r. refl)
+  step_keeps (actors.Thread d) i x e at due cur = other_keeps (actors.Thread d) i x e at due (λ r. refl)

@@ -14,7 +14,7 @@ use Rattle.irq_base.specs.declared.numbers.DevNo.{DevNo}
 use Rattle.irq_base.specs.declared.numbers.DriverNo.{DriverNo}
 use Rattle.irq_base.specs.declared.numbers.LineNo.{LineNo}
 use Rattle.irq_model.specs.Lines.{is_device}
-use Rattle.irq_steps.proofs.Same.{line_from_same, dev_from_same}
+use Rattle.irq_steps.proofs.Same.{dev_from_same}
 use Rattle.irq_laws.proofs.Chosen.{the_same}
 use Rattle.irq_line.specs.Seen.{LineSeen}
 use Rattle.play_laws.specs.Actors.{count_up}
@@ -36,7 +36,7 @@ use Rattle.board_core.specs.ReadyFor.{call_of}
 use Rattle.board_core.specs.Scripts.{ScriptSeen}
 use Rattle.board_core.specs.Seen.{board_lines}
 use Rattle.board_core.proofs.Movers.{some_of, none_of, not_both, first_append, first_there, none_there, thread_ready}
-use Rattle.board_core.proofs.Movers.{thread_device_of, driver_can}
+use Rattle.board_core.proofs.Movers.{line_of, thread_device_of, driver_can}
 use Rattle.board_core.proofs.CpuMovers.{few_cpus, cpu_stands}
 use Rattle.board_core.proofs.InLists.{map_there, map_back}
 use Rattle.board_core.specs.Seen.{SystemSeen}
@@ -103,26 +103,25 @@ rising_key key (z ∷ zs) rises zero (suc j) x y at_i at_j less
 rising_key key (z ∷ zs) rises (suc i) (suc j) x y at_i at_j less = rising_key key zs (rises_on key z zs rises) i j x y at_i at_j (omega (arith, less))
 
 -- the device's place among all
-record PlaceOf (xs : List DeviceDef) (line : LineNo) (d : DevNo) : Type 0 where
+record PlaceOf (xs : List DeviceDef) (d : DevNo) : Type 0 where
   pub place : ℕ
   pub device : DeviceDef
   pub at : slice_get xs place ≡ Some device
-  pub line_is : device.line ≡ line
   pub dev_is : device.dev ≡ d
 
-device_place : (xs : List DeviceDef) (line : LineNo) (d : DevNo) → list_any (is_device d) (filter (λ x. x.line.0 == line.0) xs) ≡ true → PlaceOf xs line d
+device_place : (xs : List DeviceDef) (line : LineNo) (d : DevNo) → list_any (is_device d) (filter (λ x. x.line.0 == line.0) xs) ≡ true → PlaceOf xs d
 device_place [] line d h = cc
 device_place (x ∷ xs) line d h = by_test (x.line.0 == line.0) refl h (device_place xs line d)
   where
-    further : PlaceOf xs line d → PlaceOf (x ∷ xs) line d
-    further p = record { place = suc p.place; device = p.device; at = p.at; line_is = p.line_is; dev_is = p.dev_is }
+    further : PlaceOf xs d → PlaceOf (x ∷ xs) d
+    further p = record { place = suc p.place; device = p.device; at = p.at; dev_is = p.dev_is }
 
     by_test : (b : Bool) → (x.line.0 == line.0) ≡ b → list_any (is_device d)
         (cond b (x ∷ filter (λ x. x.line.0 == line.0) xs) (filter (λ x. x.line.0 == line.0) xs)) ≡ true
-        → (list_any (is_device d) (filter (λ x. x.line.0 == line.0) xs) ≡ true → PlaceOf xs line d)
-        → PlaceOf (x ∷ xs) line d
+        → (list_any (is_device d) (filter (λ x. x.line.0 == line.0) xs) ≡ true → PlaceOf xs d)
+        → PlaceOf (x ∷ xs) d
     by_test true of_line h deeper = elim (or_cases (is_device d x) (list_any (is_device d) (filter (λ x. x.line.0 == line.0) xs)) h) [
-      | inl is ↦ record { place = zero; device = x; at = refl; line_is = line_from_same x.line line of_line; dev_is = sym (dev_from_same d x.dev is) }
+      | inl is ↦ record { place = zero; device = x; at = refl; dev_is = sym (dev_from_same d x.dev is) }
       | inr there ↦ further (deeper there)
     ]
     by_test false other h deeper = further (deeper h)
@@ -184,56 +183,62 @@ module _ {view : SystemSeen} (system : KeptSystem view) where
   -- ---- threads
 
   pub no_thread : lowest_thread ready.lines ≡ None → None_of (threads_of board)
-  no_thread none j a at = of_device (map_back (λ (x : DeviceDef). actors.Thread x.line x.dev) board.devices j a at)
+  no_thread none j a at = of_device (map_back (λ (x : DeviceDef). actors.Thread x.dev) board.devices j a at)
     where
-      of_device : ((x : DeviceDef) × (slice_get board.devices j ≡ Some x) × (actors.Thread x.line x.dev ≡ a)) → due a ≡ None
-      of_device h = subst (λ (b : Actor). due b ≡ None) h.2 (rests (actors.Thread h.0.line h.0.dev) (λ m is_due.
-          (let t = thread_ready system h.0.line h.0.dev m is_due in
-          not_both (thread_of (slice_get ready.lines t.0)) t.3 (thread_none ready.lines t.0 none) (ap (λ (o : Option LineReadiness). thread_of o) t.6 ∙ t.7))))
+      of_device : ((x : DeviceDef) × (slice_get board.devices j ≡ Some x) × (actors.Thread x.dev ≡ a)) → due a ≡ None
+      of_device h = subst (λ (b : Actor). due b ≡ None) h.2 (rests (actors.Thread h.0.dev) (λ m is_due.
+          (let t = thread_ready system h.0.dev m is_due in
+          not_both (thread_of (slice_get ready.lines t.0)) t.3 (thread_none ready.lines t.0 none) (ap (λ (o : Option LineReadiness). thread_of o) t.5 ∙ t.6))))
 
-  pub thread_first : (t : ReadyThread) (x : LineSeen) → lowest_thread ready.lines ≡ Some t
-      → slice_get lines t.line ≡ Some x → At (threads_of board) (actors.Thread x.def.line t.dev)
-  thread_first t x low at =
+  -- its line is there
+  pub line_there : (t : ReadyThread) → lowest_thread ready.lines ≡ Some t → (x : LineSeen) × (slice_get lines t.line ≡ Some x)
+  line_there t low = by_part (slice_get ready.lines t.line) refl (thread_some ready.lines t low)
+    where
+      by_part : (o : Option LineReadiness) → slice_get ready.lines t.line ≡ o → thread_of o ≡ Some t.dev → (x : LineSeen) × (slice_get lines t.line ≡ Some x)
+      by_part None at its = cc
+      by_part (Some p) at its = let x = line_of system t.line p at in (x.0, x.1)
+
+  pub thread_first : (t : ReadyThread) → lowest_thread ready.lines ≡ Some t → At (threads_of board) (actors.Thread t.dev)
+  thread_first t low =
+      let x = line_there t low in
       let its = thread_some ready.lines t low in
-      let v = thread_device_of system t.line x t.dev at its in
-      let p = device_place board.devices x.def.line t.dev v.1 in
-      let actor : slice_get (threads_of board) p.place ≡ Some (actors.Thread x.def.line t.dev) =
-      map_there (λ (y : DeviceDef). actors.Thread y.line y.dev) board.devices p.place p.device p.at
-      ∙ (ap (λ (l : LineNo). Some (actors.Thread l p.device.dev)) p.line_is
-      ∙ ap (λ (d : DevNo). Some (actors.Thread x.def.line d)) p.dev_is) in
+      let v = thread_device_of system t.line x.0 t.dev x.1 its in
+      let p = device_place board.devices x.0.def.line t.dev v.1 in
+      let actor : slice_get (threads_of board) p.place ≡ Some (actors.Thread t.dev) =
+      map_there (λ (y : DeviceDef). actors.Thread y.dev) board.devices p.place p.device p.at
+      ∙ ap (λ (d : DevNo). Some (actors.Thread d)) p.dev_is in
       record {
         place = p.place;
         at = actor;
         move = v.0.0;
         due_is = v.0.1;
         before
-            = λ j a less at_a. before p j a less (map_back (λ (y : DeviceDef). actors.Thread y.line y.dev) board.devices j
+            = λ j a less at_a. before p j a less (map_back (λ (y : DeviceDef). actors.Thread y.dev) board.devices j
             a at_a);
       }
     where
       rises : Rises (λ (y : DeviceDef). y.dev.0) board.devices
       rises i y at = (is_board.devices i y at).rises
 
-      before : (p : PlaceOf board.devices x.def.line t.dev) (j : ℕ) (a : Actor) → j < p.place
-          → ((y : DeviceDef) × (slice_get board.devices j ≡ Some y) × (actors.Thread y.line y.dev ≡ a)) → due a ≡ None
-      before p j a less h = subst (λ (b : Actor). due b ≡ None) h.2 (rests (actors.Thread h.0.line h.0.dev) (λ m is_due.
-          (let u = thread_ready system h.0.line h.0.dev m is_due in
+      before : (p : PlaceOf board.devices t.dev) (j : ℕ) (a : Actor) → j < p.place
+          → ((y : DeviceDef) × (slice_get board.devices j ≡ Some y) × (actors.Thread y.dev ≡ a)) → due a ≡ None
+      before p j a less h = subst (λ (b : Actor). due b ≡ None) h.2 (rests (actors.Thread h.0.dev) (λ m is_due.
+          (let u = thread_ready system h.0.dev m is_due in
           let below = rising_key (λ (y : DeviceDef). y.dev.0) board.devices rises j p.place h.0 p.device h.1 p.at less in
           let same = ap (λ (d : DevNo). d.0) p.dev_is in
-          let least = thread_least ready.lines t u.0 u.3 low (ap (λ (o : Option LineReadiness). thread_of o) u.6 ∙ u.7) in
-          let le = u.8 in
+          let least = thread_least ready.lines t u.0 u.3 low (ap (λ (o : Option LineReadiness). thread_of o) u.5 ∙ u.6) in
+          let le = u.7 in
           omega (arith, below, same, least, le))))
 
-  pub lowest_is_thread : (t : ReadyThread) (x : LineSeen) → lowest_thread ready.lines ≡ Some t
-      → slice_get lines t.line ≡ Some x → (m : Move) × (due (actors.Thread x.def.line t.dev) ≡ Some m)
-      × (first (actors_of board) ≡ Some m)
-  lowest_is_thread t x low at =
-      let h = thread_first t x low at in (
+  pub lowest_is_thread : (t : ReadyThread) → lowest_thread ready.lines ≡ Some t
+      → (m : Move) × (due (actors.Thread t.dev) ≡ Some m) × (first (actors_of board) ≡ Some m)
+  lowest_is_thread t low =
+      let h = thread_first t low in (
         h.move,
         h.due_is,
         in_turn ∙ ap (λ (o : Option Move). or_move o
             (or_move (first (cpus_of board)) (first (drivers_of board))))
-            (its_move (threads_of board) (actors.Thread x.def.line t.dev) h),
+            (its_move (threads_of board) (actors.Thread t.dev) h),
       )
 
   -- ---- processors

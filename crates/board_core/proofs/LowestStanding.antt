@@ -23,11 +23,11 @@ use Rattle.board_core.specs.Scripts.{ScriptSeen}
 use Rattle.board_core.specs.Seen.{SystemSeen, board_lines}
 use Rattle.board_core.specs.Stands.{IsAt, IsLowestStand}
 use Rattle.board_core.specs.declared.stands.Stand.{Stand}
-use Rattle.board_core.proofs.LowestMover.{lowest_says, lowest_is_thread, lowest_is_cpu, lowest_is_driver, nobody, script_of}
-use Rattle.board_core.proofs.Movers.{not_both}
+use Rattle.board_core.proofs.LowestMover.{lowest_says, line_there, lowest_is_thread, lowest_is_cpu, lowest_is_driver, nobody, script_of}
+use Rattle.board_core.proofs.Movers.{not_both, line_of_due, lowest_due}
 use Rattle.board_core.proofs.CpuMovers.{cpu_stands}
 use Rattle.board_core.proofs.Kept.{KeptSystem}
-use Rattle.board_core.proofs.Standing.{line_at, place_is, driver_at, at_script}
+use Rattle.board_core.proofs.Standing.{thread_place, driver_at, at_script}
 
 module _ {view : SystemSeen} (system : KeptSystem view) where
   open system use {board, layout, lines, scripts, order, parts, kept, view_is}
@@ -35,20 +35,18 @@ module _ {view : SystemSeen} (system : KeptSystem view) where
   abbrev seen : SystemSeen
   seen = seen_of board layout lines order
 
-  pub lowest_thread_stands : (t : ReadyThread) (line : LineNo) (stand : Stand)
-      → Some (readies.Thread t) ≡ lowest parts.ready → slice_get parts.line_numbers t.line ≡ Some line.0
+  pub lowest_thread_stands : (t : ReadyThread) (stand : Stand) → Some (readies.Thread t) ≡ lowest parts.ready
       → stand ≡ record { line = t.line; script = None }
-      → IsLowestStand view (Some (actors.Thread line t.dev, stand))
-  lowest_thread_stands t line stand is_lowest at same =
+      → IsLowestStand view (Some (actors.Thread t.dev, stand))
+  lowest_thread_stands t stand is_lowest same =
       let low = lowest_says parts.ready (Some (readies.Thread t)) is_lowest in
-      let x = line_at system t.line line at in
-      let h = lowest_is_thread system t x.0 low x.1 in
-      let stands : IsLowestStand seen (Some (actors.Thread x.0.def.line t.dev, record { line = t.line; script = None })) =
-      (record { line = place_is system t.line x.0 x.1; script = tt }, h.2 ∙ sym h.1, ap (λ (o : Option Move). is_some o) h.1) in
-      subst (λ (w : SystemSeen). IsLowestStand w (Some (actors.Thread line t.dev, stand))) view_is
-      (subst (λ (u : Stand). IsLowestStand seen (Some (actors.Thread line t.dev, u))) (sym same)
-      (subst (λ (l : LineNo). IsLowestStand seen (Some
-      (actors.Thread l t.dev, record { line = t.line; script = None }))) x.2 stands))
+      let h = lowest_is_thread system t low in
+      let x = line_there system t low in
+      let its = line_of_due system t.line x.0 t.dev x.1 (lowest_due system t.line x.0 t.dev x.1 (thread_some parts.ready.lines t low)) in
+      let stands : IsLowestStand seen (Some (actors.Thread t.dev, record { line = t.line; script = None })) =
+      (record { line = thread_place system t.dev t.line x.0 x.1 its; script = tt }, h.2 ∙ sym h.1, ap (λ (o : Option Move). is_some o) h.1) in
+      subst (λ (w : SystemSeen). IsLowestStand w (Some (actors.Thread t.dev, stand))) view_is
+      (subst (λ (u : Stand). IsLowestStand seen (Some (actors.Thread t.dev, u))) (sym same) stands)
 
   pub lowest_cpu_stands : (c : CpuNo) (k : ℕ) (stand : Stand) → Some (readies.Cpu c) ≡ lowest parts.ready
       → Some k ≡ cpu_line parts.ready.lines c.0 → stand ≡ record { line = k; script = None }
@@ -100,21 +98,6 @@ module _ {view : SystemSeen} (system : KeptSystem view) where
       (nobody system low.0 low.1 low.2)
 
   -- the bounds of the places
-  pub line_number_within : (t : ReadyThread) → lowest_thread parts.ready.lines ≡ Some t → t.line < length parts.line_numbers
-  line_number_within t low =
-      let within = part_within (slice_get parts.ready.lines t.line) (thread_some parts.ready.lines t low) refl in
-      let a = kept.ready.all_lines in
-      let b = ap (λ (ns : List ℕ). length ns) kept.line_numbers in
-      let c = length-map lines (λ (x : LineSeen). x.def.line.0) in
-      omega (arith, within, a, b, c)
-    where
-      part_within : (o : Option LineReadiness) → thread_of o ≡ Some t.dev → slice_get parts.ready.lines t.line ≡ o → t.line < length parts.ready.lines
-      part_within None h at = cc
-      part_within (Some p) h at = slice_get_within parts.ready.lines t.line p at
-
-  pub line_number_there : (t : ReadyThread) → Some (readies.Thread t) ≡ lowest parts.ready → t.line < length parts.line_numbers
-  line_number_there t is_lowest = line_number_within t (lowest_says parts.ready (Some (readies.Thread t)) is_lowest)
-
   pub driver_number_within : (j : ℕ) → lowest_driver parts.ready ≡ Some j → j < length parts.driver_numbers
   driver_number_within j low =
       let f = (first_some (is_driver_ready parts.ready) (length parts.ready.drivers) j low).0 in

@@ -4,6 +4,7 @@ use Rattle.std.proofs.Common.{is_some, IsTrue, ◌↔◌, IsSome, IsSomeAnd, Opt
 use Rattle.std.proofs.Common.{map, length, reverse, filter, slice_get, refl, sym, ap, ◌∙◌, subst, arith}
 use Rattle.std.specs.List.{list_any}
 use Rattle.std.proofs.lemmas.Option.{slice_get_within}
+use Rattle.irq_base.specs.declared.devices.DeviceDef.{DeviceDef}
 use Rattle.irq_base.specs.declared.entries.Actor.{Actor}
 use Rattle.irq_base.specs.declared.entries.Actor.TheVariants as actors
 use Rattle.irq_base.specs.declared.entries.Entry.{Entry}
@@ -11,29 +12,26 @@ use Rattle.irq_base.specs.declared.lines.LineDef.{LineDef}
 use Rattle.irq_base.specs.declared.numbers.DevNo.{DevNo}
 use Rattle.irq_base.specs.declared.numbers.LineNo.{LineNo}
 use Rattle.irq_model.specs.Legal.{IsLegalPast}
-use Rattle.irq_model.specs.Lines.{is_device}
+use Rattle.irq_model.specs.Lines.{has_device, is_device}
 use Rattle.irq_model.specs.Next.{next, next_past, next_of_thread}
 use Rattle.irq_model.specs.Valid.{IsValid}
-use Rattle.irq_steps.proofs.Same.{same_self_line}
 use Rattle.irq_base.specs.declared.waiting.WaitFor.{WaitFor}
 use Rattle.irq_base.specs.declared.waiting.WaitFor.TheVariants as waits
 use Rattle.irq_laws.specs.Blocks.{block_of}
 use Rattle.irq_laws.proofs.Chosen.{the_same}
-use Rattle.irq_laws.proofs.KeptAlways.{kept as kept_past}
 use Rattle.irq_line.specs.Queries.{IsLowestThread, IsThreadDue, blocks_of, is_blocked}
 use Rattle.irq_line.specs.Seen.{LineSeen}
 use Rattle.irq_line.proofs.Waits.{call_waits}
 use Rattle.play_laws.specs.Actors.{IsOneOf}
-use Rattle.play_laws.proofs.Listed.{thread_device}
 use Rattle.board_def.specs.Seen.{BoardSeen}
-use Rattle.board_play.specs.Lines.{BoardLine, Move, defs_of}
-use Rattle.board_play.specs.Order.{line_for, move_on, due_on, due_move, actors_of}
+use Rattle.board_play.specs.Lines.{BoardLine, Move, defs_of, find_line}
+use Rattle.board_play.specs.Order.{device_line, line_for, move_on, due_on, due_move, actors_of}
 use Rattle.board_play.specs.Play.{or_move, first_move}
 use Rattle.board_play.proofs.KeptAlways.{apart_kept}
 use Rattle.board_play.proofs.Listed.{def_at, all_rest}
-use Rattle.board_play.proofs.Members.{AreApart, find_there, found}
+use Rattle.board_play.proofs.Members.{AreApart, find_there}
 use Rattle.board_play.proofs.Moves.{moves_on}
-use Rattle.board_play.proofs.OfBoard.{valid_defs, def_of_row}
+use Rattle.board_play.proofs.OfBoard.{valid_defs, def_of_row, device_found}
 use Rattle.board_ready.specs.Kept.{thread_of}
 use Rattle.board_ready.specs.Ready.{is_barred, is_open, can_go_on}
 use Rattle.irq_base.specs.declared.waiting.Blocks.{Blocks}
@@ -180,53 +178,62 @@ module _ {view : SystemSeen} (system : KeptSystem view) where
 
   -- ---- threads
 
+  of_device : (x : LineSeen) (d : DevNo) → IsThreadDue x d → has_device x.def d ≡ true
+  of_device x d due = by_device (has_device x.def d) due
+    where
+      by_device : (b : Bool) → is_some (cond b (next_of_thread x.def d (reverse x.entries)) None) ≡ true → b ≡ true
+      by_device true due = refl
+      by_device false due = cc
+
+  -- a thread that has an entry due is on that line
+  pub line_of_due : (k : ℕ) (x : LineSeen) (d : DevNo) → slice_get lines k ≡ Some x → IsThreadDue x d
+      → line_for board (board_lines lines) (actors.Thread d) ≡ Some (board_line x)
+  line_of_due k x d at due =
+      let f = device_found board is_board k x.def (definition k x at) d (of_device x d due) in
+      ap (λ (o : Option DeviceDef). device_line (board_lines lines) o) f.found
+      ∙ (ap (λ (l : LineNo). find_line (board_lines lines) l) f.on_line ∙ find_there (board_lines lines) apart k (board_line x) (at_line k x at))
+
   pub thread_moves : (k : ℕ) (x : LineSeen) (d : DevNo) → slice_get lines k ≡ Some x → IsThreadDue x d
-      → (m : Move) × (due_move board (board_lines lines) (actors.Thread x.def.line d) ≡ Some m)
+      → (m : Move) × (due_move board (board_lines lines) (actors.Thread d) ≡ Some m)
   thread_moves k x d at due =
-      let e = some_of (next x.def x.entries (actors.Thread x.def.line d)) due in (
+      let e = some_of (next x.def x.entries (actors.Thread d)) due in (
         (x.def.line, e.0),
-        ap (λ (o : Option BoardLine). due_on o (actors.Thread x.def.line d))
-            (find_there (board_lines lines) apart k (board_line x) (at_line k x at))
+        ap (λ (o : Option BoardLine). due_on o (actors.Thread d)) (line_of_due k x d at due)
             ∙ ap (λ (o : Option Entry). move_on x.def.line o) e.1,
       )
 
   -- a thread that can move is at its line no lower than the lowest
-  pub thread_ready : (line : LineNo) (d : DevNo) (m : Move) → due_move board (board_lines lines) (actors.Thread line d) ≡ Some m
+  pub thread_ready : (d : DevNo) (m : Move) → due_move board (board_lines lines) (actors.Thread d) ≡ Some m
       → (k : ℕ) × (x : LineSeen) × (p : LineReadiness) × (lowest : DevNo) × (slice_get lines k ≡ Some x)
-      × (line ≡ x.def.line) × (slice_get ready.lines k ≡ Some p) × (p.thread ≡ Some lowest) × (lowest.0 ≤ d.0)
-  thread_ready line d m due =
-      let v = is_move (actors.Thread line d) m due in
-      let f = found (board_lines lines) line (board_line v.line) v.its in
+      × (slice_get ready.lines k ≡ Some p) × (p.thread ≡ Some lowest) × (lowest.0 ≤ d.0)
+  thread_ready d m due =
+      let v = is_move (actors.Thread d) m due in
       let p = part_of v.place v.line v.at in
-      let is_due : IsThreadDue v.line d = ap (λ (l : LineNo). is_some
-      (next v.line.def v.line.entries (actors.Thread l d))) (sym f.number)
-      ∙ ap (λ (o : Option Entry). is_some o) v.due in
-      by_lowest v.place v.line p.0 v.at f.number p.1 p.0.thread refl p.2.thread is_due
+      by_lowest v.place v.line p.0 v.at p.1 p.0.thread refl p.2.thread (ap (λ (o : Option Entry). is_some o) v.due)
     where
-      by_lowest : (k : ℕ) (x : LineSeen) (p : LineReadiness) → slice_get lines k ≡ Some x → line ≡ x.def.line
+      by_lowest : (k : ℕ) (x : LineSeen) (p : LineReadiness) → slice_get lines k ≡ Some x
           → slice_get ready.lines k ≡ Some p → (o : Option DevNo) → p.thread ≡ o → IsLowestThread x o → IsThreadDue x d
           → (k : ℕ) × (x : LineSeen) × (p : LineReadiness) × (lowest : DevNo) × (slice_get lines k ≡ Some x)
-          × (line ≡ x.def.line) × (slice_get ready.lines k ≡ Some p) × (p.thread ≡ Some lowest) × (lowest.0 ≤ d.0)
-      by_lowest k x p at number at_p None thread least is_due = absurd (least d is_due)
-      by_lowest k x p at number at_p (Some lowest) thread least is_due = (k, x, p, lowest, at, number, at_p, thread, least.1 d is_due)
+          × (slice_get ready.lines k ≡ Some p) × (p.thread ≡ Some lowest) × (lowest.0 ≤ d.0)
+      by_lowest k x p at at_p None thread least is_due = absurd (least d is_due)
+      by_lowest k x p at at_p (Some lowest) thread least is_due = (k, x, p, lowest, at, at_p, thread, least.1 d is_due)
+
+  pub lowest_due : (k : ℕ) (x : LineSeen) (d : DevNo) → slice_get lines k ≡ Some x → thread_of (slice_get ready.lines k) ≡ Some d → IsThreadDue x d
+  lowest_due k x d at its =
+      let p = part_of k x at in
+      let low : p.0.thread ≡ Some d = ap (λ (o : Option LineReadiness). thread_of o) (sym p.1) ∙ its in
+      (subst (λ (o : Option DevNo). IsLowestThread x o) low p.2.thread).0
 
   -- the lowest thread of a line can move, and its device is one of the line's
   pub thread_device_of : (k : ℕ) (x : LineSeen) (d : DevNo) → slice_get lines k ≡ Some x → thread_of (slice_get ready.lines k) ≡ Some d
-      → ((m : Move) × (due_move board (board_lines lines) (actors.Thread x.def.line d) ≡ Some m))
+      → ((m : Move) × (due_move board (board_lines lines) (actors.Thread d) ≡ Some m))
       × (list_any (is_device d) (filter (λ y. y.line.0 == x.def.line.0) board.devices) ≡ true)
   thread_device_of k x d at its =
-      let p = part_of k x at in
-      let low : p.0.thread ≡ Some d = ap (λ (o : Option LineReadiness). thread_of o) (sym p.1) ∙ its in
-      let due : IsThreadDue x d = (subst (λ (o : Option DevNo). IsLowestThread x o) low p.2.thread).0 in
-      let e = some_of (next x.def x.entries (actors.Thread x.def.line d)) due in
-      let own : next_of_thread x.def d (reverse x.entries)
-      ≡ Some e.0 = ap (λ (b : Bool). cond b (next_of_thread x.def d (reverse x.entries)) None)
-      (sym (same_self_line x.def.line)) ∙ e.1 in
+      let due = lowest_due k x d at its in
       let o = def_of_row board k x.def (definition k x at) in (
         thread_moves k x d at due,
-        subst (λ (def : LineDef). list_any (is_device d) def.devices ≡ true
-            → list_any (is_device d) (filter (λ y. y.line.0 == def.line.0) board.devices) ≡ true) o.is (λ h. h)
-            (thread_device x.def (reverse x.entries) d e.0 (kept_past x.def (reverse x.entries) (valid k x at) (legal k x at)) own),
+        subst (λ (def : LineDef). has_device def d ≡ true
+            → list_any (is_device d) (filter (λ y. y.line.0 == def.line.0) board.devices) ≡ true) o.is (λ h. h) (of_device x d due),
       )
 
   -- ---- drivers

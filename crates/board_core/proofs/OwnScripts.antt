@@ -24,7 +24,6 @@ use Rattle.board_def.specs.Seen.{BoardSeen}
 use Rattle.board_def.specs.declared.rows.ScriptCall.{ScriptCall}
 use Rattle.board_play.specs.Lines.{BoardLine}
 use Rattle.board_play.proofs.Counting.{not_all_complete, not_completed, others_complete, one_completed, none_complete, kth_is_due}
-use Rattle.board_play.proofs.Moving.{by_driver_is}
 use Rattle.board_core.specs.Inside.{drivers_of}
 use Rattle.board_core.specs.Making.{AreCut, call_put, with_call}
 use Rattle.board_core.specs.Numbers.{IsPlaceOfNumber, numbers_of_drivers}
@@ -217,25 +216,25 @@ same_driver_put e s = by_step (slice_get s.calls s.at)
 -- the drivers' scripts on the line after one more entry, which was due
 pub own_more : {rs : List DriverNo} → Rises (λ (r : DriverNo). r.0) rs → {numbers : List ℕ}
     → numbers ≡ numbers_of_drivers rs → {x : BoardLine} (e : Entry) → IsDue x.def e x.past → (q : Option ℕ)
-    → IsPlaceOfActor numbers (actor_of x.def.line e) q → {scripts new : List ScriptSeen}
+    → IsPlaceOfActor numbers (actor_of e) q → {scripts new : List ScriptSeen}
     → new ≡ scripts_after q (Ok (Some e)) scripts → AreOwn rs x scripts → AreOwn rs (with_entry e x) new
 own_more {rs} rises {numbers} are {x} e due q place {scripts} {new} is own
     = subst (λ (ss : List ScriptSeen). AreOwn rs (with_entry e x) ss) (sym (is ∙ entry_is q e scripts))
-    (by_actor (actor_of x.def.line e) refl place)
+    (by_actor (actor_of e) refl place)
   where
-    nobody : (a : Actor) → actor_of x.def.line e ≡ a → ((r : DriverNo) → is_driver r a ≡ false) → q ≡ None
+    nobody : (a : Actor) → actor_of e ≡ a → ((r : DriverNo) → is_driver r a ≡ false) → q ≡ None
         → AreOwn rs (with_entry e x) (put_at (advanced e) q scripts)
     nobody a who none at =
         subst (λ (o : Option ℕ). AreOwn rs (with_entry e x) (put_at (advanced e) o scripts)) (sym at)
         (record {
           drivers = own.drivers;
           each = λ j s at_s. other_goes x e s
-              (by_driver_is x.def.line s.driver e ∙ (ap (is_driver s.driver) who ∙ none s.driver)) (own.each j s at_s);
+              (ap (is_driver s.driver) who ∙ none s.driver) (own.each j s at_s);
         })
 
-    by_actor : (a : Actor) → actor_of x.def.line e ≡ a → IsPlaceOfActor numbers a q → AreOwn rs (with_entry e x) (put_at (advanced e) q scripts)
+    by_actor : (a : Actor) → actor_of e ≡ a → IsPlaceOfActor numbers a q → AreOwn rs (with_entry e x) (put_at (advanced e) q scripts)
     by_actor (actors.Cpu c) who at = nobody (actors.Cpu c) who (λ r. refl) at
-    by_actor (actors.Thread line d) who at = nobody (actors.Thread line d) who (λ r. refl) at
+    by_actor (actors.Thread d) who at = nobody (actors.Thread d) who (λ r. refl) at
     by_actor (actors.Driver r) who at =
         record {
           drivers = drivers_put rs rises r scripts own.drivers (advanced e) (same_driver_put e) q;
@@ -244,7 +243,7 @@ own_more {rs} rises {numbers} are {x} e due q place {scripts} {new} is own
         }
       where
         by : (d : DriverNo) → is_by_driver d e ≡ same_driver d r
-        by d = by_driver_is x.def.line d e ∙ ap (is_driver d) who
+        by d = ap (is_driver d) who
 
         others : (s : ScriptSeen) → same_driver s.driver r ≡ false → IsOwn x s → IsOwn (with_entry e x) s
         others s differs is_own = other_goes x e s (by s.driver ∙ differs) is_own
@@ -260,7 +259,7 @@ pub actor_fits : (board : BoardSeen) (scripts : List ScriptSeen) (numbers : List
     → IfSome q (λ j. j < length scripts)
 actor_fits board scripts numbers (actors.Driver r) q are is place = script_there board scripts numbers r.0 q are is place
 actor_fits board scripts numbers (actors.Cpu c) q are is place = subst (λ (o : Option ℕ). IfSome o (λ j. j < length scripts)) (sym place) tt
-actor_fits board scripts numbers (actors.Thread line d) q are is place = subst (λ (o : Option ℕ). IfSome o (λ j. j < length scripts)) (sym place) tt
+actor_fits board scripts numbers (actors.Thread d) q are is place = subst (λ (o : Option ℕ). IfSome o (λ j. j < length scripts)) (sym place) tt
 
 -- ---- the scripts on a line without entries, call by call
 

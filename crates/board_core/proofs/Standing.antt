@@ -2,6 +2,7 @@
 use Rattle.std.proofs.Common.{◌≡◌, ℕ, suc, ◌==◌, inl, inr, true, false, is_some, Option, Some, None, List, [], ◌∷◌}
 use Rattle.std.proofs.Common.{map, slice_get, refl, sym, ap, ◌∙◌, subst, eq-eqb}
 use Rattle.std.proofs.lemmas.Bool.{leb-true, le-leb, or_cases}
+use Rattle.irq_base.specs.declared.devices.DeviceDef.{DeviceDef}
 use Rattle.irq_base.specs.declared.entries.Actor.{Actor}
 use Rattle.irq_base.specs.declared.entries.Actor.TheVariants as actors
 use Rattle.irq_base.specs.declared.numbers.CpuNo.{CpuNo}
@@ -14,10 +15,10 @@ use Rattle.irq_steps.proofs.Same.{line_from_same, driver_from_same}
 use Rattle.irq_laws.proofs.Lists.{both_ways}
 use Rattle.irq_line.specs.Queries.{IsLowestThread}
 use Rattle.irq_line.specs.Seen.{LineSeen}
-use Rattle.board_def.specs.Rules.{has_driver}
+use Rattle.board_def.specs.Rules.{find_device, has_driver}
 use Rattle.board_play.specs.Current.{current_line}
 use Rattle.board_play.specs.Lines.{BoardLine, Move, find_line}
-use Rattle.board_play.specs.Order.{line_for, move_on, due_on, due_move}
+use Rattle.board_play.specs.Order.{device_line, line_for, move_on, due_on, due_move}
 use Rattle.board_play.proofs.KeptAlways.{apart_kept}
 use Rattle.board_play.proofs.Members.{AreApart, find_there, found}
 use Rattle.board_play.proofs.Moves.{line_stands}
@@ -37,7 +38,7 @@ use Rattle.board_core.specs.Turns.{move_of}
 use Rattle.board_core.specs.declared.turns.Turn.{Turn}
 use Rattle.board_core.specs.declared.stands.Stand.{Stand}
 use Rattle.board_core.proofs.LowestMover.{script_of, current_is, driver_ready_is}
-use Rattle.board_core.proofs.Movers.{some_of, none_of, some_with, not_both, somebody, thread_moves, thread_ready, script_place}
+use Rattle.board_core.proofs.Movers.{some_of, none_of, some_with, not_both, somebody, line_of_due, thread_moves, script_place}
 use Rattle.board_core.proofs.CpuMovers.{cpu_stands}
 use Rattle.board_core.proofs.InLists.{map_there, map_back}
 use Rattle.board_core.proofs.Kept.{KeptSystem}
@@ -87,64 +88,87 @@ module _ {view : SystemSeen} (system : KeptSystem view) where
   part_there : (k : ℕ) (x : LineSeen) → slice_get lines k ≡ Some x → (p : LineReadiness) × (slice_get parts.ready.lines k ≡ Some p) × IsReadinessOf x p
   part_there k x at = some_with (IsReadinessOf x) (slice_get parts.ready.lines k) (kept.ready.each_line k x at)
 
-  pub thread_there : (line : LineNo) (d : DevNo) (k : ℕ) (stand : Stand) → slice_get parts.line_numbers k ≡ Some line.0
-      → has_thread_up_to (slice_get parts.ready.lines k) d ≡ true → stand ≡ record { line = k; script = None }
-      → IsStand view (actors.Thread line d) (Some stand)
-  thread_there line d k stand at up_to same =
-      let x = line_at k line at in
-      let p = part_there k x.0 x.1 in
-      let h = by_thread x.0 x.1 p.0.thread p.2.thread (ap (λ (o : Option LineReadiness). has_thread_up_to o d) (sym p.1) ∙ up_to) in
-      subst (λ (s : SystemSeen). IsStand s (actors.Thread line d) (Some stand)) view_is
-      (subst (λ (t : Stand). IsStand seen (actors.Thread line d) (Some t)) (sym same)
-      (subst (λ (l : LineNo). IsStand seen (actors.Thread l d) (Some (record { line = k; script = None }))) x.2 h))
+  -- where no line stands with this number
+  no_line : (line : LineNo) → ((k : ℕ) → slice_get parts.line_numbers k ≡ Some line.0 → ⊥) → find_line (board_lines lines) line ≡ None
+  no_line line none = by_line (find_line (board_lines lines) line) refl
     where
-      by_thread : (x : LineSeen) → slice_get lines k ≡ Some x → (o : Option DevNo) → IsLowestThread x o
-          → is_up_to d o ≡ true → IsStand seen (actors.Thread x.def.line d) (Some (record { line = k; script = None }))
-      by_thread x at None low up_to = cc
-      by_thread x at (Some lowest) low up_to =
+      by_line : (o : Option BoardLine) → find_line (board_lines lines) line ≡ o → find_line (board_lines lines) line ≡ None
+      by_line None is_none = is_none
+      by_line (Some y) there =
+          let f = found (board_lines lines) line y there in
+          let x = map_back board_line lines f.place y f.at in
+          let number : x.0.def.line ≡ line = ap (λ (z : BoardLine). z.def.line) x.2 ∙ sym f.number in
+          absurd (none f.place (ap (λ (ns : List ℕ). slice_get ns f.place) kept.line_numbers
+          ∙ (map_there (λ (x : LineSeen). x.def.line.0) lines f.place x.0 x.1
+          ∙ ap (λ (l : LineNo). Some l.0) number)))
+
+  -- the line of a device
+  its_line : (d : DevNo) (device : DeviceDef) → Some device ≡ find_device board.devices d → (k : ℕ) (x : LineSeen)
+      → slice_get lines k ≡ Some x → x.def.line ≡ device.line → line_for board (board_lines lines) (actors.Thread d) ≡ Some (board_line x)
+  its_line d device there k x at number =
+      ap (λ (o : Option DeviceDef). device_line (board_lines lines) o) (sym there)
+      ∙ (ap (λ (l : LineNo). find_line (board_lines lines) l) (sym number)
+      ∙ find_there (board_lines lines) apart k (board_line x) (map_there board_line lines k x at))
+
+  pub thread_place : (d : DevNo) (k : ℕ) (x : LineSeen) → slice_get lines k ≡ Some x
+      → line_for board (board_lines lines) (actors.Thread d) ≡ Some (board_line x)
+      → IsPlace (board_lines lines) (Some k) (line_for board (board_lines lines) (actors.Thread d))
+  thread_place d k x at its = (ap (λ (o : Option BoardLine). is_some o) its, map_there board_line lines k x at ∙ sym its)
+
+  pub thread_there : (d : DevNo) (device : DeviceDef) (k : ℕ) (stand : Stand) → Some device ≡ find_device board.devices d
+      → slice_get parts.line_numbers k ≡ Some device.line.0 → has_thread_up_to (slice_get parts.ready.lines k) d ≡ true
+      → stand ≡ record { line = k; script = None } → IsStand view (actors.Thread d) (Some stand)
+  thread_there d device k stand there at up_to same =
+      let x = line_at k device.line at in
+      let p = part_there k x.0 x.1 in
+      let its = its_line d device there k x.0 x.1 x.2 in
+      subst (λ (s : SystemSeen). IsStand s (actors.Thread d) (Some stand)) view_is
+      (subst (λ (t : Stand). IsStand seen (actors.Thread d) (Some t)) (sym same)
+      (by_thread x.0 x.1 its p.0.thread p.2.thread (ap (λ (o : Option LineReadiness). has_thread_up_to o d) (sym p.1) ∙ up_to)))
+    where
+      by_thread : (x : LineSeen) → slice_get lines k ≡ Some x → line_for board (board_lines lines) (actors.Thread d) ≡ Some (board_line x)
+          → (o : Option DevNo) → IsLowestThread x o → is_up_to d o ≡ true
+          → IsStand seen (actors.Thread d) (Some (record { line = k; script = None }))
+      by_thread x at its None low up_to = cc
+      by_thread x at its (Some lowest) low up_to =
           let m = thread_moves system k x lowest at low.0 in (
-            record { line = place_is k x at; script = tt },
+            record { line = thread_place d k x at its; script = tt },
             record {
-              actor = (lowest, leb-true lowest.0 d.0 up_to, ap (λ (o : Option Move). is_some o) m.1);
-              somebody = somebody system (actors.Thread x.def.line lowest) m.0 m.1;
+              actor = (lowest, leb-true lowest.0 d.0 up_to, line_of_due system k x lowest at low.0 ∙ sym its, ap (λ (o : Option Move). is_some o) m.1);
+              somebody = somebody system (actors.Thread lowest) m.0 m.1;
             },
           )
 
-  -- a thread of a line that it isn't up to, and one of no line
-  pub thread_below : (line : LineNo) (d : DevNo) (k : ℕ) → slice_get parts.line_numbers k ≡ Some line.0
-      → has_thread_up_to (slice_get parts.ready.lines k) d ≡ false → IsStand view (actors.Thread line d) None
-  thread_below line d k at above =
-      let x = line_at k line at in
+  -- a thread that its line isn't up to, one whose line takes no part, and one of no device
+  pub thread_below : (d : DevNo) (device : DeviceDef) (k : ℕ) → Some device ≡ find_device board.devices d
+      → slice_get parts.line_numbers k ≡ Some device.line.0 → has_thread_up_to (slice_get parts.ready.lines k) d ≡ false
+      → IsStand view (actors.Thread d) None
+  thread_below d device k there at above =
+      let x = line_at k device.line at in
       let p = part_there k x.0 x.1 in
-      subst (λ (s : SystemSeen). IsStand s (actors.Thread line d) None) view_is
-      (subst (λ (l : LineNo). IsStand seen (actors.Thread l d) None) x.2
-      (by_thread x.0 x.1 p.0.thread p.2.thread (ap (λ (o : Option LineReadiness). has_thread_up_to o d) (sym p.1)
-      ∙ above) (next x.0.def x.0.entries (actors.Thread x.0.def.line d)) refl))
+      subst (λ (s : SystemSeen). IsStand s (actors.Thread d) None) view_is
+      (by_thread x.0 (its_line d device there k x.0 x.1 x.2) p.0.thread p.2.thread
+      (ap (λ (o : Option LineReadiness). has_thread_up_to o d) (sym p.1) ∙ above) (next x.0.def x.0.entries (actors.Thread d)) refl)
     where
-      by_thread : (x : LineSeen) → slice_get lines k ≡ Some x → (o : Option DevNo) → IsLowestThread x o
-          → is_up_to d o ≡ false → (e : Option Entry) → next x.def x.entries (actors.Thread x.def.line d) ≡ e
-          → IsStand seen (actors.Thread x.def.line d) None
-      by_thread x at o low above None due =
-          ap (λ (y : Option BoardLine). due_on y (actors.Thread x.def.line d))
-          (find_there (board_lines lines) apart k (board_line x) (map_there board_line lines k x at))
-          ∙ ap (λ (y : Option Entry). move_on x.def.line y) due
-      by_thread x at None low above (Some e) due = absurd (low d (ap (λ (y : Option Entry). is_some y) due))
-      by_thread x at (Some lowest) low above (Some e) due
+      by_thread : (x : LineSeen) → line_for board (board_lines lines) (actors.Thread d) ≡ Some (board_line x)
+          → (o : Option DevNo) → IsLowestThread x o → is_up_to d o ≡ false → (e : Option Entry)
+          → next x.def x.entries (actors.Thread d) ≡ e → IsStand seen (actors.Thread d) None
+      by_thread x its o low above None due =
+          ap (λ (y : Option BoardLine). due_on y (actors.Thread d)) its ∙ ap (λ (y : Option Entry). move_on x.def.line y) due
+      by_thread x its None low above (Some e) due = absurd (low d (ap (λ (y : Option Entry). is_some y) due))
+      by_thread x its (Some lowest) low above (Some e) due
           = absurd (both_ways (is_up_to d (Some lowest))
           (le-leb lowest.0 d.0 (low.1 d (ap (λ (y : Option Entry). is_some y) due))) above)
 
-  pub thread_nowhere : (line : LineNo) (d : DevNo) → ((k : ℕ) → slice_get parts.line_numbers k ≡ Some line.0 → ⊥) → IsStand view (actors.Thread line d) None
-  thread_nowhere line d none = subst (λ (s : SystemSeen). IsStand s (actors.Thread line d) None) view_is
-      (by_move (due_move board (board_lines lines) (actors.Thread line d)) refl)
-    where
-      by_move : (o : Option Move) → due_move board (board_lines lines) (actors.Thread line d) ≡ o
-          → due_move board (board_lines lines) (actors.Thread line d) ≡ None
-      by_move None due = due
-      by_move (Some m) due =
-          let t = thread_ready system line d m due in
-          absurd (none t.0 (ap (λ (ns : List ℕ). slice_get ns t.0) kept.line_numbers
-          ∙ (map_there (λ (x : LineSeen). x.def.line.0) lines t.0 t.1 t.4
-          ∙ ap (λ (l : LineNo). Some l.0) (sym t.5))))
+  pub thread_nowhere : (d : DevNo) (device : DeviceDef) → Some device ≡ find_device board.devices d
+      → ((k : ℕ) → slice_get parts.line_numbers k ≡ Some device.line.0 → ⊥) → IsStand view (actors.Thread d) None
+  thread_nowhere d device there none = subst (λ (s : SystemSeen). IsStand s (actors.Thread d) None) view_is
+      (ap (λ (o : Option DeviceDef). due_on (device_line (board_lines lines) o) (actors.Thread d)) (sym there)
+      ∙ ap (λ (o : Option BoardLine). due_on o (actors.Thread d)) (no_line device.line none))
+
+  pub thread_of_none : (d : DevNo) → None ≡ find_device board.devices d → IsStand view (actors.Thread d) None
+  thread_of_none d none = subst (λ (s : SystemSeen). IsStand s (actors.Thread d) None) view_is
+      (ap (λ (o : Option DeviceDef). due_on (device_line (board_lines lines) o) (actors.Thread d)) (sym none))
 
   -- ---- drivers
 
@@ -234,17 +258,7 @@ module _ {view : SystemSeen} (system : KeptSystem view) where
       by_place (Some j) at = driver_at j d at
 
   pub line_nowhere : (line : LineNo) → ((k : ℕ) → slice_get parts.line_numbers k ≡ Some line.0 → ⊥) → find_line (board_lines view.lines) line ≡ None
-  line_nowhere line none = subst (λ (s : SystemSeen). find_line (board_lines s.lines) line ≡ None) view_is (by_line (find_line (board_lines lines) line) refl)
-    where
-      by_line : (o : Option BoardLine) → find_line (board_lines lines) line ≡ o → find_line (board_lines lines) line ≡ None
-      by_line None is_none = is_none
-      by_line (Some y) there =
-          let f = found (board_lines lines) line y there in
-          let x = map_back board_line lines f.place y f.at in
-          let number : x.0.def.line ≡ line = ap (λ (z : BoardLine). z.def.line) x.2 ∙ sym f.number in
-          absurd (none f.place (ap (λ (ns : List ℕ). slice_get ns f.place) kept.line_numbers
-          ∙ (map_there (λ (x : LineSeen). x.def.line.0) lines f.place x.0 x.1
-          ∙ ap (λ (l : LineNo). Some l.0) number)))
+  line_nowhere line none = subst (λ (s : SystemSeen). find_line (board_lines s.lines) line ≡ None) view_is (no_line line none)
 
   pub line_there : (line : LineNo) (a : Actor) (k : ℕ) (o : Option ℕ) (stand : Stand)
       → slice_get parts.line_numbers k ≡ Some line.0 → IsCurrentOn view line a → IsScriptPlace view a o
@@ -269,7 +283,7 @@ module _ {view : SystemSeen} (system : KeptSystem view) where
     where
       is_current : (a : Actor) → IsCurrentOn seen line a → slice_get (board_lines lines) k ≡ find_line (board_lines lines) line → IsCurrentAt seen a k
       is_current (actors.Cpu c) cur place = tt
-      is_current (actors.Thread l d) cur place = tt
+      is_current (actors.Thread d) cur place = tt
       is_current (actors.Driver r) cur place =
           let y = some_with (λ z. z.def.line ≡ line) (current_line board.calls (board_lines lines) r) cur in
           let s = line_stands board (board_lines lines) (actors.Driver r) y.0 y.1 in
@@ -281,7 +295,7 @@ module _ {view : SystemSeen} (system : KeptSystem view) where
           absurd (not_both (current_line board.calls (board_lines lines) r) y.0 none y.1)
       is_script (actors.Driver r) (Some j) cur at = at
       is_script (actors.Cpu c) o cur its = its
-      is_script (actors.Thread l d) o cur its = its
+      is_script (actors.Thread d) o cur its = its
 
 -- what a search by number answers
 pub number_there : {numbers items : List ℕ} (n : ℕ) {k : ℕ} {o : Option ℕ} → numbers ≡ items
@@ -306,7 +320,7 @@ can_step s a stand at = record { line = ap (λ (o : Option BoardLine). is_some o
     by_actor : (a : Actor) → IsPlace (board_lines s.lines) (Some stand.line) (line_for s.board (board_lines s.lines) a) → IsCurrentAt s a stand.line
     by_actor (actors.Driver r) place = sym place.1
     by_actor (actors.Cpu c) place = tt
-    by_actor (actors.Thread line d) place = tt
+    by_actor (actors.Thread d) place = tt
 
 pub steps_by_move : (old new : SystemSeen) (a : Actor) (stand : Stand) (turn : Turn) → IsAt old a stand
     → StepsBy old (due_on (slice_get (board_lines old.lines) stand.line) a) turn new

@@ -25,7 +25,6 @@ use Rattle.board_play.specs.Order.{line_for, move_on, due_on}
 use Rattle.board_play.proofs.KeptAlways.{apart_kept}
 use Rattle.board_play.proofs.Listed.{def_at}
 use Rattle.board_play.proofs.Members.{AreApart, find_there}
-use Rattle.board_play.proofs.Moving.{by_driver_is}
 use Rattle.board_core.specs.Stands.{IsCurrentAt, CanStepAt}
 use Rattle.board_core.specs.declared.stands.Stand.{Stand}
 use Rattle.board_play.proofs.OfBoard.{def_of_row, has_calls}
@@ -76,7 +75,7 @@ module _ {view : SystemSeen} (system : KeptSystem view) {a : Actor} {stand : Sta
       → IsCurrentAt seen b k → IsCurrentOf board (board_lines lines) b x
   current_as (actors.Driver r) at cur = cur ∙ at
   current_as (actors.Cpu c) at cur = tt
-  current_as (actors.Thread line d) at cur = tt
+  current_as (actors.Thread d) at cur = tt
 
   log_is : (x : LineSeen) → slice_get lines k ≡ Some x → x.def.log ≡ board.log
   log_is x at =
@@ -105,7 +104,7 @@ module _ {view : SystemSeen} (system : KeptSystem view) {a : Actor} {stand : Sta
   -- ---- the scripts after the step
 
   whose : (x : LineSeen) (e : Entry) → next x.def x.entries a ≡ Some e → (r : DriverNo) → is_by_driver r e ≡ is_driver r a
-  whose x e due r = by_driver_is x.def.line r e ∙ ap (is_driver r) (due_is_own_past x.def (reverse x.entries) a e due)
+  whose x e due r = ap (is_driver r) (due_is_own_past x.def (reverse x.entries) a e due)
 
   driver_at : (j : ℕ) (s : ScriptSeen) → slice_get scripts j ≡ Some s → slice_get board.drivers j ≡ Some s.driver
   driver_at j s at = subst (λ (rs : List DriverNo). slice_get rs j ≡ Some s.driver) kept.system.drivers
@@ -148,12 +147,12 @@ module _ {view : SystemSeen} (system : KeptSystem view) {a : Actor} {stand : Sta
   no_driver : (b : Actor) → IsScriptOf board.drivers b None → (r : DriverNo) → is_driver r b ≡ false
   no_driver (actors.Driver s) of r = absurd of
   no_driver (actors.Cpu c) of r = refl
-  no_driver (actors.Thread line d) of r = refl
+  no_driver (actors.Thread d) of r = refl
 
   its_driver : (b : Actor) (j : ℕ) → IsScriptOf board.drivers b (Some j) → (r : DriverNo) × (b ≡ actors.Driver r) × (slice_get board.drivers j ≡ Some r)
   its_driver (actors.Driver s) j of = (s, refl, of)
   its_driver (actors.Cpu c) j of = absurd of
-  its_driver (actors.Thread line d) j of = absurd of
+  its_driver (actors.Thread d) j of = absurd of
 
   each_after : (x : LineSeen) (e : Entry) → slice_get lines k ≡ Some x → next x.def x.entries a ≡ Some e
       → (o : Option ℕ) → IsScriptOf board.drivers a o → (i : ℕ) (s : ScriptSeen)

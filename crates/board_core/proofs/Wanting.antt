@@ -1,5 +1,5 @@
 -- For which step of a system memory was refused.
-use Rattle.std.proofs.Common.{◌≡◌, ℕ, IsSome, Option, Some, List, [], ◌∷◌, length, reverse, slice_get, sym, ◌∙◌}
+use Rattle.std.proofs.Common.{◌≡◌, ℕ, IsSome, Option, Some, List, [], ◌∷◌, length, reverse, slice_get, refl, sym, ◌∙◌}
 use Rattle.std.proofs.Common.{subst, arith}
 use Rattle.irq_base.specs.declared.entries.Actor.{Actor}
 use Rattle.irq_base.specs.declared.entries.Actor.TheVariants as actors
@@ -37,7 +37,7 @@ module _ (may_want : Option Entry → Type 0) where
       subst (λ (s : SystemSeen). WantsLowest may_want s) (sym refused.1) (subst (λ (x : Turn). LowestWants may_want old x) same wants)
 
   may_move : (s : SystemSeen) (a : Actor) → IsSome (move_of s a) → MayMove s a
-  may_move s (actors.Thread line d) some = (d, omega arith, some)
+  may_move s (actors.Thread d) some = (d, omega arith, refl, some)
   may_move s (actors.Cpu c) some = some
   may_move s (actors.Driver r) some = some
 

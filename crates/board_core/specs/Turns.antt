@@ -7,7 +7,7 @@ use Rattle.irq_base.specs.declared.numbers.DevNo.{DevNo}
 use Rattle.irq_base.specs.declared.numbers.LineNo.{LineNo}
 use Rattle.board_def.specs.Seen.{BoardSeen}
 use Rattle.board_play.specs.Lines.{BoardLine, Move, find_line, lines_after}
-use Rattle.board_play.specs.Order.{due_move, actors_of}
+use Rattle.board_play.specs.Order.{line_for, due_move, actors_of}
 use Rattle.board_play.specs.Play.{first_move}
 use Rattle.board_core.specs.Seen.{SystemSeen, board_lines}
 use Rattle.board_core.specs.declared.turns.Turn.{Turn}
@@ -49,8 +49,10 @@ TurnsBy old due turns.NoMemory new = IsSome due × (new ≡ old)
 -- The actor has a move. For a thread less is known: it, or the thread of a device with a lower
 -- number, has a move on its line; a line tells only the lowest of its threads.
 abbrev pub CanMove : BoardSeen → List BoardLine → Actor → Type 0
-CanMove b lines (actors.Thread line d) =
-    (lowest : DevNo) × (lowest.0 ≤ d.0) × IsSome (due_move b lines (actors.Thread line lowest))
+CanMove b lines (actors.Thread d) =
+    (lowest : DevNo) × (lowest.0 ≤ d.0)
+    × (line_for b lines (actors.Thread lowest) ≡ line_for b lines (actors.Thread d))
+    × IsSome (due_move b lines (actors.Thread lowest))
 CanMove b lines a = IsSome (due_move b lines a)
 
 abbrev pub MayMove : SystemSeen → Actor → Type 0

@@ -13,7 +13,7 @@ use crate::numbers::place_of;
 use crate::scripts::Script;
 use crate::turning::advance;
 use board_def::{Board, ScriptCall};
-use irq_base::{Actor, Entry, LineDef, LineNo, NoMemory};
+use irq_base::{Actor, Entry, LineDef, NoMemory};
 use irq_line::IrqLine;
 use std::alloc::Global;
 
@@ -69,21 +69,21 @@ fn own_scripts<L: IrqLine>(
         let Some(entry) = history.get(i) else {
             unreachable!();
         };
-        tell(&mut own, board, driver_numbers, def.line, entry);
+        tell(&mut own, board, driver_numbers, entry);
     }
     Ok(own)
 }
 
 /// The script of the entry's driver goes on with the entry, if it is a driver's.
-fn tell(own: &mut Vec<Script>, board: &Board, driver_numbers: &[u32], line: LineNo, entry: Entry)
+fn tell(own: &mut Vec<Script>, board: &Board, driver_numbers: &[u32], entry: Entry)
     requires numbers { driver_numbers.now ≡ numbers_of_drivers board.now.drivers }
     requires drivers { drivers_of own.old.items ≡ board.now.drivers }
-    ensures { (x : BoardLine) → x.def.line ≡ line → IsDue x.def entry x.past
+    ensures { (x : BoardLine) → IsDue x.def entry x.past
         → AreOwn board.now.drivers x own.old.items
         → AreOwn board.now.drivers (with_entry entry x) own.new.items }
 {
     board.is_board();
-    let script = place_of_actor(board, driver_numbers, entry.actor(line));
+    let script = place_of_actor(board, driver_numbers, entry.actor());
     advance(own, script, &Ok(Some(entry)));
 }
 

@@ -222,10 +222,7 @@ impl<'b, L: IrqLine> System<'b, L> {
     {
         self.board.is_board();
         match self.ready.lowest_thread_or_cpu() {
-            Some(ReadyActor::Thread(thread)) => {
-                let line = LineNo(self.line_numbers[thread.line]);
-                Some(Actor::Thread(line, thread.dev))
-            }
+            Some(ReadyActor::Thread(thread)) => Some(Actor::Thread(thread.dev)),
             Some(ReadyActor::Cpu(cpu)) => Some(Actor::Cpu(cpu)),
             Some(ReadyActor::Driver(_)) => unreachable!(),
             None => None,
@@ -297,7 +294,7 @@ impl<'b, L: IrqLine> System<'b, L> {
         ensures { IsStand self.now actor result }
     {
         match actor {
-            Actor::Thread(line, dev) => self.thread_stand(line, dev),
+            Actor::Thread(dev) => self.thread_stand(dev),
             Actor::Cpu(cpu) => self.cpu_stand(cpu),
             Actor::Driver(driver) => self.driver_stand(driver),
         }
@@ -305,11 +302,14 @@ impl<'b, L: IrqLine> System<'b, L> {
 
     /// Where the thread of the device steps. Of a line's threads only the lowest ready one is
     /// known: one above it may have nothing to do.
-    fn thread_stand(&self, line: LineNo, dev: DevNo) -> Option<Stand>
-        ensures { IsStand self.now (actors.Thread line dev) result }
+    fn thread_stand(&self, dev: DevNo) -> Option<Stand>
+        ensures { IsStand self.now (actors.Thread dev) result }
     {
         self.board.is_board();
-        let Some(k) = place_of(&self.line_numbers, line.0) else {
+        let Some(device) = self.board.find_device(dev) else {
+            return None;
+        };
+        let Some(k) = place_of(&self.line_numbers, device.line.0) else {
             return None;
         };
         if has_thread_up_to(self.ready.line(k), dev) {
@@ -363,16 +363,13 @@ impl<'b, L: IrqLine> System<'b, L> {
     {
         self.board.is_board();
         match self.ready.lowest() {
-            Some(ReadyActor::Thread(thread)) => {
-                let line = LineNo(self.line_numbers[thread.line]);
-                Some((
-                    Actor::Thread(line, thread.dev),
-                    Stand {
-                        line: thread.line,
-                        script: None,
-                    },
-                ))
-            }
+            Some(ReadyActor::Thread(thread)) => Some((
+                Actor::Thread(thread.dev),
+                Stand {
+                    line: thread.line,
+                    script: None,
+                },
+            )),
             Some(ReadyActor::Cpu(cpu)) => match self.ready.cpu_line(cpu) {
                 Some(k) => Some((
                     Actor::Cpu(cpu),

@@ -12,16 +12,14 @@ use Rattle.irq_base.specs.declared.numbers.CpuNo.{CpuNo}
 use Rattle.irq_base.specs.declared.numbers.DevNo.{DevNo}
 use Rattle.irq_base.specs.declared.numbers.DriverNo.{DriverNo}
 use Rattle.irq_base.specs.declared.numbers.LineNo.{LineNo}
-use Rattle.irq_model.specs.Kinds.{same_line}
 use Rattle.irq_model.specs.Legal.{IsLegalPast}
-use Rattle.irq_model.specs.Lines.{is_device}
+use Rattle.irq_model.specs.Lines.{is_device, has_device}
 use Rattle.irq_model.specs.Next.{next_of_thread, next_past}
 use Rattle.irq_model.specs.Valid.{IsValid}
-use Rattle.irq_steps.proofs.Same.{dev_from_same, driver_from_same, line_from_same}
+use Rattle.irq_steps.proofs.Same.{dev_from_same, driver_from_same}
 use Rattle.irq_laws.proofs.Chosen.{chosen}
-use Rattle.irq_laws.proofs.KeptAlways.{kept}
 use Rattle.play_laws.specs.Actors.{threads_of as threads_of_line, cpus_of as cpus_of_line, drivers_of as drivers_of_line, actors_of as actors_of_line, IsOneOf}
-use Rattle.play_laws.proofs.Listed.{in_first, in_second, thread_device, mover_listed}
+use Rattle.play_laws.proofs.Listed.{in_first, in_second, mover_listed}
 use Rattle.board_def.specs.Rules.{IsBoard, has_driver}
 use Rattle.board_def.specs.Seen.{BoardSeen}
 use Rattle.board_play.specs.Kept.{AreKept}
@@ -42,49 +40,41 @@ def_at board lines k i x at = subst (λ (ds : List LineDef). slice_get ds i ≡ 
 -- a device that is on the line
 device_listed : (line : LineNo) (d : DevNo) (xs : List DeviceDef)
     → list_any (is_device d) (filter (λ x. x.line.0 == line.0) xs) ≡ true
-    → IsOneOf (actors.Thread line d) (map (λ (x : DeviceDef). actors.Thread x.line x.dev) xs)
+    → IsOneOf (actors.Thread d) (map (λ (x : DeviceDef). actors.Thread x.dev) xs)
 device_listed line d [] h = cc
-device_listed line d (x ∷ xs) h = by_test (x.line.0 == line.0) refl h (device_listed line d xs)
+device_listed line d (x ∷ xs) h = by_test (x.line.0 == line.0) h (device_listed line d xs)
   where
-    here : same_line x.line line ≡ true → is_device d x ≡ true → actors.Thread line d ≡ actors.Thread x.line x.dev
-    here of_line is = ap (λ (l : LineNo). actors.Thread l d) (sym (line_from_same x.line line of_line))
-        ∙ ap (λ (e : DevNo). actors.Thread x.line e) (dev_from_same d x.dev is)
-
-    by_test : (b : Bool) → (x.line.0 == line.0) ≡ b → list_any (is_device d)
+    by_test : (b : Bool) → list_any (is_device d)
         (cond b (x ∷ filter (λ x. x.line.0 == line.0) xs) (filter (λ x. x.line.0 == line.0) xs)) ≡ true
         → (list_any (is_device d) (filter (λ x. x.line.0 == line.0) xs) ≡ true
-        → IsOneOf (actors.Thread line d) (map (λ (x : DeviceDef). actors.Thread x.line x.dev) xs))
-        → (actors.Thread line d ≡ actors.Thread x.line x.dev) ⊎ IsOneOf (actors.Thread line d) (map (λ (x : DeviceDef). actors.Thread x.line x.dev) xs)
-    by_test true of_line h deeper = elim (or_cases (is_device d x)
+        → IsOneOf (actors.Thread d) (map (λ (x : DeviceDef). actors.Thread x.dev) xs))
+        → (actors.Thread d ≡ actors.Thread x.dev) ⊎ IsOneOf (actors.Thread d) (map (λ (x : DeviceDef). actors.Thread x.dev) xs)
+    by_test true h deeper = elim (or_cases (is_device d x)
         (list_any (is_device d) (filter (λ x. x.line.0 == line.0) xs)) h)
-        [ inl is ↦ inl (here of_line is) | inr there ↦ inr (deeper there) ]
-    by_test false other h deeper = inr (deeper h)
+        [ inl is ↦ inl (ap (λ (e : DevNo). actors.Thread e) (dev_from_same d x.dev is)) | inr there ↦ inr (deeper there) ]
+    by_test false h deeper = inr (deeper h)
 
-thread_listed : (board : BoardSeen) (x : BoardLine) → OfRow board board.lines x.def → IsValid x.def
-    → IsLegalPast x.def x.past → (line : LineNo) (d : DevNo) (e : Entry)
-    → next_past x.def x.past (actors.Thread line d) ≡ Some e
-    → IsOneOf (actors.Thread line d) (threads_of board)
-thread_listed board x o valid legal line d e due = by_line (chosen (same_line line x.def.line) (next_of_thread x.def d x.past) None e due)
+thread_listed : (board : BoardSeen) (x : BoardLine) → OfRow board board.lines x.def → (d : DevNo) (e : Entry)
+    → next_past x.def x.past (actors.Thread d) ≡ Some e
+    → IsOneOf (actors.Thread d) (threads_of board)
+thread_listed board x o d e due = by_device (chosen (has_device x.def d) (next_of_thread x.def d x.past) None e due)
   where
-    of_row : list_any (is_device d) x.def.devices ≡ true → IsOneOf (actors.Thread x.def.line d) (threads_of board)
+    of_row : list_any (is_device d) x.def.devices ≡ true → IsOneOf (actors.Thread d) (threads_of board)
     of_row named =
         let there : list_any (is_device d) (filter (λ x. x.line.0 == o.row.line.0) board.devices)
         ≡ true = subst (λ (def : LineDef). list_any (is_device d) def.devices ≡ true) (sym o.is) named in
-        subst (λ (def : LineDef). IsOneOf (actors.Thread def.line d) (threads_of board)) o.is (device_listed o.row.line d board.devices there)
+        device_listed o.row.line d board.devices there
 
-    by_line : ((same_line line x.def.line ≡ true) × (next_of_thread x.def d x.past ≡ Some e))
-        ⊎ ((same_line line x.def.line ≡ false) × (None ≡ Some e)) → IsOneOf (actors.Thread line d) (threads_of board)
-    by_line (inl h) =
-        subst (λ (l : LineNo). IsOneOf (actors.Thread l d) (threads_of board))
-        (sym (line_from_same line x.def.line h.0))
-        (of_row (thread_device x.def x.past d e (kept x.def x.past valid legal) h.1))
-    by_line (inr h) = let n = h.1 in cc
+    by_device : ((has_device x.def d ≡ true) × (next_of_thread x.def d x.past ≡ Some e))
+        ⊎ ((has_device x.def d ≡ false) × (None ≡ Some e)) → IsOneOf (actors.Thread d) (threads_of board)
+    by_device (inl h) = of_row h.0
+    by_device (inr h) = let n = h.1 in cc
 
 -- ---- processors
 
-no_thread : (line : LineNo) (c : CpuNo) (ns : List ℕ) → IsOneOf (actors.Cpu c) (map (λ n. actors.Thread line (record { 0 = n })) ns) → ⊥
-no_thread line c [] at = at
-no_thread line c (n ∷ ns) at = elim at [ inl here ↦ cc | inr there ↦ no_thread line c ns there ]
+no_thread : (c : CpuNo) (ns : List ℕ) → IsOneOf (actors.Cpu c) (map (λ n. actors.Thread (record { 0 = n })) ns) → ⊥
+no_thread c [] at = at
+no_thread c (n ∷ ns) at = elim at [ inl here ↦ cc | inr there ↦ no_thread c ns there ]
 
 no_driver : (c : CpuNo) (ns : List ℕ) → IsOneOf (actors.Cpu c) (map (λ n. actors.Driver (record { 0 = n })) ns) → ⊥
 no_driver c [] at = at
@@ -106,7 +96,7 @@ cpu_listed board x o valid legal c e due =
   where
     of_cpus : IsOneOf (actors.Cpu c) (actors_of_line x.def) → IsOneOf (actors.Cpu c) (cpus_of_line x.def)
     of_cpus at = elim (in_either (actors.Cpu c) (threads_of_line x.def) (cpus_of_line x.def ++ drivers_of_line x.def) at) [
-      | inl thread ↦ absurd (no_thread x.def.line c _ thread)
+      | inl thread ↦ absurd (no_thread c _ thread)
       | inr rest ↦ elim (in_either (actors.Cpu c) (cpus_of_line x.def) (drivers_of_line x.def) rest)
           [ inl cpu ↦ cpu | inr driver ↦ absurd (no_driver c _ driver) ]
     ]
@@ -131,11 +121,10 @@ caller_listed board is lines r x its =
 
 listed : (board : BoardSeen) → IsBoard board → AreValid board → (lines : List BoardLine) → AreKept board lines
     → (a : Actor) (m : Move) → MovesOn board lines a m → IsOneOf a (actors_of board)
-listed board is valid lines k (actors.Thread line d) m moves =
+listed board is valid lines k (actors.Thread d) m moves =
     let at = def_at board lines k moves.place moves.line moves.at in
-    in_first (actors.Thread line d) (threads_of board) (cpus_of board ++ drivers_of board)
-    (thread_listed board moves.line (def_of_row board moves.place moves.line.def at)
-    (valid moves.place moves.line.def at) (k.legal moves.place moves.line moves.at) line d m.1 moves.due)
+    in_first (actors.Thread d) (threads_of board) (cpus_of board ++ drivers_of board)
+    (thread_listed board moves.line (def_of_row board moves.place moves.line.def at) d m.1 moves.due)
 listed board is valid lines k (actors.Cpu c) m moves =
     let at = def_at board lines k moves.place moves.line moves.at in
     in_second (actors.Cpu c) (threads_of board) (cpus_of board ++ drivers_of board) (in_first (actors.Cpu c) (cpus_of board) (drivers_of board)

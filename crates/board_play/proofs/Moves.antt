@@ -1,5 +1,6 @@
 -- What a move is: an entry that is due of an actor on one of the lines.
 use Rattle.std.proofs.Common.{◌≡◌, ℕ, zero, suc, Bool, true, false, ◌&&◌, cond, is_some, Option, Some, None, List, [], ◌∷◌, slice_get, refl, sym, ap, ◌∙◌}
+use Rattle.irq_base.specs.declared.devices.DeviceDef.{DeviceDef}
 use Rattle.irq_base.specs.declared.entries.Actor.{Actor}
 use Rattle.irq_base.specs.declared.entries.Actor.TheVariants as actors
 use Rattle.irq_base.specs.declared.entries.Entry.{Entry}
@@ -10,11 +11,12 @@ use Rattle.irq_model.specs.Kinds.{same_driver}
 use Rattle.irq_model.specs.Next.{next_past}
 use Rattle.irq_model.specs.Rounds.{flow, is_cpu}
 use Rattle.irq_laws.proofs.Chosen.{the_same}
+use Rattle.board_def.specs.Rules.{find_device}
 use Rattle.board_def.specs.Seen.{BoardSeen}
 use Rattle.board_def.specs.declared.rows.ScriptCall.{ScriptCall}
 use Rattle.board_play.specs.Current.{calls_on, is_open, current_from}
 use Rattle.board_play.specs.Lines.{BoardLine, Move, find_line}
-use Rattle.board_play.specs.Order.{flow_line, due_line, or_line, line_for, move_on, due_on, due_move, actors_of}
+use Rattle.board_play.specs.Order.{device_line, flow_line, due_line, or_line, line_for, move_on, due_on, due_move, actors_of}
 use Rattle.board_play.specs.Play.{or_move, first_move, with_picks, or_choice, choice}
 use Rattle.board_play.proofs.Members.{found}
 
@@ -28,6 +30,10 @@ further y ys x s = record { place = suc s.place; at = s.at }
 
 pub found_stands : (lines : List BoardLine) (line : LineNo) (x : BoardLine) → find_line lines line ≡ Some x → Stands lines x
 found_stands lines line x is = let f = found lines line x is in record { place = f.place; at = f.at }
+
+device_stands : (lines : List BoardLine) (device : Option DeviceDef) (x : BoardLine) → device_line lines device ≡ Some x → Stands lines x
+device_stands lines None x is = cc
+device_stands lines (Some d) x is = found_stands lines d.line x is
 
 -- the first that passes a test
 first_stands : (test : Bool) (y : BoardLine) (ys : List BoardLine) (other : Option BoardLine) (x : BoardLine)
@@ -60,7 +66,7 @@ current_stands lines r before (c ∷ cs) x is = by_test (same_driver r c.driver 
     by_test false is deeper = deeper is
 
 pub line_stands : (board : BoardSeen) (lines : List BoardLine) (a : Actor) (x : BoardLine) → line_for board lines a ≡ Some x → Stands lines x
-line_stands board lines (actors.Thread line d) x is = found_stands lines line x is
+line_stands board lines (actors.Thread d) x is = device_stands lines (find_device board.devices d) x is
 line_stands board lines (actors.Cpu c) x is = either_stands lines (flow_line lines c) (due_line lines c) x is (flow_stands lines c x) (due_stands lines c x)
 line_stands board lines (actors.Driver r) x is = current_stands lines r [] board.calls x is
 

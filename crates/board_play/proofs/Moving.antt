@@ -2,12 +2,10 @@
 use Rattle.std.proofs.Common.{◌≡◌, ℕ, zero, suc, ◌+◌, ◌<◌, ◌≤◌, ◌⊎◌, inl, inr, Bool, true, false, ◌&&◌, cond, IsSomeAnd}
 use Rattle.std.proofs.Common.{Option, Some, None, List, [], ◌∷◌, map, take, slice_get, refl, sym, ap, ◌∙◌, subst, arith}
 use Rattle.std.proofs.Common.{eq-eqb}
-use Rattle.irq_base.specs.Who.{actor_of}
 use Rattle.irq_base.specs.declared.calls.Call.{Call}
 use Rattle.irq_base.specs.declared.entries.Actor.{Actor}
 use Rattle.irq_base.specs.declared.entries.Actor.TheVariants as actors
 use Rattle.irq_base.specs.declared.entries.Entry.{Entry}
-use Rattle.irq_base.specs.declared.entries.Entry.TheVariants as entries
 use Rattle.irq_base.specs.declared.lines.LineDef.{LineDef}
 use Rattle.irq_base.specs.declared.numbers.DriverNo.{DriverNo}
 use Rattle.irq_base.specs.declared.numbers.LineNo.{LineNo}
@@ -51,13 +49,6 @@ moved_at (x ∷ xs) m zero y at = record { line = x; at = refl; is = the_same (l
 moved_at (x ∷ xs) m (suc i) y at = let s = moved_at xs m i y at in record { line = s.line; at = s.at; is = s.is }
 
 -- ---- whose entry it is
-
-pub by_driver_is : (line : LineNo) (r : DriverNo) (e : Entry) → is_by_driver r e ≡ is_driver r (actor_of line e)
-by_driver_is line r (entries.ThreadBegin dev) = refl
-by_driver_is line r (entries.ThreadReturn dev served) = refl
-by_driver_is line r (entries.Finish dev kept unmask) = refl
-by_driver_is line r (entries.Done dev) = refl
-by_driver_is line r e = refl
 
 due_some : (def : LineDef) (r : DriverNo) (past : List Entry) (e : Entry)
     → next_past def past (actors.Driver r) ≡ Some e → (x : Call × ℕ) × (due_call def r past ≡ Some x)
@@ -292,7 +283,7 @@ pub up_to_more : (board : BoardSeen) (lines : List BoardLine) → AreApart (map 
 up_to_more board lines apart a m moves r p u = by_test (is_by_driver r m.1) refl
   where
     whose : is_by_driver r m.1 ≡ is_driver r a
-    whose = by_driver_is moves.line.def.line r m.1 ∙ ap (is_driver r) (due_is_own_past moves.line.def moves.line.past a m.1 moves.due)
+    whose = ap (is_driver r) (due_is_own_past moves.line.def moves.line.past a m.1 moves.due)
 
     of_driver : (s : DriverNo) → a ≡ actors.Driver s → r ≡ s → is_by_driver r m.1 ≡ true → (q : ℕ) × IsUpTo board.calls (lines_after m lines) r q
     of_driver s is same own =
@@ -305,7 +296,7 @@ up_to_more board lines apart a m moves r p u = by_test (is_by_driver r m.1) refl
     by_actor : (b : Actor) → a ≡ b → is_driver r b ≡ true → is_by_driver r m.1 ≡ true → (q : ℕ) × IsUpTo board.calls (lines_after m lines) r q
     by_actor (actors.Driver s) is test own = of_driver s is (driver_from_same r s test) own
     by_actor (actors.Cpu c) is test own = cc
-    by_actor (actors.Thread line d) is test own = cc
+    by_actor (actors.Thread d) is test own = cc
 
     by_test : (b : Bool) → is_by_driver r m.1 ≡ b → (q : ℕ) × IsUpTo board.calls (lines_after m lines) r q
     by_test true own = by_actor a refl (sym whose ∙ own) own

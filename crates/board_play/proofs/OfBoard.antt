@@ -1,25 +1,31 @@
 -- What is known of the definitions of a board's lines: each is the definition of a row, whatever
 -- the layout refuses.
 use Rattle.std.proofs.Common.{◌≡◌, ℕ, zero, suc, ◌+◌, ◌<◌, ◌==◌, Bool, true, false, ◌&&◌, cond, Some, List, [], ◌∷◌}
-use Rattle.std.proofs.Common.{map, filter, length, take, slice_get, refl, ap, ◌∙◌, subst, arith}
+use Rattle.std.proofs.Common.{map, filter, length, take, slice_get, refl, sym, ap, ◌∙◌, subst, inl, inr, arith}
+use Rattle.std.specs.List.{list_any}
+use Rattle.std.proofs.lemmas.Bool.{or_cases}
 use Rattle.irq_base.specs.declared.calls.Call.{Call}
+use Rattle.irq_base.specs.declared.devices.DeviceDef.{DeviceDef}
 use Rattle.irq_base.specs.declared.lines.LineDef.{LineDef}
+use Rattle.irq_base.specs.declared.numbers.DevNo.{DevNo}
 use Rattle.irq_base.specs.declared.numbers.DriverNo.{DriverNo}
 use Rattle.irq_base.specs.declared.numbers.LineNo.{LineNo}
 use Rattle.irq_model.specs.Due.{calls_by}
 use Rattle.irq_model.specs.Kinds.{same_line, same_driver}
+use Rattle.irq_model.specs.Lines.{is_device, has_device}
 use Rattle.irq_model.specs.Valid.{IsValid}
+use Rattle.irq_steps.proofs.Same.{dev_from_same, line_from_same}
 use Rattle.irq_laws.proofs.Chosen.{the_same}
 use Rattle.board_def.specs.Layout.{layout_of}
 use Rattle.domain_rules.specs.Layout.{is_mapped}
 use Rattle.board_def.specs.LineOf.{line_of_row, with_driver}
-use Rattle.board_def.specs.Rules.{IsBoard}
+use Rattle.board_def.specs.Rules.{IsBoard, find_device}
 use Rattle.board_def.specs.Seen.{BoardSeen}
 use Rattle.domain_rules.specs.declared.layouts.Placement.{Placement}
 use Rattle.board_def.specs.declared.rows.LineRow.{LineRow}
 use Rattle.board_def.specs.declared.rows.ScriptCall.{ScriptCall}
 use Rattle.board_def.proofs.Validity.{valid_row}
-use Rattle.board_def.proofs.Rising.{Rises, rises_on, head_of, differ_back}
+use Rattle.board_def.proofs.Rising.{Rises, rises_on, head_of, differ_back, device_at}
 use Rattle.board_play.specs.Current.{calls_on}
 use Rattle.board_play.specs.Lines.{mapped, defs_of}
 use Rattle.board_play.proofs.Members.{AreApart}
@@ -80,6 +86,52 @@ apart b (row ∷ rows) (place ∷ places) rises = by_test (is_mapped place) (apa
 
 pub apart_defs : (b : BoardSeen) → IsBoard b → AreApart (defs_of b)
 apart_defs b board = apart b b.lines (layout_of b) (λ i row at. (board.lines i row at).rises)
+
+-- ---- their devices are the board's on the line
+
+-- the device stands among these, and is on the line
+record IsAmong (line : LineNo) (dev : DevNo) (xs : List DeviceDef) : Type 0 where
+  pub place : ℕ
+  pub device : DeviceDef
+  pub at : slice_get xs place ≡ Some device
+  pub its : dev ≡ device.dev
+  pub on_line : device.line ≡ line
+
+among : (line : LineNo) (dev : DevNo) (xs : List DeviceDef)
+    → list_any (is_device dev) (filter (λ x. x.line.0 == line.0) xs) ≡ true → IsAmong line dev xs
+among line dev [] h = cc
+among line dev (x ∷ xs) h = by_test (x.line.0 == line.0) refl h (among line dev xs)
+  where
+    later : IsAmong line dev xs → IsAmong line dev (x ∷ xs)
+    later a = record { place = suc a.place; device = a.device; at = a.at; its = a.its; on_line = a.on_line }
+
+    by_test : (b : Bool) → same_line x.line line ≡ b → list_any (is_device dev)
+        (cond b (x ∷ filter (λ x. x.line.0 == line.0) xs) (filter (λ x. x.line.0 == line.0) xs)) ≡ true
+        → (list_any (is_device dev) (filter (λ x. x.line.0 == line.0) xs) ≡ true → IsAmong line dev xs)
+        → IsAmong line dev (x ∷ xs)
+    by_test true on h deeper = elim (or_cases (is_device dev x) (list_any (is_device dev) (filter (λ x. x.line.0 == line.0) xs)) h) [
+      | inl is ↦ record { place = zero; device = x; at = refl; its = dev_from_same dev x.dev is; on_line = line_from_same x.line line on }
+      | inr there ↦ later (deeper there)
+    ]
+    by_test false off h deeper = later (deeper h)
+
+-- the device is found on the board, on this line
+pub record IsFoundOn (b : BoardSeen) (dev : DevNo) (line : LineNo) : Type 0 where
+  pub device : DeviceDef
+  pub found : find_device b.devices dev ≡ Some device
+  pub on_line : device.line ≡ line
+
+pub device_found : (b : BoardSeen) → IsBoard b → (i : ℕ) (d : LineDef) → slice_get (defs_of b) i ≡ Some d
+    → (dev : DevNo) → has_device d dev ≡ true → IsFoundOn b dev d.line
+device_found b board i d at dev named =
+    let o = def_of_row b i d at in
+    let a = among o.row.line dev b.devices (subst (λ (d : LineDef). has_device d dev ≡ true) (sym o.is) named) in
+    record {
+      device = a.device;
+      found = ap (λ (e : DevNo). find_device b.devices e) a.its
+          ∙ device_at b.devices a.place a.device (λ i x at. (board.devices i x at).rises) a.at;
+      on_line = a.on_line ∙ ap (λ (d : LineDef). d.line) o.is;
+    }
 
 -- ---- their calls are the script's on the line
 

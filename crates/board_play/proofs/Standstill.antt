@@ -5,6 +5,7 @@ use Rattle.std.proofs.Common.{subst, arith}
 use Rattle.std.proofs.lemmas.List.{reverse-reverse}
 use Rattle.irq_base.specs.declared.calls.Call.{Call}
 use Rattle.irq_base.specs.declared.calls.Call.TheVariants as calls
+use Rattle.irq_base.specs.declared.devices.DeviceDef.{DeviceDef}
 use Rattle.irq_base.specs.declared.entries.Actor.{Actor}
 use Rattle.irq_base.specs.declared.entries.Actor.TheVariants as actors
 use Rattle.irq_base.specs.declared.entries.Entry.{Entry}
@@ -16,10 +17,11 @@ use Rattle.irq_base.specs.declared.numbers.LineNo.{LineNo}
 use Rattle.irq_model.specs.Due.{due_call}
 use Rattle.irq_model.specs.Kinds.{same_line, same_driver}
 use Rattle.irq_model.specs.Legal.{IsLegalPast}
+use Rattle.irq_model.specs.Lines.{has_device}
 use Rattle.irq_model.specs.Next.{next_in_flow, next_take, next_of_thread, next_of_call, next_past, next}
 use Rattle.irq_model.specs.Rounds.{flow, is_cpu, at_work}
 use Rattle.irq_model.specs.Settled.{IsSettled}
-use Rattle.irq_steps.proofs.Same.{line_from_same, same_self_line}
+use Rattle.irq_steps.proofs.Same.{same_self_line}
 use Rattle.irq_laws.specs.Blocks.{FreeMoves}
 use Rattle.irq_laws.proofs.Chosen.{the_same}
 use Rattle.irq_laws.proofs.DriversMove.{drivers_move}
@@ -28,14 +30,14 @@ use Rattle.board_def.specs.Seen.{BoardSeen}
 use Rattle.board_play.specs.Current.{calls_on, current_line}
 use Rattle.board_play.specs.Kept.{AreKept}
 use Rattle.board_play.specs.Lines.{BoardLine, find_line}
-use Rattle.board_play.specs.Order.{flow_line, due_line, or_line, line_for, move_on, due_on, due_move}
+use Rattle.board_play.specs.Order.{device_line, flow_line, due_line, or_line, line_for, move_on, due_on, due_move}
 use Rattle.board_play.proofs.Counting.{all_complete, not_all_complete}
 use Rattle.board_play.proofs.KeptAlways.{apart_kept}
 use Rattle.board_play.proofs.Listed.{def_at}
 use Rattle.board_play.proofs.Members.{find_there}
 use Rattle.board_play.proofs.Moves.{line_stands}
 use Rattle.board_play.proofs.Moving.{begun_is_current}
-use Rattle.board_play.proofs.OfBoard.{AreValid, calls_fit}
+use Rattle.board_play.proofs.OfBoard.{AreValid, device_found, calls_fit}
 use Rattle.board_play.proofs.Script.{is_on, in_all, done, current, no_current}
 
 none_due : (line : LineNo) (o : Option Entry) → move_on line o ≡ None → o ≡ None
@@ -100,18 +102,20 @@ no_line_due (y ∷ ys) c none i x at = by_test (is_some (next_past y.def y.past 
 
 module _ (board : BoardSeen) (is : IsBoard board) (valid : AreValid board) (lines : List BoardLine)
     (k : AreKept board lines) (rest : (a : Actor) → due_move board lines a ≡ None) where
-  threads_rest : (i : ℕ) (x : BoardLine) → slice_get lines i ≡ Some x → (line : LineNo) (d : DevNo) → next_past x.def x.past (actors.Thread line d) ≡ None
-  threads_rest i x at line d = by_line (same_line line x.def.line) refl
+  threads_rest : (i : ℕ) (x : BoardLine) → slice_get lines i ≡ Some x → (d : DevNo) → next_past x.def x.past (actors.Thread d) ≡ None
+  threads_rest i x at d = by_device (has_device x.def d) refl
     where
-      here : line ≡ x.def.line → next_past x.def x.past (actors.Thread line d) ≡ None
-      here same =
-          rests_on board lines (actors.Thread line d) x
-          (ap (λ (l : LineNo). find_line lines l) same ∙ find_there lines (apart_kept board is lines k) i x at)
-          (rest (actors.Thread line d))
+      here : has_device x.def d ≡ true → next_past x.def x.past (actors.Thread d) ≡ None
+      here named =
+          let f = device_found board is i x.def (def_at board lines k i x at) d named in
+          rests_on board lines (actors.Thread d) x
+          (ap (λ (o : Option DeviceDef). device_line lines o) f.found
+          ∙ (ap (λ (l : LineNo). find_line lines l) f.on_line ∙ find_there lines (apart_kept board is lines k) i x at))
+          (rest (actors.Thread d))
 
-      by_line : (b : Bool) → same_line line x.def.line ≡ b → next_past x.def x.past (actors.Thread line d) ≡ None
-      by_line true same = here (line_from_same line x.def.line same)
-      by_line false other = ap (λ (b : Bool). cond b (next_of_thread x.def d x.past) None) other
+      by_device : (b : Bool) → has_device x.def d ≡ b → next_past x.def x.past (actors.Thread d) ≡ None
+      by_device true named = here named
+      by_device false other = ap (λ (b : Bool). cond b (next_of_thread x.def d x.past) None) other
 
   cpus_rest : (i : ℕ) (x : BoardLine) → slice_get lines i ≡ Some x → (c : CpuNo) → next_past x.def x.past (actors.Cpu c) ≡ None
   cpus_rest i x at c = by_flow (flow_line lines c) refl
@@ -169,7 +173,7 @@ module _ (board : BoardSeen) (is : IsBoard board) (valid : AreValid board) (line
       by_due (Some z) due =
           moves (drivers_move x.def (reverse x.past) (valid i x.def (def_at board lines k i x at))
           (back (λ (p : List Entry). IsLegalPast x.def p) (k.legal i x at))
-          (λ line d. back (λ (p : List Entry). next_past x.def p (actors.Thread line d) ≡ None) (threads_rest i x at line d))
+          (λ d. back (λ (p : List Entry). next_past x.def p (actors.Thread d) ≡ None) (threads_rest i x at d))
           (λ c. back (λ (p : List Entry). next_past x.def p (actors.Cpu c) ≡ None) (cpus_rest i x at c)) r
           (back (λ (p : List Entry). IsSome (due_call x.def r p)) (subst (λ (o : Option (Call × ℕ)). IsSome o) (sym due) refl)))
 
@@ -193,7 +197,7 @@ module _ (board : BoardSeen) (is : IsBoard board) (valid : AreValid board) (line
           omega (arith, all, fits, less))
 
   still : (i : ℕ) (x : BoardLine) → slice_get lines i ≡ Some x → (a : Actor) → next_past x.def x.past a ≡ None
-  still i x at (actors.Thread line d) = threads_rest i x at line d
+  still i x at (actors.Thread d) = threads_rest i x at d
   still i x at (actors.Cpu c) = cpus_rest i x at c
   still i x at (actors.Driver r) = ap (λ (o : Option (Call × ℕ)). next_of_call x.def r x.past o) (calls_end i x at r)
 

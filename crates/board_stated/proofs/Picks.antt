@@ -1,8 +1,8 @@
 -- More picks keep the rules of boards.
-use Rattle.std.proofs.Common.{◌≡◌, ◌+◌, ◌≤◌, ◌==◌, true, false, Option, Some, None, List, [], ◌∷◌, ◌++◌, length, refl, arith}
+use Rattle.std.proofs.Common.{◌≡◌, ◌+◌, ◌≤◌, true, false, Option, Some, None, List, [], ◌∷◌, ◌++◌, length, refl, arith}
 use Rattle.std.specs.List.{All, list_any, flat_map}
 use Rattle.std.proofs.Math.ListN.{length-append, length-replicate}
-use Rattle.std.proofs.lemmas.Bool.{ltb-false, leb-false, eq-eqb, not-false, and_from, or_parts}
+use Rattle.std.proofs.lemmas.Bool.{ltb-false, leb-false, not-false, or_parts}
 use Rattle.std.proofs.lemmas.List.Elements.{All-nil, All-append, All-replicate}
 use Rattle.irq_base.specs.Handlers.{has_thread}
 use Rattle.irq_base.specs.declared.devices.DeviceDef.{DeviceDef}

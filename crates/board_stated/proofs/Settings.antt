@@ -57,7 +57,7 @@ cpus_kept b cpus none board fits =
 -- ---- with the same processors
 
 same_actor : (b : BoardSeen) (window limit log : ℕ) (a : Actor) → IsActorOf b a → IsActorOf (set b b.cpus window limit log) a
-same_actor b window limit log (actors.Thread line dev) h = h
+same_actor b window limit log (actors.Thread dev) h = h
 same_actor b window limit log (actors.Cpu cpu) h = h
 same_actor b window limit log (actors.Driver driver) h = h
 

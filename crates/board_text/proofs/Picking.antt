@@ -37,31 +37,26 @@ one_pick b c a i n within is h =
     subst (λ (c : BoardSeen). IsBoard (with_picks c (c.picks ++ a ∷ []))) (sym is) fewer
 
 -- the picks of the word at place i
-pub word_of_picks : (b c : BoardSeen) (a : Actor) (picks : List PickWord) (i : ℕ) (p : PickWord) → slice_get picks i ≡ Some p → c ≡ with_picks b c.picks
-    → c.picks ++ flat_map actors_picked (drop i picks) ≡ b.picks ++ flat_map actors_picked picks → a ≡ p.who
-    → IsBoard (with_picks b (b.picks ++ flat_map actors_picked picks)) → IsBoard (with_picks c (c.picks ++ replicate p.times a))
-word_of_picks b c a picks i p at same left is h =
-    let devices : c.devices ≡ b.devices = ap (λ (x : BoardSeen). x.devices) same in
-    let actor : a ≡ p.who = is in
+pub word_of_picks : (b c : BoardSeen) (picks : List PickWord) (i : ℕ) (p : PickWord) → slice_get picks i ≡ Some p → c ≡ with_picks b c.picks
+    → c.picks ++ flat_map actors_picked (drop i picks) ≡ b.picks ++ flat_map actors_picked picks
+    → IsBoard (with_picks b (b.picks ++ flat_map actors_picked picks)) → IsBoard (with_picks c (c.picks ++ actors_picked p))
+word_of_picks b c picks i p at same left h =
     let rest = flat_map actors_picked (drop (i + 1) picks) in
-    let whole : (c.picks ++ replicate p.times p.who) ++ rest ≡ b.picks ++ flat_map actors_picked picks =
-    append_assoc c.picks (replicate p.times p.who) rest
+    let whole : (c.picks ++ actors_picked p) ++ rest ≡ b.picks ++ flat_map actors_picked picks =
+    append_assoc c.picks (actors_picked p) rest
     ∙ (ap (λ xs. c.picks ++ flat_map actors_picked xs) (sym (left_at picks i p at)) ∙ left) in
-    let fewer = fewer_picks b (c.picks ++ replicate p.times p.who) rest (subst (λ xs. IsBoard (with_picks b xs)) (sym whole) h) in
-    rw actor (subst (λ (x : BoardSeen). IsBoard (with_picks x (c.picks ++ replicate p.times p.who))) (sym same) fewer)
+    let fewer = fewer_picks b (c.picks ++ actors_picked p) rest (subst (λ xs. IsBoard (with_picks b xs)) (sym whole) h) in
+    subst (λ (x : BoardSeen). IsBoard (with_picks x (c.picks ++ actors_picked p))) (sym same) fewer
 
 -- and after them
-pub picks_so_far : (b c d : BoardSeen) (a : Actor) (picks : List PickWord) (i : ℕ) (p : PickWord) → slice_get picks i ≡ Some p → c ≡ with_picks b c.picks
-    → c.picks ++ flat_map actors_picked (drop i picks) ≡ b.picks ++ flat_map actors_picked picks → a ≡ p.who
-    → d ≡ with_picks c (c.picks ++ replicate p.times a)
+pub picks_so_far : (b c d : BoardSeen) (picks : List PickWord) (i : ℕ) (p : PickWord) → slice_get picks i ≡ Some p → c ≡ with_picks b c.picks
+    → c.picks ++ flat_map actors_picked (drop i picks) ≡ b.picks ++ flat_map actors_picked picks
+    → d ≡ with_picks c (c.picks ++ actors_picked p)
     → (d ≡ with_picks b d.picks) × (d.picks ++ flat_map actors_picked (drop (i + 1) picks) ≡ b.picks ++ flat_map actors_picked picks)
-picks_so_far b c d a picks i p at same left is now =
-    let devices : c.devices ≡ b.devices = ap (λ (x : BoardSeen). x.devices) same in
-    let actor : a ≡ p.who = is in
+picks_so_far b c d picks i p at same left now =
     let rest = flat_map actors_picked (drop (i + 1) picks) in
-    let picks_now : d.picks ≡ c.picks ++ replicate p.times p.who
-    = ap (λ (x : BoardSeen). x.picks) now ∙ ap (λ x. c.picks ++ replicate p.times x) actor in (
-      now ∙ (ap (λ (x : BoardSeen). with_picks x (c.picks ++ replicate p.times a)) same ∙ ap (with_picks b) (sym (ap (λ (x : BoardSeen). x.picks) now))),
-      ap (λ xs. xs ++ rest) picks_now ∙ (append_assoc c.picks (replicate p.times p.who) rest
+    let picks_now : d.picks ≡ c.picks ++ actors_picked p = ap (λ (x : BoardSeen). x.picks) now in (
+      now ∙ (ap (λ (x : BoardSeen). with_picks x (c.picks ++ actors_picked p)) same ∙ ap (with_picks b) (sym picks_now)),
+      ap (λ xs. xs ++ rest) picks_now ∙ (append_assoc c.picks (actors_picked p) rest
           ∙ (ap (λ xs. c.picks ++ flat_map actors_picked xs) (sym (left_at picks i p at)) ∙ left)),
     )

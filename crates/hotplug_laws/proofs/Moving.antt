@@ -13,7 +13,9 @@ use Rattle.irq_base.specs.declared.entries.Actor.TheVariants as actors
 use Rattle.irq_base.specs.declared.entries.AffinityAnswer.{AffinityAnswer}
 use Rattle.irq_base.specs.declared.entries.AffinityAnswer.TheVariants as moves
 use Rattle.irq_base.specs.declared.entries.Entry.{Entry}
-use Rattle.irq_base.specs.declared.entries.Entry.TheVariants as entries
+use Rattle.irq_base.specs.declared.entries.Entry.TheVariants as by
+use Rattle.irq_base.specs.declared.entries.CpuEntry.TheVariants as cpus
+use Rattle.irq_base.specs.declared.entries.DriverEntry.TheVariants as drivers
 use Rattle.irq_base.specs.declared.entries.Errno.TheVariants as errors
 use Rattle.irq_base.specs.declared.lines.LineDef.{LineDef}
 use Rattle.irq_base.specs.declared.numbers.CpuNo.{CpuNo}
@@ -33,7 +35,7 @@ use Rattle.hotplug_laws.specs.Aims.{IsTakenBy}
 -- ---- the mask in force
 
 abbrev IsNow : Entry → Type 0
-IsNow (entries.Affinity driver mask answer) = answer ≡ moves.Now
+IsNow (by.Driver driver (drivers.Affinity answer mask)) = answer ≡ moves.Now
 IsNow _ = Unit {0}
 
 abbrev AreNow : List Entry → Type 0
@@ -43,15 +45,15 @@ AreNow (e ∷ past) = IsNow e × AreNow past
 -- the mask of the newest move
 abbrev pub newest_mask : ℕ → List Entry → ℕ
 newest_mask m [] = m
-newest_mask m (entries.Affinity driver mask answer ∷ past) = mask
+newest_mask m (by.Driver driver (drivers.Affinity answer mask) ∷ past) = mask
 newest_mask m (_ ∷ past) = newest_mask m past
 
 in_force : (pre : List Entry → List Entry) (m : ℕ) (past : List Entry) → AreNow past
     → mask_of m (last_place (λ a u. puts_in_force (pre a) u) past) ≡ newest_mask m past
 in_force pre m [] now = refl
-in_force pre m (entries.Affinity driver mask moves.Now ∷ past) now = refl
-in_force pre m (entries.Affinity driver mask moves.Later ∷ past) now = let is = now.0 in absurd cc
-in_force pre m (entries.Affinity driver mask (moves.Refused error) ∷ past) now = let is = now.0 in absurd cc
+in_force pre m (by.Driver driver (drivers.Affinity moves.Now mask) ∷ past) now = refl
+in_force pre m (by.Driver driver (drivers.Affinity moves.Later mask) ∷ past) now = let is = now.0 in absurd cc
+in_force pre m (by.Driver driver (drivers.Affinity (moves.Refused error) mask) ∷ past) now = let is = now.0 in absurd cc
 in_force pre m (e ∷ past) now = in_force (λ a. pre (e ∷ a)) m past now.1
 
 -- ---- calls that are moves
@@ -136,14 +138,14 @@ module _ (def : LineDef) (r : DriverNo) where
 
   no_move_due : (cs : List Call) (es : List Entry) (mask n : ℕ) → All IsNoMove cs → due_of cs es ≡ Some (calls.Affinity mask, n) → ⊥
   no_move_due [] es mask n none due = cc
-  no_move_due (c ∷ cs) es mask n none due = by (nat_lt (length es) (entries_of_call c es)) due (head_of IsNoMove c cs none)
+  no_move_due (c ∷ cs) es mask n none due = by_case (nat_lt (length es) (entries_of_call c es)) due (head_of IsNoMove c cs none)
       (λ d. no_move_due cs (drop (entries_of_call c es) es) mask n (tail_of IsNoMove c cs none) d)
     where
-      by : (t : Bool) → cond t (Some (c, length es)) (due_of cs (drop (entries_of_call c es) es)) ≡ Some (calls.Affinity mask, n)
+      by_case : (t : Bool) → cond t (Some (c, length es)) (due_of cs (drop (entries_of_call c es) es)) ≡ Some (calls.Affinity mask, n)
           → is_affinity c ≡ false → (due_of cs (drop (entries_of_call c es) es) ≡ Some (calls.Affinity mask, n) → ⊥) → ⊥
-      by true due none deeper =
+      by_case true due none deeper =
           let is : is_affinity c ≡ true = ap is_affinity (same_call c (calls.Affinity mask) (length es) n due) in absurd cc
-      by false due none deeper = deeper due
+      by_case false due none deeper = deeper due
 
   -- what the driver made
   abbrev own_entries : List Entry → List Entry
@@ -168,9 +170,9 @@ module _ (def : LineDef) (r : DriverNo) where
 
   -- ---- one more entry
 
-  tells_move : IsMovedBy → (s : DriverNo) (mask : ℕ) (answer : AffinityAnswer) (past : List Entry) → IsDue def (entries.Affinity s mask answer) past
-      → Tells past → Tells (entries.Affinity s mask answer ∷ past)
-  tells_move moved s mask answer past due tells = by (same_driver r s) refl
+  tells_move : IsMovedBy → (s : DriverNo) (mask : ℕ) (answer : AffinityAnswer) (past : List Entry) → IsDue def (by.Driver s (drivers.Affinity answer mask)) past
+      → Tells past → Tells (by.Driver s (drivers.Affinity answer mask) ∷ past)
+  tells_move moved s mask answer past due tells = by_case (same_driver r s) refl
     where
       count : ℕ
       count = (affinity_due def s mask answer past due).count
@@ -178,8 +180,8 @@ module _ (def : LineDef) (r : DriverNo) where
       call : due_call def s past ≡ Some (calls.Affinity mask, count)
       call = (affinity_due def s mask answer past due).call
 
-      by : (t : Bool) → same_driver r s ≡ t → Tells (entries.Affinity s mask answer ∷ past)
-      by true same =
+      by_case : (t : Bool) → same_driver r s ≡ t → Tells (by.Driver s (drivers.Affinity answer mask) ∷ past)
+      by_case true same =
           let n = length (own_entries past) in
           let mine : due_call def r past ≡ Some (calls.Affinity mask, count) =
           ap (λ x. due_call def x past) (driver_from_same r s same) ∙ call in
@@ -189,10 +191,10 @@ module _ (def : LineDef) (r : DriverNo) where
           (subst (All (Fits def.cpus)) rest.1 (All-drop (Fits def.cpus) n (calls_by r def.calls) moved.own)) in
           record {
             now = ((affinity_due def s mask answer past due).answer_is ∙ fits_now moved mask fits, tells.now);
-            mask = sym (ap (λ es. mask_before (length es) def.mask (calls_by r def.calls)) (one_more true (entries.Affinity s mask answer) past same)
+            mask = sym (ap (λ es. mask_before (length es) def.mask (calls_by r def.calls)) (one_more true (by.Driver s (drivers.Affinity answer mask)) past same)
                 ∙ mask_here n def.mask mask (calls_by r def.calls) rest.0 moved.own rest.1);
           }
-      by false other = absurd (no_move_due (calls_by s def.calls) (entries_by s past) mask count (moved.others s other) call)
+      by_case false other = absurd (no_move_due (calls_by s def.calls) (entries_by s past) mask count (moved.others s other) call)
 
   passes : (e : Entry) (past : List Entry) → IsNow e → newest_mask def.mask (e ∷ past) ≡ newest_mask def.mask past → is_by_driver r e ≡ false
       → Tells past → Tells (e ∷ past)
@@ -204,21 +206,17 @@ module _ (def : LineDef) (r : DriverNo) where
 
   -- of the driver a move alone is due
   own_move : IsMovedBy → (e : Entry) (past : List Entry) → next_past def past (actors.Driver r) ≡ Some e
-      → (mask : ℕ) × (answer : AffinityAnswer) × (e ≡ entries.Affinity r mask answer)
+      → (mask : ℕ) × (answer : AffinityAnswer) × (e ≡ by.Driver r (drivers.Affinity answer mask))
   own_move moved e past due =
-      by (drop (length (own_entries past)) (calls_by r def.calls)) (All-drop (Fits def.cpus) (length (own_entries past)) (calls_by r def.calls) moved.own)
+      by_case (drop (length (own_entries past)) (calls_by r def.calls)) (All-drop (Fits def.cpus) (length (own_entries past)) (calls_by r def.calls) moved.own)
       (sym (ap (next_of_call def r past) (due_first moved past)) ∙ due)
     where
-      by : (cs : List Call) → All (Fits def.cpus) cs → next_of_call def r past (first_due cs) ≡ Some e
-          → (mask : ℕ) × (answer : AffinityAnswer) × (e ≡ entries.Affinity r mask answer)
-      by [] fits due = absurd cc
-      by (calls.Affinity mask ∷ cs) fits due =
-          (mask, affinity_answer def mask, (let same : e ≡ entries.Affinity r mask (affinity_answer def mask) = cc in same))
-      by (c ∷ cs) fits due = absurd (head_of (Fits def.cpus) c cs fits)
-
-  same_actor : (e : Entry) → is_by_driver r e ≡ is_driver r (actor_of def.line e)
-  same_actor (entries.Affinity driver mask answer) = refl
-  same_actor e = refl
+      by_case : (cs : List Call) → All (Fits def.cpus) cs → next_of_call def r past (first_due cs) ≡ Some e
+          → (mask : ℕ) × (answer : AffinityAnswer) × (e ≡ by.Driver r (drivers.Affinity answer mask))
+      by_case [] fits due = absurd cc
+      by_case (calls.Affinity mask ∷ cs) fits due =
+          (mask, affinity_answer def mask, (let same : e ≡ by.Driver r (drivers.Affinity (affinity_answer def mask) mask) = cc in same))
+      by_case (c ∷ cs) fits due = absurd (head_of (Fits def.cpus) c cs fits)
 
   is_that : (a : Actor) → is_driver r a ≡ true → a ≡ actors.Driver r
   is_that (actors.Driver s) is = ap (λ x. actors.Driver x) (sym (driver_from_same r s is))
@@ -226,18 +224,18 @@ module _ (def : LineDef) (r : DriverNo) where
 
   tells_quiet : IsMovedBy → (e : Entry) (past : List Entry) → IsDue def e past → IsNow e
       → newest_mask def.mask (e ∷ past) ≡ newest_mask def.mask past
-      → ((mask : ℕ) (answer : AffinityAnswer) → e ≡ entries.Affinity r mask answer → ⊥) → Tells past → Tells (e ∷ past)
-  tells_quiet moved e past due now same differs tells = by (is_by_driver r e) refl
+      → ((mask : ℕ) (answer : AffinityAnswer) → e ≡ by.Driver r (drivers.Affinity answer mask) → ⊥) → Tells past → Tells (e ∷ past)
+  tells_quiet moved e past due now same differs tells = by_case (is_by_driver r e) refl
     where
-      by : (t : Bool) → is_by_driver r e ≡ t → Tells (e ∷ past)
-      by true own =
-          let whom : actor_of def.line e ≡ actors.Driver r = is_that (actor_of def.line e) (sym (same_actor e) ∙ own) in
+      by_case : (t : Bool) → is_by_driver r e ≡ t → Tells (e ∷ past)
+      by_case true own =
+          let whom : actor_of e ≡ actors.Driver r = is_that (actor_of e) own in
           let move = own_move moved e past (ap (next_past def past) (sym whom) ∙ due) in
           absurd (differs move.0 move.1 move.2)
-      by false other = passes e past now same other tells
+      by_case false other = passes e past now same other tells
 
   tells_more : IsMovedBy → (e : Entry) (past : List Entry) → IsDue def e past → Tells past → Tells (e ∷ past)
-  tells_more moved (entries.Affinity s mask answer) past due tells = tells_move moved s mask answer past due tells
+  tells_more moved (by.Driver s (drivers.Affinity answer mask)) past due tells = tells_move moved s mask answer past due tells
   tells_more moved e past due tells = tells_quiet moved e past due tt refl (λ mask answer is. cc) tells
 
   tells_all : IsMovedBy → (past : List Entry) → IsLegalPast def past → Tells past
@@ -258,7 +256,7 @@ module _ (def : LineDef) (r : DriverNo) where
 
   mask_stays : IsMovedBy → (e : Entry) (past : List Entry) → IsDue def e past → is_by_driver r e ≡ false
       → newest_mask def.mask (e ∷ past) ≡ newest_mask def.mask past
-  mask_stays moved (entries.Affinity s mask answer) past due other =
+  mask_stays moved (by.Driver s (drivers.Affinity answer mask)) past due other =
       let row = affinity_due def s mask answer past due in
       absurd (no_move_due (calls_by s def.calls) (entries_by s past) mask row.count (moved.others s other) row.call)
   mask_stays moved e past due other = refl
@@ -267,22 +265,22 @@ module _ (def : LineDef) (r : DriverNo) where
   some_cpu c d is = cc
 
   taken_by : (e : Entry) (past : List Entry) → IsDue def e past → (cpu : CpuNo) → target def past ≡ Some cpu → IsTakenBy cpu e
-  taken_by (entries.Take c way answer) past due cpu is =
+  taken_by (by.Cpu c (cpus.Take way answer)) past due cpu is =
       let there : target def (reverse (reverse past)) ≡ Some c =
-      takes_at_target def (reverse past) c (entries.Take c way answer) refl (ap (λ p. next_past def p (actors.Cpu c)) (reverse-reverse past) ∙ due) in
+      takes_at_target def (reverse past) c (by.Cpu c (cpus.Take way answer)) refl (ap (λ p. next_past def p (actors.Cpu c)) (reverse-reverse past) ∙ due) in
       some_cpu c cpu (sym there ∙ ap (target def) (reverse-reverse past) ∙ is)
   taken_by e past due cpu is = tt
 
   late_takes : IsMovedBy → (cpu : CpuNo) (past : List Entry) → IsLegalPast def past
       → lowest_in def.cpus (newest_mask def.mask past) ≡ Some cpu → All (IsTakenBy cpu) (since (is_by_driver r) past)
   late_takes moved cpu [] legal is = λ k d h. absurd (omega arith)
-  late_takes moved cpu (e ∷ past) legal is = by (is_by_driver r e) refl (late_takes moved cpu past legal.1)
+  late_takes moved cpu (e ∷ past) legal is = by_case (is_by_driver r e) refl (late_takes moved cpu past legal.1)
     where
-      by : (t : Bool) → is_by_driver r e ≡ t
+      by_case : (t : Bool) → is_by_driver r e ≡ t
           → (lowest_in def.cpus (newest_mask def.mask past) ≡ Some cpu → All (IsTakenBy cpu) (since (is_by_driver r) past))
           → All (IsTakenBy cpu) (cond t [] (e ∷ since (is_by_driver r) past))
-      by true own deeper = λ k d h. absurd (omega arith)
-      by false other deeper =
+      by_case true own deeper = λ k d h. absurd (omega arith)
+      by_case false other deeper =
           let before : lowest_in def.cpus (newest_mask def.mask past) ≡ Some cpu =
           ap (lowest_in def.cpus) (sym (mask_stays moved e past legal.0 other)) ∙ is in
           all_of (IsTakenBy cpu) e (since (is_by_driver r) past)

@@ -1,7 +1,8 @@
 -- The interrupts of a line go where it is placed.
 use Rattle.std.specs.Prelude.{◌≡◌, ℕ, Some, List, reverse, slice_get, All}
 use Rattle.irq_base.specs.declared.entries.Entry.{Entry}
-use Rattle.irq_base.specs.declared.entries.Entry.TheVariants as entries
+use Rattle.irq_base.specs.declared.entries.Entry.TheVariants as by
+use Rattle.irq_base.specs.declared.entries.CpuEntry.TheVariants as cpus
 use Rattle.irq_base.specs.declared.lines.LineDef.{LineDef}
 use Rattle.irq_base.specs.declared.numbers.CpuNo.{CpuNo}
 use Rattle.irq_base.specs.declared.numbers.LineNo.{LineNo}
@@ -19,7 +20,7 @@ use Rattle.hotplug_plan.specs.Planned.{planned}
 
 -- if the entry is a take, it is by this processor
 abbrev pub IsTakenBy : CpuNo → Entry → Type 0
-IsTakenBy cpu (entries.Take c way answer) = c ≡ cpu
+IsTakenBy cpu (by.Cpu c (cpus.Take way answer)) = c ≡ cpu
 IsTakenBy cpu _ = Unit {0}
 
 -- At the end of the history the processor takes the line's interrupts; and after the last entry of

@@ -81,16 +81,16 @@ loses_nothing b g = record { masked = ap (λ (c : Cell). c.masked) (parent_is b 
 
 -- ---- whose step it is
 
-pub due_own : (o : Option BoardLine) (a : Actor) (m : Move) → due_on o a ≡ Some m → actor_of m.0 m.1 ≡ a
+pub due_own : (o : Option BoardLine) (a : Actor) (m : Move) → due_on o a ≡ Some m → actor_of m.1 ≡ a
 due_own None a m is = cc
 due_own (Some x) a m is = by_entry (next_past x.def x.past a) refl is
   where
-    by_entry : (e : Option Entry) → next_past x.def x.past a ≡ e → move_on x.def.line e ≡ Some m → actor_of m.0 m.1 ≡ a
+    by_entry : (e : Option Entry) → next_past x.def x.past a ≡ e → move_on x.def.line e ≡ Some m → actor_of m.1 ≡ a
     by_entry None next is = cc
     by_entry (Some e) next is =
         let made : Move = (x.def.line, e) in
         let same : made ≡ m = the_same made m is in
-        subst (λ (n : Move). actor_of n.0 n.1 ≡ a) same (due_is_own_past x.def x.past a e next)
+        subst (λ (n : Move). actor_of n.1 ≡ a) same (due_is_own_past x.def x.past a e next)
 
 child_own : (o : Option BoardLine) (a : Actor) (e : ChainEntry) → child (due_on o a) ≡ Some e → stepper_of e ≡ a
 child_own o a e is = by_due (due_on o a) refl is
@@ -119,7 +119,7 @@ of_cpu_0_own g lines (Some status) e is = by_flow (flow_line lines cpu_0) is
     by_flow (Some x) is = child_own (Some x) (actors.Cpu cpu_0) e is
 
 pub own_step : (b : BoardSeen) (g : List ChainEntry) (a : Actor) (e : ChainEntry) → chain_next b g a ≡ Some e → stepper_of e ≡ a
-own_step b g (actors.Thread line d) e is = child_own (line_for b (lines_in b g) (actors.Thread line d)) (actors.Thread line d) e is
+own_step b g (actors.Thread d) e is = child_own (line_for b (lines_in b g) (actors.Thread d)) (actors.Thread d) e is
 own_step b g (actors.Cpu c) e is = by_zero (c.0 == 0) refl is
   where
     by_zero : (z : Bool) → (c.0 == 0) ≡ z → cond z (of_cpu_0 g (lines_in b g) (open_status g)) None ≡ Some e → stepper_of e ≡ actors.Cpu c

@@ -11,7 +11,6 @@ use Rattle.irq_base.specs.declared.entries.Actor.TheVariants as actors
 use Rattle.irq_base.specs.declared.numbers.CpuNo.{CpuNo}
 use Rattle.irq_base.specs.declared.numbers.DevNo.{DevNo}
 use Rattle.irq_base.specs.declared.numbers.DriverNo.{DriverNo}
-use Rattle.irq_base.specs.declared.numbers.LineNo.{LineNo}
 use Rattle.irq_laws.proofs.Chosen.{the_same}
 use Rattle.play_laws.specs.Actors.{count_up}
 use Rattle.board_def.specs.Rules.{IsBoard}
@@ -66,10 +65,10 @@ module _ {E : Type 0} (can : Actor → Option E) where
       ∙ first_at rest k a at (λ j b less there. before (suc j) b (omega (arith, less)) there) some
 
 is_thread : (ds : List DeviceDef) (j : ℕ) (a : Actor) → slice_get
-    (map (λ (x : DeviceDef). actors.Thread x.line x.dev) ds) j ≡ Some a
-    → (line : LineNo) × (d : DevNo) × (a ≡ actors.Thread line d)
+    (map (λ (x : DeviceDef). actors.Thread x.dev) ds) j ≡ Some a
+    → (d : DevNo) × (a ≡ actors.Thread d)
 is_thread [] j a at = cc
-is_thread (x ∷ ds) zero a at = (x.line, x.dev, sym (the_same (actors.Thread x.line x.dev) a at))
+is_thread (x ∷ ds) zero a at = (x.dev, sym (the_same (actors.Thread x.dev) a at))
 is_thread (x ∷ ds) (suc j) a at = is_thread ds j a at
 
 is_a_cpu : (ns : List ℕ) (j : ℕ) (a : Actor) → slice_get (map (λ (n : ℕ). actors.Cpu (record { 0 = n })) ns) j ≡ Some a → (c : CpuNo) × (a ≡ actors.Cpu c)
@@ -112,7 +111,7 @@ module _ {s : SystemSeen} {ms : List Mark} {walk : Option Walk} {parent : Cell} 
 
   -- a thread and a driver step as on any board
   pub other_next : (a : Actor) → IsOther a → chain_next s.board g a ≡ child (move_of s a)
-  other_next (actors.Thread line dev) other = ap (λ (ls : List BoardLine). child (due_move s.board ls (actors.Thread line dev))) (lines_are d)
+  other_next (actors.Thread dev) other = ap (λ (ls : List BoardLine). child (due_move s.board ls (actors.Thread dev))) (lines_are d)
   other_next (actors.Cpu c) other = absurd other
   other_next (actors.Driver r) other = ap (λ (ls : List BoardLine). child (due_move s.board ls (actors.Driver r))) (lines_are d)
 
@@ -129,7 +128,7 @@ module _ {s : SystemSeen} {ms : List Mark} {walk : Option Walk} {parent : Cell} 
   thread_none : (j : ℕ) (b : Actor) → slice_get (threads_of s.board) j ≡ Some b → move_of s b ≡ None → chain_next s.board g b ≡ None
   thread_none j b at none =
       let t = is_thread s.board.devices j b at in
-      none_of_move b (subst (λ (a : Actor). IsOther a) (sym t.2) tt) none
+      none_of_move b (subst (λ (a : Actor). IsOther a) (sym t.1) tt) none
 
   driver_none : (j : ℕ) (b : Actor) → slice_get (drivers_of s.board) j ≡ Some b → move_of s b ≡ None → chain_next s.board g b ≡ None
   driver_none j b at none =
@@ -139,12 +138,12 @@ module _ {s : SystemSeen} {ms : List Mark} {walk : Option Walk} {parent : Cell} 
   abbrev both : List Actor
   both = threads_of s.board ++ cpus_of s.board
 
-  pub thread_is_lowest : (line : LineNo) (dev : DevNo) → IsFirst s both (actors.Thread line dev)
-      → lowest_of (seen_of s ms parent) ≡ chain_next s.board g (actors.Thread line dev)
-  thread_is_lowest line dev f = by_place (either_at (threads_of s.board) (cpus_of s.board) f.place (actors.Thread line dev) f.at)
+  pub thread_is_lowest : (dev : DevNo) → IsFirst s both (actors.Thread dev)
+      → lowest_of (seen_of s ms parent) ≡ chain_next s.board g (actors.Thread dev)
+  thread_is_lowest dev f = by_place (either_at (threads_of s.board) (cpus_of s.board) f.place (actors.Thread dev) f.at)
     where
       a : Actor
-      a = actors.Thread line dev
+      a = actors.Thread dev
 
       by_place : (slice_get (threads_of s.board) f.place ≡ Some a)
           ⊎ ((i : ℕ) × (f.place ≡ length (threads_of s.board) + i) × (slice_get (cpus_of s.board) i ≡ Some a))
@@ -161,7 +160,7 @@ module _ {s : SystemSeen} {ms : List Mark} {walk : Option Walk} {parent : Cell} 
       by_place (inr there) = let c = is_a_cpu (count_up 0 s.board.cpus) there.0 a there.2 in let bad : a ≡ actors.Cpu c.0 = c.1 in cc
 
   no_thread : (o : Option Actor) → IsFirstOf s both o →
-      ((line : LineNo) (dev : DevNo) → o ≡ Some (actors.Thread line dev) → ⊥) → (j : ℕ) (b : Actor)
+      ((dev : DevNo) → o ≡ Some (actors.Thread dev) → ⊥) → (j : ℕ) (b : Actor)
       → slice_get (threads_of s.board) j ≡ Some b → chain_next s.board g b ≡ None
   no_thread None f not j b at = thread_none j b at (f j b (at_first (threads_of s.board) (cpus_of s.board) j b at))
   no_thread (Some a) f not j b at = by_place (either_at (threads_of s.board) (cpus_of s.board) f.place a f.at)
@@ -169,14 +168,14 @@ module _ {s : SystemSeen} {ms : List Mark} {walk : Option Walk} {parent : Cell} 
       by_place : (slice_get (threads_of s.board) f.place ≡ Some a)
           ⊎ ((i : ℕ) × (f.place ≡ length (threads_of s.board) + i) × (slice_get (cpus_of s.board) i ≡ Some a))
           → chain_next s.board g b ≡ None
-      by_place (inl there) = let t = is_thread s.board.devices f.place a there in absurd (not t.0 t.1 (ap (λ (x : Actor). Some x) t.2))
+      by_place (inl there) = let t = is_thread s.board.devices f.place a there in absurd (not t.0 (ap (λ (x : Actor). Some x) t.1))
       by_place (inr there) =
           let within = slice_get_within (threads_of s.board) j b at in
           thread_none j b at (f.before j b (omega (arith, within, there.1)) (at_first (threads_of s.board) (cpus_of s.board) j b at))
 
   -- if no thread can move
   pub after_threads : IsBoard s.board → (o : Option Actor) → IsFirstOf s both o
-      → ((line : LineNo) (dev : DevNo) → o ≡ Some (actors.Thread line dev) → ⊥)
+      → ((dev : DevNo) → o ≡ Some (actors.Thread dev) → ⊥)
       → lowest_of (seen_of s ms parent) ≡ or_step (next_of (seen_of s ms parent) (actors.Cpu cpu_0))
       (lowest_driver_of (seen_of s ms parent))
   after_threads isb o f not =

@@ -5,13 +5,12 @@ use Rattle.irq_base.specs.Who.{actor_of}
 use Rattle.irq_base.specs.declared.entries.Actor.{Actor}
 use Rattle.irq_base.specs.declared.entries.Actor.TheVariants as actors
 use Rattle.irq_base.specs.declared.entries.Entry.{Entry}
-use Rattle.irq_base.specs.declared.entries.Entry.TheVariants as entries
+use Rattle.irq_base.specs.declared.entries.Entry.TheVariants as by
 use Rattle.irq_base.specs.declared.lines.FlowKind.{FlowKind}
 use Rattle.irq_base.specs.declared.lines.FlowKind.TheVariants as flows
 use Rattle.irq_base.specs.declared.lines.LineDef.{LineDef}
 use Rattle.irq_base.specs.declared.numbers.CpuNo.{CpuNo}
 use Rattle.irq_base.specs.declared.numbers.DevNo.{DevNo}
-use Rattle.irq_base.specs.declared.numbers.LineNo.{LineNo}
 use Rattle.irq_model.specs.Kinds.{is_take}
 use Rattle.irq_model.specs.Next.{begin_or_end, end_by_flow, end_of, next_in_flow, next_take}
 use Rattle.irq_model.specs.Rounds.{at_work, first_left as first_dev, flow, is_cpu}
@@ -23,25 +22,9 @@ use Rattle.board_play.specs.Lines.{BoardLine, Move}
 use Rattle.board_play.specs.Order.{due_on, flow_line, move_on}
 use Rattle.irq_chained.specs.Turned.{IsOther}
 
-pub other_is_no_take : (line : LineNo) (e : Entry) (a : Actor) → actor_of line e ≡ a → IsOther a → is_take e ≡ false
-other_is_no_take line (entries.Take cpu way answer) a is other = absurd (subst (λ (x : Actor). IsOther x) (sym is) other)
-other_is_no_take line (entries.Ask r dev) a is other = refl
-other_is_no_take line (entries.Begin cpu dev) a is other = refl
-other_is_no_take line (entries.Return cpu dev answer served) a is other = refl
-other_is_no_take line (entries.End cpu again unmask note) a is other = refl
-other_is_no_take line (entries.ThreadBegin dev) a is other = refl
-other_is_no_take line (entries.ThreadReturn dev served) a is other = refl
-other_is_no_take line (entries.Finish dev kept unmask) a is other = refl
-other_is_no_take line (entries.Done dev) a is other = refl
-other_is_no_take line (entries.Disable r) a is other = refl
-other_is_no_take line (entries.HardClear r) a is other = refl
-other_is_no_take line (entries.Synced r) a is other = refl
-other_is_no_take line (entries.Enable r answer) a is other = refl
-other_is_no_take line (entries.Request r dev flags answer opened) a is other = refl
-other_is_no_take line (entries.Unlink r dev answer) a is other = refl
-other_is_no_take line (entries.Freed r dev) a is other = refl
-other_is_no_take line (entries.Affinity r mask answer) a is other = refl
-other_is_no_take line (entries.Moment r at) a is other = refl
+pub other_is_no_take : (e : Entry) (a : Actor) → actor_of e ≡ a → IsOther a → is_take e ≡ false
+other_is_no_take (by.Cpu cpu e) a is other = absurd (subst (λ (x : Actor). IsOther x) (sym is) other)
+other_is_no_take e a is other = refl
 
 end_is_no_take : (d : LineDef) (c : CpuNo) (past : List Entry) → is_take (end_of d c past) ≡ false
 end_is_no_take d c past = by_flow d.flow

@@ -12,7 +12,11 @@ use Rattle.irq_base.specs.declared.calls.Call.TheVariants as calls
 use Rattle.irq_base.specs.declared.entries.Actor.{Actor}
 use Rattle.irq_base.specs.declared.entries.Actor.TheVariants as actors
 use Rattle.irq_base.specs.declared.entries.Entry.{Entry}
-use Rattle.irq_base.specs.declared.entries.Entry.TheVariants as entries
+use Rattle.irq_base.specs.declared.entries.Entry.TheVariants as by
+use Rattle.irq_base.specs.declared.entries.CpuEntry.TheVariants as cpus
+use Rattle.irq_base.specs.declared.entries.ThreadEntry.TheVariants as threads
+use Rattle.irq_base.specs.declared.entries.DriverEntry.TheVariants as drivers
+use Rattle.irq_base.specs.declared.entries.CallEntry.TheVariants as called
 use Rattle.irq_base.specs.declared.lines.LineDef.{LineDef}
 use Rattle.irq_base.specs.declared.numbers.CpuNo.{CpuNo}
 use Rattle.irq_base.specs.declared.numbers.DriverNo.{DriverNo}
@@ -144,27 +148,11 @@ never_moved d none [] legal = refl
 never_moved d none (e ∷ past) legal = by_entry e legal.0 (never_moved d none past legal.1)
   where
     by_entry : (e : Entry) → IsDue d e past → list_any is_affinity past ≡ false → (is_affinity e || list_any is_affinity past) ≡ false
-    by_entry (entries.Affinity s mask answer) due rest =
+    by_entry (by.Driver s (drivers.Affinity answer mask)) due rest =
         let u = affinity_due d s mask answer past due in
         let p = place_of s d.calls (entries_by s past) (calls.Affinity mask) u.count u.call in
         both_ways (is_affinity_call p.call.1) (ap (λ (c : Call). is_affinity_call c) p.is) (none p.place p.call p.there)
-    by_entry (entries.Ask r dev) due rest = rest
-    by_entry (entries.Take cpu way answer) due rest = rest
-    by_entry (entries.Begin cpu dev) due rest = rest
-    by_entry (entries.Return cpu dev answer served) due rest = rest
-    by_entry (entries.End cpu again unmask note) due rest = rest
-    by_entry (entries.ThreadBegin dev) due rest = rest
-    by_entry (entries.ThreadReturn dev served) due rest = rest
-    by_entry (entries.Finish dev kept unmask) due rest = rest
-    by_entry (entries.Done dev) due rest = rest
-    by_entry (entries.Disable r) due rest = rest
-    by_entry (entries.HardClear r) due rest = rest
-    by_entry (entries.Synced r) due rest = rest
-    by_entry (entries.Enable r answer) due rest = rest
-    by_entry (entries.Request r dev flags answer opened) due rest = rest
-    by_entry (entries.Unlink r dev answer) due rest = rest
-    by_entry (entries.Freed r dev) due rest = rest
-    by_entry (entries.Moment r at) due rest = rest
+    by_entry e due rest = rest
 
 lowest_is_0 : (n mask : ℕ) → 1 ≤ n → is_in_mask mask 0 ≡ true → lowest_in n mask ≡ Some cpu_0
 lowest_is_0 zero mask some in_mask = absurd (omega (arith, some))
@@ -201,7 +189,7 @@ module _ (b : BoardSeen) (is : IsBoard b) (fits : is_for_chain b ≡ true) where
   flow_of_0 i d at (e ∷ past) legal c on = by_test (is_handle e || closes d e) on (λ h. flow_of_0 i d at past legal.1 c h)
     where
       by_entry : (e : Entry) → IsDue d e past → is_cpu c (cpu_of_handle (Some e)) ≡ true → c ≡ cpu_0
-      by_entry (entries.Take cpu way answer) due on =
+      by_entry (by.Cpu cpu (cpus.Take way answer)) due on =
           let aimed = (take_due d cpu way answer past due).of_target in
           let t = target_is_0 i d at past legal.1 in
           let mine : is_cpu cpu (Some cpu_0) ≡ true = ap (λ (o : Option CpuNo). is_cpu cpu o) (sym t) ∙ aimed in
@@ -219,10 +207,10 @@ module _ (b : BoardSeen) (is : IsBoard b) (fits : is_for_chain b ≡ true) where
   take_of_0 i d at past legal c takes = by_entry (next_past d past (actors.Cpu c)) refl takes
     where
       by_kind : (e : Entry) → next_past d past (actors.Cpu c) ≡ Some e → is_some_take (Some e) ≡ true → c ≡ cpu_0
-      by_kind (entries.Take cpu way answer) due takes =
-          let own = due_is_own_past d past (actors.Cpu c) (entries.Take cpu way answer) due in
+      by_kind (by.Cpu cpu (cpus.Take way answer)) due takes =
+          let own = due_is_own_past d past (actors.Cpu c) (by.Cpu cpu (cpus.Take way answer)) due in
           let same : cpu ≡ c = cc in
-          let its : IsDue d (entries.Take cpu way answer) past = ap (λ (x : CpuNo). next_past d past (actors.Cpu x)) same ∙ due in
+          let its : IsDue d (by.Cpu cpu (cpus.Take way answer)) past = ap (λ (x : CpuNo). next_past d past (actors.Cpu x)) same ∙ due in
           let aimed = (take_due d cpu way answer past its).of_target in
           sym same ∙ cpu_from_same cpu cpu_0 (ap (λ (o : Option CpuNo). is_cpu cpu o) (sym (target_is_0 i d at past legal)) ∙ aimed)
       by_kind e due takes = cc
@@ -262,25 +250,9 @@ no_flow_closed b (steps.Child line e ∷ g) legal closed i x at =
     let before = no_flow_closed b g legal.1 closed i m.line m.at in
     subst (λ (y : BoardLine). is_cpu cpu_0 (flow y.def y.past) ≡ false) m.is (by_test m.line (same_line m.line.def.line line) before)
   where
-    quiet : (d : LineDef) (past : List Entry) (e : Entry) → chain_next b g (actor_of line e) ≡ Some (steps.Child line e) → flow d (e ∷ past) ≡ flow d past
-    quiet d past (entries.Take cpu way answer) due = absurd (no_child b g cpu line (entries.Take cpu way answer) closed due)
-    quiet d past (entries.Begin cpu dev) due = absurd (no_child b g cpu line (entries.Begin cpu dev) closed due)
-    quiet d past (entries.Return cpu dev answer served) due = absurd (no_child b g cpu line (entries.Return cpu dev answer served) closed due)
-    quiet d past (entries.End cpu again unmask note) due = absurd (no_child b g cpu line (entries.End cpu again unmask note) closed due)
-    quiet d past (entries.Ask r dev) due = flow_quiet d (entries.Ask r dev) past refl refl refl
-    quiet d past (entries.ThreadBegin dev) due = flow_quiet d (entries.ThreadBegin dev) past refl refl refl
-    quiet d past (entries.ThreadReturn dev served) due = flow_quiet d (entries.ThreadReturn dev served) past refl refl refl
-    quiet d past (entries.Finish dev kept unmask) due = flow_quiet d (entries.Finish dev kept unmask) past refl refl refl
-    quiet d past (entries.Done dev) due = flow_quiet d (entries.Done dev) past refl refl refl
-    quiet d past (entries.Disable r) due = flow_quiet d (entries.Disable r) past refl refl refl
-    quiet d past (entries.HardClear r) due = flow_quiet d (entries.HardClear r) past refl refl refl
-    quiet d past (entries.Synced r) due = flow_quiet d (entries.Synced r) past refl refl refl
-    quiet d past (entries.Enable r answer) due = flow_quiet d (entries.Enable r answer) past refl refl refl
-    quiet d past (entries.Request r dev flags answer opened) due = flow_quiet d (entries.Request r dev flags answer opened) past refl refl refl
-    quiet d past (entries.Unlink r dev answer) due = flow_quiet d (entries.Unlink r dev answer) past refl refl refl
-    quiet d past (entries.Freed r dev) due = flow_quiet d (entries.Freed r dev) past refl refl refl
-    quiet d past (entries.Affinity r mask answer) due = flow_quiet d (entries.Affinity r mask answer) past refl refl refl
-    quiet d past (entries.Moment r at) due = flow_quiet d (entries.Moment r at) past refl refl refl
+    quiet : (d : LineDef) (past : List Entry) (e : Entry) → chain_next b g (actor_of e) ≡ Some (steps.Child line e) → flow d (e ∷ past) ≡ flow d past
+    quiet d past (by.Cpu cpu e) due = absurd (no_child b g cpu line (by.Cpu cpu e) closed due)
+    quiet d past e due = flow_quiet d e past refl refl refl
 
     by_test : (y : BoardLine) (t : Bool) → is_cpu cpu_0 (flow y.def y.past) ≡ false → is_cpu cpu_0 (flow y.def (cond t (e ∷ y.past) y.past)) ≡ false
     by_test y true before = ap (λ (o : Option CpuNo). is_cpu cpu_0 o) (quiet y.def y.past e legal.0) ∙ before
@@ -356,7 +328,7 @@ module _ (b : BoardSeen) (is : IsBoard b) (fits : is_for_chain b ≡ true) (g : 
 
   -- an actor that has no step of the chain can't move
   pub rests : (a : Actor) → chain_next b g a ≡ None → due_move b lines a ≡ None
-  rests (actors.Thread line d) none = no_child_due _ none
+  rests (actors.Thread d) none = no_child_due _ none
   rests (actors.Driver r) none = no_child_due _ none
   rests (actors.Cpu c) none = by_zero (c.0 == 0) refl none
     where

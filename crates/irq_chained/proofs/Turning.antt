@@ -99,7 +99,7 @@ module _ {s : SystemSeen} (t : SystemSeen) {ms : List Mark} {walk : Option Walk}
       walks : (turn : Turn) → Turns s a turn t → WalkGoes s ms turn t walk
       walks (moves.Moved line e) by =
           let own = due_own (line_for s.board (board_lines s.lines) a) a (line, e) by.is in
-          walk_stays (board_lines s.lines) (board_lines t.lines) g (line, e) walk by.lines (other_is_no_take line e a own other) d.walks
+          walk_stays (board_lines s.lines) (board_lines t.lines) g (line, e) walk by.lines (other_is_no_take e a own other) d.walks
       walks moves.NotYet by = d.walks
       walks (moves.Full line len) by = d.walks
       walks moves.NoMemory by = d.walks

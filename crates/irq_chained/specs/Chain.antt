@@ -114,8 +114,8 @@ of_cpu_0 g lines (Some status) = in_chain g lines status (flow_line lines cpu_0)
 -- The actor's next step; none if it has none. A thread and a driver step as on any board; a
 -- processor other than 0 never does.
 abbrev pub chain_next : BoardSeen → List ChainEntry → Actor → Option ChainEntry
-chain_next b g (actors.Thread line d) =
-    child (due_move b (lines_in b g) (actors.Thread line d))
+chain_next b g (actors.Thread d) =
+    child (due_move b (lines_in b g) (actors.Thread d))
 chain_next b g (actors.Cpu c) =
     if c.0 == 0 then of_cpu_0 g (lines_in b g) (open_status g) else None
 chain_next b g (actors.Driver r) = child (due_move b (lines_in b g) (actors.Driver r))
@@ -123,7 +123,7 @@ chain_next b g (actors.Driver r) = child (due_move b (lines_in b g) (actors.Driv
 -- who made the step
 abbrev pub stepper_of : ChainEntry → Actor
 stepper_of (steps.Enter cpu status) = actors.Cpu cpu
-stepper_of (steps.Child line entry) = actor_of line entry
+stepper_of (steps.Child line entry) = actor_of entry
 stepper_of (steps.Exit cpu) = actors.Cpu cpu
 
 -- each step was the next one of the actor that made it

@@ -70,7 +70,7 @@ TurnsBy old due turns.NoMemory new = IsSome (lowest_of old) × (new ≡ old)
 
 -- a thread, or a driver
 abbrev pub IsOther : Actor → Type 0
-IsOther (actors.Thread line d) = Unit {0}
+IsOther (actors.Thread d) = Unit {0}
 IsOther (actors.Cpu c) = ⊥
 IsOther (actors.Driver r) = Unit {0}
 

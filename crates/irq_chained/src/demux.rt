@@ -140,7 +140,7 @@ impl<'b, L: IrqLine> Demux<'b, L> {
                     ChainTurn::NotYet
                 }
             }
-            Actor::Thread(_, _) => self.turn_other(actor, handlers),
+            Actor::Thread(_) => self.turn_other(actor, handlers),
             Actor::Driver(_) => self.turn_other(actor, handlers),
         }
     }
@@ -264,7 +264,7 @@ impl<'b, L: IrqLine> Demux<'b, L> {
     {
         self.is_kept();
         match self.system.lowest_thread_or_cpu() {
-            Some(Actor::Thread(line, dev)) => self.turn_other(Actor::Thread(line, dev), handlers),
+            Some(Actor::Thread(dev)) => self.turn_other(Actor::Thread(dev), handlers),
             Some(Actor::Cpu(_)) => self.turn_after_threads(handlers),
             Some(Actor::Driver(_)) => self.turn_after_threads(handlers),
             None => self.turn_after_threads(handlers),

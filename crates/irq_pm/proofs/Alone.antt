@@ -4,18 +4,12 @@ use Rattle.std.specs.List.{list_any}
 use Rattle.irq_base.specs.Who.{actor_of}
 use Rattle.irq_base.specs.declared.entries.Actor.{Actor}
 use Rattle.irq_base.specs.declared.entries.Entry.{Entry}
-use Rattle.irq_base.specs.declared.entries.Entry.TheVariants as entries
 use Rattle.irq_base.specs.declared.numbers.DriverNo.{DriverNo}
-use Rattle.irq_base.specs.declared.numbers.LineNo.{LineNo}
 use Rattle.irq_model.specs.Kinds.{is_any_ask, is_by_driver, is_driver}
 use Rattle.irq_laws.proofs.Lists.{both_ways}
 use Rattle.board_driver.specs.Longer.{last_driver}
-use Rattle.board_play.proofs.Moving.{by_driver_is}
 use Rattle.sleep_laws.proofs.Waits.{not_own}
 use Rattle.sleep_laws.specs.Sleeping.{is_disable_by, is_enable_by, is_other_driver, is_other_call, since_disable, is_suspended, others_only_ask}
-
-abbrev pub no_line : LineNo
-no_line = record { 0 = 0 }
 
 -- while the line is suspended the other drivers have only asked
 abbrev pub IsAlone : List Entry → Type 0
@@ -23,30 +17,21 @@ IsAlone past = is_suspended last_driver past ≡ true → others_only_ask last_d
 
 -- ---- whose entry
 
--- whose it is doesn't depend on the line, but for the threads' own line
-of_any_line : (r : DriverNo) (line : LineNo) (e : Entry) → is_other_driver r (actor_of no_line e) ≡ is_other_driver r (actor_of line e)
-of_any_line r line (entries.ThreadBegin dev) = refl
-of_any_line r line (entries.ThreadReturn dev served) = refl
-of_any_line r line (entries.Finish dev kept unmask) = refl
-of_any_line r line (entries.Done dev) = refl
-of_any_line r line e = refl
-
 -- no driver but the system's made it
-pub not_other : (line : LineNo) (e : Entry) (a : Actor) → actor_of line e ≡ a → is_other_driver last_driver a ≡ false → is_other_call last_driver e ≡ false
-not_other line e a its none =
-    ap (λ (b : Bool). b && not (is_any_ask e)) (of_any_line last_driver line e ∙ (ap (λ (a : Actor). is_other_driver last_driver a) its ∙ none))
+pub not_other : (e : Entry) (a : Actor) → actor_of e ≡ a → is_other_driver last_driver a ≡ false → is_other_call last_driver e ≡ false
+not_other e a its none = ap (λ (b : Bool). b && not (is_any_ask e)) (ap (λ (a : Actor). is_other_driver last_driver a) its ∙ none)
 
 -- an ask is no other call
 pub ask_is_none : (e : Entry) → is_any_ask e ≡ true → is_other_call last_driver e ≡ false
-ask_is_none e ask = by_test (is_other_driver last_driver (actor_of no_line e)) (is_any_ask e) ask
+ask_is_none e ask = by_test (is_other_driver last_driver (actor_of e)) (is_any_ask e) ask
   where
     by_test : (o a : Bool) → a ≡ true → (o && not a) ≡ false
     by_test true a is = ap not is
     by_test false a is = refl
 
 -- not the system's
-pub not_by : (line : LineNo) (e : Entry) (a : Actor) → actor_of line e ≡ a → is_driver last_driver a ≡ false → is_by_driver last_driver e ≡ false
-not_by line e a its none = by_driver_is line last_driver e ∙ (ap (λ (a : Actor). is_driver last_driver a) its ∙ none)
+pub not_by : (e : Entry) (a : Actor) → actor_of e ≡ a → is_driver last_driver a ≡ false → is_by_driver last_driver e ≡ false
+not_by e a its none = ap (λ (a : Actor). is_driver last_driver a) its ∙ none
 
 -- ---- one more entry
 

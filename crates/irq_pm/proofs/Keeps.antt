@@ -8,7 +8,8 @@ use Rattle.irq_base.specs.declared.devices.DeviceDef.{DeviceDef}
 use Rattle.irq_base.specs.declared.entries.Actor.{Actor}
 use Rattle.irq_base.specs.declared.entries.Actor.TheVariants as actors
 use Rattle.irq_base.specs.declared.entries.Entry.{Entry}
-use Rattle.irq_base.specs.declared.entries.Entry.TheVariants as entries
+use Rattle.irq_base.specs.declared.entries.Entry.TheVariants as by
+use Rattle.irq_base.specs.declared.entries.DriverEntry.TheVariants as drivers
 use Rattle.irq_base.specs.declared.lines.LineDef.{LineDef}
 use Rattle.irq_base.specs.declared.numbers.DriverNo.{DriverNo}
 use Rattle.irq_base.specs.declared.numbers.LineNo.{LineNo}
@@ -102,11 +103,11 @@ module _ (board : BoardSeen) (is : IsBoard board) (lines : List BoardLine) (k : 
   pub alone_after : is_other_driver last_driver a ≡ false → Each IsAloneOn lines → Each IsAloneOn (lines_after m lines)
   alone_after none =
       each_after IsAloneOn IsAloneOn (λ x p. p) (λ x next p. alone_more m.1 x.past
-      (not_other x.def.line m.1 a (due_is_own_past x.def x.past a m.1 next) none) p)
+      (not_other m.1 a (due_is_own_past x.def x.past a m.1 next) none) p)
 
   pub awake_after : is_driver last_driver a ≡ false → Each IsAwakeOn lines → Each IsAwakeOn (lines_after m lines)
   awake_after none =
-      each_after IsAwakeOn IsAwakeOn (λ x p. p) (λ x next p. awake_more m.1 x.past (not_by x.def.line m.1 a (due_is_own_past x.def x.past a m.1 next) none) p)
+      each_after IsAwakeOn IsAwakeOn (λ x p. p) (λ x next p. awake_more m.1 x.past (not_by m.1 a (due_is_own_past x.def x.past a m.1 next) none) p)
 
   pub shut_after : Each IsShut lines → Each IsShut (lines_after m lines)
   shut_after = each_after IsShut IsShut (λ x p. p) (λ x next p. still_shut x m.1 next p)
@@ -163,7 +164,7 @@ module _ (board : BoardSeen) (is : IsBoard board) (lines : List BoardLine) (k : 
 abbrev IsInner : Actor → Type 0
 IsInner a = is_other_driver last_driver a ≡ false
 
-thread_inner : (a : Actor) (ds : List DeviceDef) → IsOneOf a (map (λ (x : DeviceDef). actors.Thread x.line x.dev) ds) → IsInner a
+thread_inner : (a : Actor) (ds : List DeviceDef) → IsOneOf a (map (λ (x : DeviceDef). actors.Thread x.dev) ds) → IsInner a
 thread_inner a [] at = absurd at
 thread_inner a (d ∷ ds) at = elim at [ inl here ↦ ap (λ (b : Actor). is_other_driver last_driver b) here | inr there ↦ thread_inner a ds there ]
 
@@ -186,7 +187,7 @@ asks : (def : LineDef) (r : DriverNo) (past : List Entry) (line : LineNo) (e : E
 asks def r past line e asking next = by_due (due_call def r past) asking next
   where
     by_call : (c : Call) (n : ℕ) → is_ask_call c ≡ true → next_of_call def r past (Some (c, n)) ≡ Some e → is_any_ask e ≡ true
-    by_call (calls.Ask d) n asking next = ap (λ (x : Entry). is_any_ask x) (sym (the_same (entries.Ask r d) e next))
+    by_call (calls.Ask d) n asking next = ap (λ (x : Entry). is_any_ask x) (sym (the_same (by.Driver r (drivers.Ask true d)) e next))
     by_call c n asking next = cc
 
     by_due : (o : Option (Call × ℕ)) → is_ask_due (with_line line o) ≡ true → next_of_call def r past o ≡ Some e → is_any_ask e ≡ true

@@ -11,16 +11,14 @@ use Rattle.irq_base.specs.declared.lines.LineDef.{LineDef}
 use Rattle.irq_base.specs.declared.numbers.CpuNo.{CpuNo}
 use Rattle.irq_base.specs.declared.numbers.DevNo.{DevNo}
 use Rattle.irq_base.specs.declared.numbers.LineNo.{LineNo}
-use Rattle.irq_model.specs.Kinds.{same_line}
 use Rattle.irq_model.specs.Legal.{IsLegalPast}
-use Rattle.irq_model.specs.Lines.{is_device}
+use Rattle.irq_model.specs.Lines.{has_device, is_device}
 use Rattle.irq_model.specs.Next.{next_of_thread, next_past}
 use Rattle.irq_model.specs.Valid.{IsValid}
-use Rattle.irq_steps.proofs.Same.{dev_from_same, line_from_same}
+use Rattle.irq_steps.proofs.Same.{dev_from_same}
 use Rattle.irq_laws.proofs.Chosen.{chosen}
-use Rattle.irq_laws.proofs.KeptAlways.{kept}
 use Rattle.play_laws.specs.Actors.{threads_of as threads_of_line, cpus_of as cpus_of_line, drivers_of as drivers_of_line, actors_of as actors_of_line, IsOneOf}
-use Rattle.play_laws.proofs.Listed.{in_first, in_second, thread_device, mover_listed}
+use Rattle.play_laws.proofs.Listed.{in_first, in_second, mover_listed}
 use Rattle.board_def.specs.Rules.{IsBoard}
 use Rattle.board_def.specs.Seen.{BoardSeen}
 use Rattle.board_play.specs.Kept.{AreKept}
@@ -35,49 +33,34 @@ use Rattle.board_play.proofs.OfBoard.{AreValid, OfRow, def_of_row, valid_defs}
 -- a device that is on the line
 device_listed : (line : LineNo) (d : DevNo) (xs : List DeviceDef)
     → list_any (is_device d) (filter (λ x. x.line.0 == line.0) xs) ≡ true
-    → IsOneOf (actors.Thread line d) (map (λ (x : DeviceDef). actors.Thread x.line x.dev) xs)
+    → IsOneOf (actors.Thread d) (map (λ (x : DeviceDef). actors.Thread x.dev) xs)
 device_listed line d [] h = cc
 device_listed line d (x ∷ xs) h = by_test (x.line.0 == line.0) refl h (device_listed line d xs)
   where
-    here : same_line x.line line ≡ true → is_device d x ≡ true → actors.Thread line d ≡ actors.Thread x.line x.dev
-    here of_line is = ap (λ (l : LineNo). actors.Thread l d) (sym (line_from_same x.line line of_line))
-        ∙ ap (λ (e : DevNo). actors.Thread x.line e) (dev_from_same d x.dev is)
-
     by_test : (b : Bool) → (x.line.0 == line.0) ≡ b → list_any (is_device d)
         (cond b (x ∷ filter (λ x. x.line.0 == line.0) xs) (filter (λ x. x.line.0 == line.0) xs)) ≡ true
         → (list_any (is_device d) (filter (λ x. x.line.0 == line.0) xs) ≡ true
-        → IsOneOf (actors.Thread line d) (map (λ (x : DeviceDef). actors.Thread x.line x.dev) xs))
-        → (actors.Thread line d ≡ actors.Thread x.line x.dev) ⊎ IsOneOf (actors.Thread line d) (map (λ (x : DeviceDef). actors.Thread x.line x.dev) xs)
+        → IsOneOf (actors.Thread d) (map (λ (x : DeviceDef). actors.Thread x.dev) xs))
+        → (actors.Thread d ≡ actors.Thread x.dev) ⊎ IsOneOf (actors.Thread d) (map (λ (x : DeviceDef). actors.Thread x.dev) xs)
     by_test true of_line h deeper = elim (or_cases (is_device d x)
         (list_any (is_device d) (filter (λ x. x.line.0 == line.0) xs)) h)
-        [ inl is ↦ inl (here of_line is) | inr there ↦ inr (deeper there) ]
+        [ inl is ↦ inl (ap (λ (e : DevNo). actors.Thread e) (dev_from_same d x.dev is)) | inr there ↦ inr (deeper there) ]
     by_test false other h deeper = inr (deeper h)
 
-thread_listed : (board : BoardSeen) (x : BoardLine) → OfRow board board.lines x.def → IsValid x.def
-    → IsLegalPast x.def x.past → (line : LineNo) (d : DevNo) (e : Entry)
-    → next_past x.def x.past (actors.Thread line d) ≡ Some e
-    → IsOneOf (actors.Thread line d) (threads_of board)
-thread_listed board x o valid legal line d e due = by_line (chosen (same_line line x.def.line) (next_of_thread x.def d x.past) None e due)
+thread_listed : (board : BoardSeen) (x : BoardLine) → OfRow board board.lines x.def → (d : DevNo) (e : Entry)
+    → next_past x.def x.past (actors.Thread d) ≡ Some e → IsOneOf (actors.Thread d) (threads_of board)
+thread_listed board x o d e due = by_device (chosen (has_device x.def d) (next_of_thread x.def d x.past) None e due)
   where
-    of_row : list_any (is_device d) x.def.devices ≡ true → IsOneOf (actors.Thread x.def.line d) (threads_of board)
-    of_row named =
-        let there : list_any (is_device d) (filter (λ x. x.line.0 == o.row.line.0) board.devices)
-        ≡ true = subst (λ (def : LineDef). list_any (is_device d) def.devices ≡ true) (sym o.is) named in
-        subst (λ (def : LineDef). IsOneOf (actors.Thread def.line d) (threads_of board)) o.is (device_listed o.row.line d board.devices there)
-
-    by_line : ((same_line line x.def.line ≡ true) × (next_of_thread x.def d x.past ≡ Some e))
-        ⊎ ((same_line line x.def.line ≡ false) × (None ≡ Some e)) → IsOneOf (actors.Thread line d) (threads_of board)
-    by_line (inl h) =
-        subst (λ (l : LineNo). IsOneOf (actors.Thread l d) (threads_of board))
-        (sym (line_from_same line x.def.line h.0))
-        (of_row (thread_device x.def x.past d e (kept x.def x.past valid legal) h.1))
-    by_line (inr h) = let n = h.1 in cc
+    by_device : ((has_device x.def d ≡ true) × (next_of_thread x.def d x.past ≡ Some e))
+        ⊎ ((has_device x.def d ≡ false) × (None ≡ Some e)) → IsOneOf (actors.Thread d) (threads_of board)
+    by_device (inl h) = device_listed o.row.line d board.devices (subst (λ (def : LineDef). has_device def d ≡ true) (sym o.is) h.0)
+    by_device (inr h) = let n = h.1 in cc
 
 -- ---- processors
 
-no_thread : (line : LineNo) (c : CpuNo) (ns : List ℕ) → IsOneOf (actors.Cpu c) (map (λ n. actors.Thread line (record { 0 = n })) ns) → ⊥
-no_thread line c [] at = at
-no_thread line c (n ∷ ns) at = elim at [ inl here ↦ cc | inr there ↦ no_thread line c ns there ]
+no_thread : (c : CpuNo) (ns : List ℕ) → IsOneOf (actors.Cpu c) (map (λ n. actors.Thread (record { 0 = n })) ns) → ⊥
+no_thread c [] at = at
+no_thread c (n ∷ ns) at = elim at [ inl here ↦ cc | inr there ↦ no_thread c ns there ]
 
 no_driver : (c : CpuNo) (ns : List ℕ) → IsOneOf (actors.Cpu c) (map (λ n. actors.Driver (record { 0 = n })) ns) → ⊥
 no_driver c [] at = at
@@ -99,7 +82,7 @@ cpu_listed board x o valid legal c e due =
   where
     of_cpus : IsOneOf (actors.Cpu c) (actors_of_line x.def) → IsOneOf (actors.Cpu c) (cpus_of_line x.def)
     of_cpus at = elim (in_either (actors.Cpu c) (threads_of_line x.def) (cpus_of_line x.def ++ drivers_of_line x.def) at) [
-      | inl thread ↦ absurd (no_thread x.def.line c _ thread)
+      | inl thread ↦ absurd (no_thread c _ thread)
       | inr rest ↦ elim (in_either (actors.Cpu c) (cpus_of_line x.def) (drivers_of_line x.def) rest)
           [ inl cpu ↦ cpu | inr driver ↦ absurd (no_driver c _ driver) ]
     ]
@@ -112,12 +95,11 @@ module _ (board : BoardSeen) (is : IsBoard board) (lines : List BoardLine) (k : 
   valid : AreValid board
   valid = valid_defs board is
 
-  thread_is : (line : LineNo) (d : DevNo) (m : Move) → due_move board lines (actors.Thread line d) ≡ Some m → IsOneOf (actors.Thread line d) (threads_of board)
-  thread_is line d m due =
-      let moves = moves_on board lines (actors.Thread line d) m due in
+  thread_is : (d : DevNo) (m : Move) → due_move board lines (actors.Thread d) ≡ Some m → IsOneOf (actors.Thread d) (threads_of board)
+  thread_is d m due =
+      let moves = moves_on board lines (actors.Thread d) m due in
       let at = def_at board lines k moves.place moves.line moves.at in
-      thread_listed board moves.line (def_of_row board moves.place moves.line.def at)
-      (valid moves.place moves.line.def at) (k.legal moves.place moves.line moves.at) line d m.1 moves.due
+      thread_listed board moves.line (def_of_row board moves.place moves.line.def at) d m.1 moves.due
 
   cpu_is : (c : CpuNo) (m : Move) → due_move board lines (actors.Cpu c) ≡ Some m → IsOneOf (actors.Cpu c) (cpus_of board)
   cpu_is c m due =
@@ -126,12 +108,12 @@ module _ (board : BoardSeen) (is : IsBoard board) (lines : List BoardLine) (k : 
       cpu_listed board moves.line (def_of_row board moves.place moves.line.def at) (valid moves.place moves.line.def at)
       (k.legal moves.place moves.line moves.at) c m.1 moves.due
 
-  pub no_thread_moves : (line : LineNo) (d : DevNo) → due_move board lines (actors.Thread line d) ≡ None
-  no_thread_moves line d = by_move (due_move board lines (actors.Thread line d)) refl
+  pub no_thread_moves : (d : DevNo) → due_move board lines (actors.Thread d) ≡ None
+  no_thread_moves d = by_move (due_move board lines (actors.Thread d)) refl
     where
-      by_move : (o : Option Move) → due_move board lines (actors.Thread line d) ≡ o → due_move board lines (actors.Thread line d) ≡ None
+      by_move : (o : Option Move) → due_move board lines (actors.Thread d) ≡ o → due_move board lines (actors.Thread d) ≡ None
       by_move None due = due
-      by_move (Some m) due = rest (actors.Thread line d) (in_first (actors.Thread line d) (threads_of board) (cpus_of board) (thread_is line d m due))
+      by_move (Some m) due = rest (actors.Thread d) (in_first (actors.Thread d) (threads_of board) (cpus_of board) (thread_is d m due))
 
   pub no_cpu_moves : (c : CpuNo) → due_move board lines (actors.Cpu c) ≡ None
   no_cpu_moves c = by_move (due_move board lines (actors.Cpu c)) refl

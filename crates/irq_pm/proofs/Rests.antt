@@ -4,6 +4,7 @@ use Rattle.std.proofs.Common.{◌≡◌, ℕ, zero, suc, Bool, true, false, cond
 use Rattle.std.proofs.Common.{reverse, slice_get, refl, sym, ap, ◌∙◌, subst}
 use Rattle.std.proofs.lemmas.List.{reverse-reverse}
 use Rattle.irq_base.specs.declared.calls.Call.TheVariants as calls
+use Rattle.irq_base.specs.declared.devices.DeviceDef.{DeviceDef}
 use Rattle.irq_base.specs.declared.entries.Actor.{Actor}
 use Rattle.irq_base.specs.declared.entries.Actor.TheVariants as actors
 use Rattle.irq_base.specs.declared.entries.Entry.{Entry}
@@ -12,18 +13,19 @@ use Rattle.irq_base.specs.declared.numbers.DevNo.{DevNo}
 use Rattle.irq_base.specs.declared.numbers.DriverNo.{DriverNo}
 use Rattle.irq_base.specs.declared.numbers.LineNo.{LineNo}
 use Rattle.irq_model.specs.Due.{due_call}
-use Rattle.irq_model.specs.Kinds.{same_line}
+use Rattle.irq_model.specs.Lines.{has_device}
 use Rattle.irq_model.specs.Next.{next_in_flow, next_take, next_of_thread, next_past}
 use Rattle.irq_model.specs.Rounds.{flow, is_cpu, at_work}
-use Rattle.irq_steps.proofs.Same.{line_from_same}
 use Rattle.irq_laws.proofs.Chosen.{the_same}
 use Rattle.board_def.specs.Rules.{IsBoard}
 use Rattle.board_def.specs.Seen.{BoardSeen}
 use Rattle.board_play.specs.Kept.{AreKept}
 use Rattle.board_play.specs.Lines.{BoardLine, find_line}
-use Rattle.board_play.specs.Order.{flow_line, due_line, or_line, line_for, move_on, due_on, due_move}
+use Rattle.board_play.specs.Order.{device_line, flow_line, due_line, or_line, line_for, move_on, due_on, due_move}
 use Rattle.board_play.proofs.KeptAlways.{apart_kept}
+use Rattle.board_play.proofs.Listed.{def_at}
 use Rattle.board_play.proofs.Members.{find_there}
+use Rattle.board_play.proofs.OfBoard.{device_found}
 use Rattle.sleep_laws.proofs.Falls.{falls_asleep}
 
 none_due : (line : LineNo) (o : Option Entry) → move_on line o ≡ None → o ≡ None
@@ -80,20 +82,18 @@ no_line_due (y ∷ ys) c none i x at = by_test (is_some (next_past y.def y.past 
     by_test false test none (suc i) at deeper = deeper none i at
 
 module _ (board : BoardSeen) (is : IsBoard board) (lines : List BoardLine) (k : AreKept board lines)
-    (threads : (line : LineNo) (d : DevNo) → due_move board lines (actors.Thread line d) ≡ None)
+    (threads : (d : DevNo) → due_move board lines (actors.Thread d) ≡ None)
     (cpus : (c : CpuNo) → due_move board lines (actors.Cpu c) ≡ None) where
-  threads_rest : (i : ℕ) (x : BoardLine) → slice_get lines i ≡ Some x → (line : LineNo) (d : DevNo) → next_past x.def x.past (actors.Thread line d) ≡ None
-  threads_rest i x at line d = by_line (same_line line x.def.line) refl
+  threads_rest : (i : ℕ) (x : BoardLine) → slice_get lines i ≡ Some x → (d : DevNo) → next_past x.def x.past (actors.Thread d) ≡ None
+  threads_rest i x at d = by_device (has_device x.def d) refl
     where
-      here : line ≡ x.def.line → next_past x.def x.past (actors.Thread line d) ≡ None
-      here same =
-          rests_on board lines (actors.Thread line d) x
-          (ap (λ (l : LineNo). find_line lines l) same ∙ find_there lines (apart_kept board is lines k) i x at)
-          (threads line d)
-
-      by_line : (b : Bool) → same_line line x.def.line ≡ b → next_past x.def x.past (actors.Thread line d) ≡ None
-      by_line true same = here (line_from_same line x.def.line same)
-      by_line false other = ap (λ (b : Bool). cond b (next_of_thread x.def d x.past) None) other
+      by_device : (b : Bool) → has_device x.def d ≡ b → next_past x.def x.past (actors.Thread d) ≡ None
+      by_device true there =
+          let f = device_found board is i x.def (def_at board lines k i x at) d there in
+          rests_on board lines (actors.Thread d) x
+          (ap (λ (o : Option DeviceDef). device_line lines o) f.found
+          ∙ (ap (λ (l : LineNo). find_line lines l) f.on_line ∙ find_there lines (apart_kept board is lines k) i x at)) (threads d)
+      by_device false other = ap (λ (b : Bool). cond b (next_of_thread x.def d x.past) None) other
 
   cpus_rest : (i : ℕ) (x : BoardLine) → slice_get lines i ≡ Some x → (c : CpuNo) → next_past x.def x.past (actors.Cpu c) ≡ None
   cpus_rest i x at c = by_flow (flow_line lines c) refl
@@ -116,5 +116,5 @@ module _ (board : BoardSeen) (is : IsBoard board) (lines : List BoardLine) (k : 
   disable_moves i x at r n due =
       let back : (P : List Entry → Type 0) → P x.past → P (reverse (reverse x.past)) = λ P p. subst P (sym (reverse-reverse x.past)) p in
       subst (λ (p : List Entry). is_some (next_past x.def p (actors.Driver r)) ≡ true) (reverse-reverse x.past)
-      (falls_asleep x.def (reverse x.past) r n (λ line d. back (λ p. next_past x.def p (actors.Thread line d) ≡ None) (threads_rest i x at line d))
+      (falls_asleep x.def (reverse x.past) r n (λ d. back (λ p. next_past x.def p (actors.Thread d) ≡ None) (threads_rest i x at d))
       (λ c. back (λ p. next_past x.def p (actors.Cpu c) ≡ None) (cpus_rest i x at c)) (back (λ p. due_call x.def r p ≡ Some (calls.Disable, n)) due))

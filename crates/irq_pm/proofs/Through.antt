@@ -69,7 +69,7 @@ moves_are b armed (e ∷ g) = ap (λ (h : List Move). onto (told e) h) (moves_ar
 -- ---- the picks of a board
 
 driver_differs : (b : BoardSeen) → has_driver b.drivers last_driver ≡ false → (a : Actor) → IsActorOf b a → is_driver last_driver a ≡ false
-driver_differs b free (actors.Thread line dev) of_board = refl
+driver_differs b free (actors.Thread dev) of_board = refl
 driver_differs b free (actors.Cpu cpu) of_board = refl
 driver_differs b free (actors.Driver r) of_board = by_test (same_driver last_driver r) refl
   where

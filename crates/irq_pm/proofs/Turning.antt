@@ -184,7 +184,7 @@ module _ (b : BoardSeen) (is : IsBoard b) (long : IsBoard (slept b)) (free : has
 
   -- ---- falling asleep never gets stuck
 
-  pub never_stuck : ((line : LineNo) (d : DevNo) → due_move (slept b) lines (actors.Thread line d) ≡ None)
+  pub never_stuck : ((d : DevNo) → due_move (slept b) lines (actors.Thread d) ≡ None)
       → ((c : CpuNo) → due_move (slept b) lines (actors.Cpu c) ≡ None)
       → is_disable_due (due_of (slept b) lines last_driver) ≡ true → last_move (slept b) lines ≡ None → ⊥
   never_stuck threads cpus disabling none = by_line (current_line (slept b).calls lines last_driver) refl disabling

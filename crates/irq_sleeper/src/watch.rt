@@ -8,7 +8,7 @@ ghost use Rattle.irq_pm.specs.Waking.{is_among};
 ghost use Rattle.irq_sleeper.specs.Watching.{Watches};
 ghost use Rattle.sleep_laws.specs.Sleeping.{is_disable_by};
 
-use irq_base::{DriverNo, Entry, LineNo, NoMemory, TakeAnswer};
+use irq_base::{CallEntry, CpuEntry, DriverNo, Entry, LineNo, NoMemory, TakeAnswer};
 use std::alloc::Global;
 use std::marker::Model;
 
@@ -86,7 +86,7 @@ fn take_out(lines: &mut Vec<LineNo>, line: LineNo)
 fn is_system_disable(entry: Entry) -> bool
     ensures { result ≡ is_disable_by last_driver entry }
 {
-    matches!(entry, Entry::Disable { driver } if driver == SYSTEM)
+    matches!(entry, Entry::DriverCall(driver, CallEntry::Disable) if driver == SYSTEM)
 }
 
 /// Whether it is a take that is answered off.
@@ -95,10 +95,13 @@ fn is_off(entry: Entry) -> bool
 {
     matches!(
         entry,
-        Entry::Take {
-            answer: TakeAnswer::Off,
-            ..
-        }
+        Entry::Cpu(
+            _,
+            CpuEntry::Take {
+                answer: TakeAnswer::Off,
+                ..
+            }
+        )
     )
 }
 

@@ -16,7 +16,6 @@ loop-i-preserved g c =
     subst (λ past. AreOwn c.args.board.now.drivers (record { def = line.def; past = past }) c.tell.new.own.items)
     (sym (past_more line.entries i c.in-Some.entry at))
     (c.tell.ensures (record { def = line.def; past = reverse (take i line.entries) })
-    (ap (λ d. d.line) (sym c.definition-def.ensures))
     (due_at line.def line.entries i c.in-Some.entry at c.is_sound.ensures.legal) c.loop-i.invariant)
 
 pub returns : goal.returns

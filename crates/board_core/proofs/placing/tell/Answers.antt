@@ -1,5 +1,4 @@
 use Rattle.std.proofs.Common.{sym, ap, ◌∙◌, subst}
-use Rattle.irq_base.specs.Who.{actor_of}
 use Rattle.board_core.specs.Placing.{IsPlaceOfActor}
 use Rattle.board_core.proofs.OwnScripts.{own_more, actor_fits}
 use Rattle.board_core.proofs.placing.tell.Goals as goal
@@ -9,9 +8,9 @@ advance-requires c = actor_fits c.args.board.now c.args.own.now.items c.args.dri
     c.place_of_actor-script.result c.requires.drivers c.requires.numbers c.place_of_actor-script.ensures
 
 pub returns : goal.returns
-returns c x line due own =
+returns c x due own =
     own_more (λ i r at. (c.is_board.ensures.board.drivers i r at).rises) c.requires.numbers c.args.entry due
     c.place_of_actor-script.result
     (subst (λ a. IsPlaceOfActor c.args.driver_numbers.now a c.place_of_actor-script.result)
-    (c.actor.ensures ∙ ap (λ l. actor_of l c.args.entry) (sym line)) c.place_of_actor-script.ensures)
+    c.actor.ensures c.place_of_actor-script.ensures)
     c.advance.ensures own

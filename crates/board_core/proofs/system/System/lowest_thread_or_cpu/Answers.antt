@@ -1,26 +1,13 @@
-use Rattle.std.proofs.Common.{arith}
 use Rattle.board_core.proofs.Standing.{told_by_arm}
-use Rattle.board_core.proofs.InLists.{read_at}
 use Rattle.board_core.proofs.Kept.{kept_system}
-use Rattle.board_core.proofs.FirstLaws.{first_thread, first_cpu, none_first, number_within}
+use Rattle.board_core.proofs.FirstLaws.{first_thread, first_cpu, none_first}
 use Rattle.board_core.proofs.system.System.lowest_thread_or_cpu.Goals as goal
-
-pub index-requires : goal.index-requires
-index-requires g c =
-    let system = kept_system c.is_board.ensures.board c.self.invariant c.self.view_is in
-    let s = c.self.inside in
-    let there = number_within system c.in-Some-Thread.thread
-    (told_by_arm c.in-Some-Thread.is c.in-Some-Thread.field-0-is c.lowest_thread_or_cpu.ensures) in
-    omega (arith, there, s.line_numbers.ok.0)
 
 pub returns-in-Some-Thread : goal.returns-in-Some-Thread
 returns-in-Some-Thread g c =
     let system = kept_system c.is_board.ensures.board c.self.invariant c.self.view_is in
-    let found = told_by_arm c.in-Some-Thread.is c.in-Some-Thread.field-0-is c.lowest_thread_or_cpu.ensures in
     first_thread system c.in-Some-Thread.thread
-    (record { 0 = c.index.result.now }) found
-    (read_at c.self.inside.line_numbers.items (number_within system c.in-Some-Thread.thread found)
-    c.index.ensures)
+    (told_by_arm c.in-Some-Thread.is c.in-Some-Thread.field-0-is c.lowest_thread_or_cpu.ensures)
 
 pub returns-in-Some-Cpu : goal.returns-in-Some-Cpu
 returns-in-Some-Cpu g c =

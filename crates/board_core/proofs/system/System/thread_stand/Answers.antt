@@ -3,7 +3,7 @@ use Rattle.board_core.specs.ReadyFor.{has_thread_up_to}
 use Rattle.board_core.proofs.Kept.{kept_system}
 use Rattle.board_core.proofs.InSystem.{numbers_kept}
 use Rattle.board_core.proofs.RisingNumbers.{rising_lines}
-use Rattle.board_core.proofs.Standing.{thread_nowhere, thread_below, thread_there, number_there, number_nowhere}
+use Rattle.board_core.proofs.Standing.{thread_of_none, thread_nowhere, thread_below, thread_there, number_there, number_nowhere, told_by_arm}
 use Rattle.board_core.proofs.system.System.thread_stand.Goals as goal
 
 pub place_of-requires : goal.place_of-requires
@@ -16,21 +16,26 @@ place_of-requires g c =
 pub returns-in_default : goal.returns-in_default
 returns-in_default g c =
     let system = kept_system c.is_board.ensures.board c.self.invariant c.self.view_is in
-    thread_nowhere system c.args.line c.args.dev
-    (number_nowhere c.args.line.0 c.deref.ensures.value c.place_of.ensures c.in_default.is)
+    thread_of_none system c.args.dev (sym c.in_default.is ∙ c.find_device.ensures)
+
+pub returns-in_default-in-Some : goal.returns-in_default-in-Some
+returns-in_default-in-Some g c =
+    let system = kept_system c.is_board.ensures.board c.self.invariant c.self.view_is in
+    thread_nowhere system c.args.dev c.in-Some.device (told_by_arm c.in-Some.is refl c.find_device.ensures)
+    (number_nowhere c.in-Some.device.line.0 c.deref.ensures.value c.place_of.ensures c.in_default-in-Some.is)
 
 pub returns-then-has_thread_up_to : goal.returns-then-has_thread_up_to
 returns-then-has_thread_up_to g c =
     let system = kept_system c.is_board.ensures.board c.self.invariant c.self.view_is in
-    thread_there system c.args.line c.args.dev c.in-Some.k _
-    (number_there c.args.line.0 c.deref.ensures.value c.place_of.ensures c.in-Some.is)
+    thread_there system c.args.dev c.in-Some.device c.in-Some-k.k _ (told_by_arm c.in-Some.is refl c.find_device.ensures)
+    (number_there c.in-Some.device.line.0 c.deref.ensures.value c.place_of.ensures c.in-Some-k.is)
     (ap (λ o. has_thread_up_to o c.args.dev) (sym c.line.ensures)
     ∙ (sym c.has_thread_up_to.ensures ∙ c.if-has_thread_up_to.true)) refl
 
 pub returns-else-has_thread_up_to : goal.returns-else-has_thread_up_to
 returns-else-has_thread_up_to g c =
     let system = kept_system c.is_board.ensures.board c.self.invariant c.self.view_is in
-    thread_below system c.args.line c.args.dev c.in-Some.k
-    (number_there c.args.line.0 c.deref.ensures.value c.place_of.ensures c.in-Some.is)
+    thread_below system c.args.dev c.in-Some.device c.in-Some-k.k (told_by_arm c.in-Some.is refl c.find_device.ensures)
+    (number_there c.in-Some.device.line.0 c.deref.ensures.value c.place_of.ensures c.in-Some-k.is)
     (ap (λ o. has_thread_up_to o c.args.dev) (sym c.line.ensures)
     ∙ (sym c.has_thread_up_to.ensures ∙ c.if-has_thread_up_to.false))

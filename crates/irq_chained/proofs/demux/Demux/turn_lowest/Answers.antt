@@ -17,7 +17,7 @@ turn_after_threads-requires g c =
     (after_threads c.self.invariant
     (subst (λ (d : DemuxSeen). IsBoard d.board) (sym c.self.view_is) c.is_kept.ensures.board)
     c.lowest_thread_or_cpu.result c.lowest_thread_or_cpu.ensures
-    (λ line dev h. let bad = sym h ∙ c.in-Some-Cpu.is in cc))
+    (λ dev h. let bad = sym h ∙ c.in-Some-Cpu.is in cc))
 
 pub turn_after_threads-requires-in-Some-Driver : goal.turn_after_threads-requires-in-Some-Driver
 turn_after_threads-requires-in-Some-Driver g c =
@@ -25,7 +25,7 @@ turn_after_threads-requires-in-Some-Driver g c =
     (after_threads c.self.invariant
     (subst (λ (d : DemuxSeen). IsBoard d.board) (sym c.self.view_is) c.is_kept.ensures.board)
     c.lowest_thread_or_cpu.result c.lowest_thread_or_cpu.ensures
-    (λ line dev h. let bad = sym h ∙ c.in-Some-Driver.is in cc))
+    (λ dev h. let bad = sym h ∙ c.in-Some-Driver.is in cc))
 
 pub turn_after_threads-requires-in-None : goal.turn_after_threads-requires-in-None
 turn_after_threads-requires-in-None g c =
@@ -33,14 +33,14 @@ turn_after_threads-requires-in-None g c =
     (after_threads c.self.invariant
     (subst (λ (d : DemuxSeen). IsBoard d.board) (sym c.self.view_is) c.is_kept.ensures.board)
     c.lowest_thread_or_cpu.result c.lowest_thread_or_cpu.ensures
-    (λ line dev h. let bad = sym h ∙ c.in-None.is in cc))
+    (λ dev h. let bad = sym h ∙ c.in-None.is in cc))
 
 pub returns-in-Some-Thread : goal.returns-in-Some-Thread
 returns-in-Some-Thread g c =
     let s = c.self.inside in
     let is = subst (λ (d : DemuxSeen). lowest_of d ≡ next_of d
-    (actors.Thread c.in-Some-Thread.line c.in-Some-Thread.dev)) c.self.view_is
-    (thread_is_lowest c.self.invariant c.in-Some-Thread.line c.in-Some-Thread.dev
+    (actors.Thread c.in-Some-Thread.dev)) c.self.view_is
+    (thread_is_lowest c.self.invariant c.in-Some-Thread.dev
     (subst (λ (a : Actor). IsFirst s.system (threads_of s.system.board ++ cpus_of s.system.board) a)
     c.in-Some-Thread.field-0-is c.in-Some-Thread.ensures)) in
     subst (λ (o : Option ChainEntry). TurnsBy c.args.self.now o c.turn_other.result c.turn_other.new.self) (sym is) c.turn_other.ensures
