@@ -44,7 +44,8 @@ one_child = record {
 
 abbrev pub one_child_rows : List ChainEntry
 one_child_rows =
-    steps.Child (line 1) (by.Driver (driver 1) (drivers.Request no_flags links.Linked (opens.Started resends.No) (dev 1)))
+    steps.Child (line 1) (by.Driver (driver 1)
+    (drivers.Request no_flags links.Linked (opens.Started resends.No) (dev 1)))
     ∷ steps.Child (line 1) (by.Driver (driver 1) (drivers.Ask true (dev 1)))
     ∷ steps.Enter (cpu 0) 1
     ∷ steps.Child (line 1) (by.Cpu (cpu 0) (cpus.Take ways.Line takes.Handle))
@@ -52,7 +53,8 @@ one_child_rows =
     ∷ steps.Child (line 1) (by.Cpu (cpu 0) (cpus.Return answers.Handled (dev 1) 1))
     ∷ steps.Child (line 1) (by.Cpu (cpu 0) (cpus.End false false notes.Quiet))
     ∷ steps.Exit (cpu 0)
-    ∷ steps.Child (line 1) (by.DriverCall (driver 1) (called.Unlink (unlinks.Unlinked true) (dev 1)))
+    ∷ steps.Child (line 1) (by.DriverCall (driver 1)
+    (called.Unlink (unlinks.Unlinked true) (dev 1)))
     ∷ steps.Child (line 1) (by.DriverCall (driver 1) called.HardClear)
     ∷ steps.Child (line 1) (by.DriverCall (driver 1) (called.Freed (dev 1)))
     ∷ []
@@ -79,8 +81,10 @@ two_children = record {
 
 abbrev pub two_children_rows : List ChainEntry
 two_children_rows =
-    steps.Child (line 1) (by.Driver (driver 1) (drivers.Request no_flags links.Linked (opens.Started resends.No) (dev 1)))
-    ∷ steps.Child (line 2) (by.Driver (driver 1) (drivers.Request no_flags links.Linked (opens.Started resends.No) (dev 2)))
+    steps.Child (line 1) (by.Driver (driver 1)
+    (drivers.Request no_flags links.Linked (opens.Started resends.No) (dev 1)))
+    ∷ steps.Child (line 2) (by.Driver (driver 1)
+    (drivers.Request no_flags links.Linked (opens.Started resends.No) (dev 2)))
     ∷ steps.Child (line 2) (by.Driver (driver 1) (drivers.Ask true (dev 2)))
     ∷ steps.Child (line 1) (by.Driver (driver 1) (drivers.Ask true (dev 1)))
     ∷ steps.Enter (cpu 0) 3
@@ -119,8 +123,10 @@ asks_again = record {
 
 abbrev pub asks_again_rows : List ChainEntry
 asks_again_rows =
-    steps.Child (line 1) (by.Driver (driver 1) (drivers.Request no_flags links.Linked (opens.Started resends.No) (dev 1)))
-    ∷ steps.Child (line 2) (by.Driver (driver 1) (drivers.Request no_flags links.Linked (opens.Started resends.No) (dev 2)))
+    steps.Child (line 1) (by.Driver (driver 1)
+    (drivers.Request no_flags links.Linked (opens.Started resends.No) (dev 1)))
+    ∷ steps.Child (line 2) (by.Driver (driver 1)
+    (drivers.Request no_flags links.Linked (opens.Started resends.No) (dev 2)))
     ∷ steps.Child (line 1) (by.Driver (driver 1) (drivers.Ask true (dev 1)))
     ∷ steps.Child (line 2) (by.Driver (driver 1) (drivers.Ask true (dev 2)))
     ∷ steps.Enter (cpu 0) 3
@@ -163,7 +169,8 @@ edge_within = record {
 
 abbrev pub edge_within_rows : List ChainEntry
 edge_within_rows =
-    steps.Child (line 1) (by.Driver (driver 1) (drivers.Request no_flags links.Linked (opens.Started resends.No) (dev 1)))
+    steps.Child (line 1) (by.Driver (driver 1)
+    (drivers.Request no_flags links.Linked (opens.Started resends.No) (dev 1)))
     ∷ steps.Child (line 1) (by.Driver (driver 1) (drivers.Ask true (dev 1)))
     ∷ steps.Enter (cpu 0) 1
     ∷ steps.Child (line 1) (by.Cpu (cpu 0) (cpus.Take ways.Line takes.Handle))
@@ -201,7 +208,8 @@ level_within = record {
 
 abbrev pub level_within_rows : List ChainEntry
 level_within_rows =
-    steps.Child (line 1) (by.Driver (driver 1) (drivers.Request no_flags links.Linked (opens.Started resends.No) (dev 1)))
+    steps.Child (line 1) (by.Driver (driver 1)
+    (drivers.Request no_flags links.Linked (opens.Started resends.No) (dev 1)))
     ∷ steps.Child (line 1) (by.Driver (driver 1) (drivers.Ask true (dev 1)))
     ∷ steps.Enter (cpu 0) 1
     ∷ steps.Child (line 1) (by.Cpu (cpu 0) (cpus.Take ways.Line takes.Handle))
@@ -237,7 +245,8 @@ threads_first = record {
 
 abbrev pub threads_first_rows : List ChainEntry
 threads_first_rows =
-    steps.Child (line 1) (by.Driver (driver 1) (drivers.Request oneshot_flag links.Linked (opens.Started resends.No) (dev 1)))
+    steps.Child (line 1) (by.Driver (driver 1)
+    (drivers.Request oneshot_flag links.Linked (opens.Started resends.No) (dev 1)))
     ∷ steps.Child (line 1) (by.Driver (driver 1) (drivers.Ask true (dev 1)))
     ∷ steps.Enter (cpu 0) 1
     ∷ steps.Child (line 1) (by.Cpu (cpu 0) (cpus.Take ways.Line takes.Handle))
@@ -272,7 +281,8 @@ soft_resend = record {
 
 abbrev pub soft_resend_rows : List ChainEntry
 soft_resend_rows =
-    steps.Child (line 1) (by.Driver (driver 1) (drivers.Request no_flags links.Linked (opens.Started resends.No) (dev 1)))
+    steps.Child (line 1) (by.Driver (driver 1)
+    (drivers.Request no_flags links.Linked (opens.Started resends.No) (dev 1)))
     ∷ steps.Child (line 1) (by.DriverCall (driver 1) called.Disable)
     ∷ steps.Child (line 1) (by.Driver (driver 1) (drivers.Ask true (dev 1)))
     ∷ steps.Enter (cpu 0) 1
@@ -312,8 +322,10 @@ sibling_disabled = record {
 
 abbrev pub sibling_disabled_rows : List ChainEntry
 sibling_disabled_rows =
-    steps.Child (line 1) (by.Driver (driver 1) (drivers.Request no_flags links.Linked (opens.Started resends.No) (dev 1)))
-    ∷ steps.Child (line 2) (by.Driver (driver 1) (drivers.Request no_flags links.Linked (opens.Started resends.No) (dev 2)))
+    steps.Child (line 1) (by.Driver (driver 1)
+    (drivers.Request no_flags links.Linked (opens.Started resends.No) (dev 1)))
+    ∷ steps.Child (line 2) (by.Driver (driver 1)
+    (drivers.Request no_flags links.Linked (opens.Started resends.No) (dev 2)))
     ∷ steps.Child (line 1) (by.Driver (driver 1) (drivers.Ask true (dev 1)))
     ∷ steps.Child (line 2) (by.Driver (driver 1) (drivers.Ask true (dev 2)))
     ∷ steps.Enter (cpu 0) 3
