@@ -22,7 +22,7 @@ use Rattle.board_play.specs.Lines.{BoardLine, Move, lines_after}
 use Rattle.board_play.specs.Order.{line_for, move_on, due_on}
 use Rattle.board_play.proofs.KeptAlways.{apart_kept, move_keeps}
 use Rattle.board_play.proofs.Members.{AreApart, def_there}
-use Rattle.board_play.proofs.Moving.{by_driver_is, defs_moved, moved_at, not_own}
+use Rattle.board_play.proofs.Moving.{defs_moved, moved_at, not_own}
 use Rattle.board_play.proofs.Parts.{the_line, due_of}
 use Rattle.irq_model.specs.Legal.{IsLegalPast}
 use Rattle.board_core.specs.Log.{without_newest, with_newest, merged}
@@ -86,7 +86,7 @@ module _ (board : BoardSeen) (isb : IsBoard board) (lines : List BoardLine) (k :
         in_order = λ r. (let o = k.in_order r in (
           o.0,
           not_own board.calls lines (x.def.line, e) r o.0
-              (by_driver_is x.def.line r e ∙ (ap (is_driver r) (due_is_own_past x.def x.past a e due) ∙ other r)) o.1,
+              (ap (is_driver r) (due_is_own_past x.def x.past a e due) ∙ other r) o.1,
         ));
       }
     where

@@ -1,20 +1,15 @@
 -- Where the lowest actor that can move steps, as a system answers it.
 use Rattle.std.proofs.Common.{◌≡◌, ℕ, ◌<◌, is_some, Option, Some, None, List}
-use Rattle.std.proofs.Common.{length, slice_get, refl, sym, ap, ◌∙◌, subst, arith}
+use Rattle.std.proofs.Common.{length, slice_get, sym, ap, ◌∙◌, subst, arith}
 use Rattle.std.proofs.Math.ListN.{length-map}
-use Rattle.std.proofs.lemmas.Option.{slice_get_within}
 use Rattle.irq_base.specs.declared.entries.Actor.TheVariants as actors
 use Rattle.irq_base.specs.declared.numbers.CpuNo.{CpuNo}
 use Rattle.irq_base.specs.declared.numbers.DriverNo.{DriverNo}
-use Rattle.irq_base.specs.declared.numbers.LineNo.{LineNo}
 use Rattle.irq_laws.proofs.Lists.{both_ways}
-use Rattle.irq_line.specs.Seen.{LineSeen}
 use Rattle.board_play.specs.Lines.{Move}
 use Rattle.board_play.specs.Order.{due_move}
-use Rattle.board_ready.specs.Kept.{thread_of}
-use Rattle.board_ready.specs.Ready.{cpu_line, can_go_on, current_call, is_driver_ready, lowest_thread, lowest_driver, lowest}
+use Rattle.board_ready.specs.Ready.{cpu_line, can_go_on, current_call, is_driver_ready, lowest_driver, lowest}
 use Rattle.board_ready.specs.declared.parts.CurrentCall.{CurrentCall}
-use Rattle.board_ready.specs.declared.parts.LineReadiness.{LineReadiness}
 use Rattle.board_ready.specs.declared.parts.ReadyActor.TheVariants as readies
 use Rattle.board_ready.specs.declared.parts.ReadyThread.{ReadyThread}
 use Rattle.board_ready.proofs.Lowest.{first_some, thread_some}

@@ -53,9 +53,9 @@ child_on lines (Some y) a line e there is = by_entry (next_past y.def y.past a) 
 
 pub child_step : (b : BoardSeen) (g : List ChainEntry) (a : Actor) (line : LineNo) (e : Entry)
     → chain_next b g a ≡ Some (steps.Child line e) → IsOn (lines_in b g) line e
-child_step b g (actors.Thread l d) line e is =
-    child_on (lines_in b g) (line_for b (lines_in b g) (actors.Thread l d)) (actors.Thread l d) line e
-    (λ y its. let s = line_stands b (lines_in b g) (actors.Thread l d) y its in (s.place, s.at)) is
+child_step b g (actors.Thread d) line e is =
+    child_on (lines_in b g) (line_for b (lines_in b g) (actors.Thread d)) (actors.Thread d) line e
+    (λ y its. let s = line_stands b (lines_in b g) (actors.Thread d) y its in (s.place, s.at)) is
 child_step b g (actors.Driver r) line e is =
     child_on (lines_in b g) (line_for b (lines_in b g) (actors.Driver r)) (actors.Driver r) line e
     (λ y its. let s = line_stands b (lines_in b g) (actors.Driver r) y its in (s.place, s.at)) is

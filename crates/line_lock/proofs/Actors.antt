@@ -1,25 +1,10 @@
 -- Actors, and lists of them.
 use Rattle.std.proofs.Common.{◌≡◌, ◌⊎◌, Bool, true, false, not, cond, List, [], ◌∷◌, ◌++◌, refl, sym, ap, ◌∙◌, inl, inr}
-use Rattle.std.proofs.lemmas.Bool.{false≢true, and_parts, and_from}
+use Rattle.std.proofs.lemmas.Bool.{false≢true}
 use Rattle.irq_base.specs.declared.entries.Actor.{Actor}
-use Rattle.irq_base.specs.declared.entries.Actor.TheVariants as actors
-use Rattle.irq_model.specs.Kinds.{same_line, same_dev}
-use Rattle.irq_steps.proofs.Same.{same_self, same_self_driver, same_self_cpu, same_self_line, dev_from_same, driver_from_same, cpu_from_same, line_from_same}
-use Rattle.line_lock.specs.Placed.{same_actor}
+use Rattle.irq_model.specs.Kinds.{same_actor}
+use Rattle.irq_steps.proofs.Same.{same_self_actor, actor_from_same}
 use Rattle.line_lock.specs.Knows.{is_among, without}
-
-pub same_self_actor : (a : Actor) → same_actor a a ≡ true
-same_self_actor (actors.Thread l d) = and_from (same_line l l) (same_dev d d) (same_self_line l) (same_self d)
-same_self_actor (actors.Cpu c) = same_self_cpu c
-same_self_actor (actors.Driver r) = same_self_driver r
-
-pub actor_from_same : (a b : Actor) → same_actor a b ≡ true → a ≡ b
-actor_from_same (actors.Thread l d) (actors.Thread m e) h =
-    let both = and_parts (same_line l m) (same_dev d e) h in
-    ap (λ x. actors.Thread x d) (line_from_same l m both.0) ∙ ap (λ x. actors.Thread m x) (dev_from_same d e both.1)
-actor_from_same (actors.Cpu c) (actors.Cpu d) h = ap actors.Cpu (cpu_from_same c d h)
-actor_from_same (actors.Driver r) (actors.Driver s) h = ap actors.Driver (driver_from_same r s h)
-actor_from_same _ _ h = absurd (false≢true h)
 
 -- either the same, or tested as others
 pub same_or_not : (a b : Actor) → (a ≡ b) ⊎ (same_actor a b ≡ false)

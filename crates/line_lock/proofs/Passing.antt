@@ -9,7 +9,8 @@ use Rattle.atomic_table.proofs.Lists.{at_set, set_else, at_longer, at_last}
 use Rattle.irq_base.specs.declared.entries.Actor.{Actor}
 use Rattle.irq_base.specs.declared.entries.Entry.{Entry}
 use Rattle.irq_base.specs.declared.lines.LineDef.{LineDef}
-use Rattle.line_lock.specs.Placed.{same_actor, placed, placed_of}
+use Rattle.irq_model.specs.Kinds.{same_actor}
+use Rattle.line_lock.specs.Placed.{placed, placed_of}
 use Rattle.line_lock.specs.Knows.{BeginsWith, longer, is_among, without_of, met, Meets, IsKnown}
 use Rattle.line_lock.specs.Rule.{Fits, Passes, first_view, left_view, right_view, met_view}
 use Rattle.line_lock.specs.declared.view.View.{View}
@@ -62,9 +63,9 @@ module _ (key : LineDef) (h : List Entry) (views : List View) (p : Passes key h 
       (there : v.spent ≡ false) (is : v.knows.actor ≡ Some who) (there_after : w.spent ≡ false)
       (is_after : w.knows.actor ≡ Some who)
       (fits : Fits key longer_history w) (grows : BeginsWith longer_history h)
-      (others : (b : Actor) → (b ≡ who → ⊥) → placed key.line b longer_history ≡ placed key.line b h) where
+      (others : (b : Actor) → (b ≡ who → ⊥) → placed b longer_history ≡ placed b h) where
     same_of : (j : ℕ) (u : View) (o : Option Actor) → get_elem? views j ≡ some u → u.spent ≡ false → j ≢ id
-        → u.knows.actor ≡ o → placed_of key.line o longer_history ≡ placed_of key.line o h
+        → u.knows.actor ≡ o → placed_of o longer_history ≡ placed_of o h
     same_of j u None at_u there_u apart e = refl
     same_of j u (Some b) at_u there_u apart e = others b (λ same. apart (p.differ j id u v who at_u at there_u there (e ∙ ap Some same) is))
 
@@ -141,7 +142,7 @@ module _ (key : LineDef) (h : List Entry) (views : List View) (p : Passes key h 
     was_given : (who : Actor) → is_among who v.knows.out ≡ true → is_among who v.knows.given ≡ true
     was_given = subst (λ (x : View). (who : Actor) → is_among who x.knows.out ≡ true → is_among who x.knows.given ≡ true) old p.is_first.given
 
-    unseen : placed key.line a h ≡ []
+    unseen : placed a h ≡ []
     unseen = p.strangers a (ap (λ (x : View). is_among a x.knows.given) old ∙ fresh)
 
     left_fits : Fits key h (left_view v a)
@@ -150,7 +151,7 @@ module _ (key : LineDef) (h : List Entry) (views : List View) (p : Passes key h 
     right_fits : Fits key h (right_view v a)
     right_fits =
         let f = p.seats 0 v at there in
-        record { def = f.def; seen = f.seen; mine = sym unseen; within = sym (none_before key.line a h v.knows.seen f.seen unseen) }
+        record { def = f.def; seen = f.seen; mine = sym unseen; within = sym (none_before a h v.knows.seen f.seen unseen) }
 
     given_after : (who : Actor) → is_among who (v.knows.out ++ a ∷ []) ≡ true → is_among who (v.knows.given ++ a ∷ []) ≡ true
     given_after who out = elim (among_either who a v.knows.out out) [
@@ -230,7 +231,7 @@ module _ (key : LineDef) (h : List Entry) (views : List View) (p : Passes key h 
           elim (among_either b a v.knows.given given) [
             | inl t ↦ p.settled b (ap (λ (y : View). is_among b y.knows.given) old ∙ t)
                 (ap (λ (y : View). is_among b y.knows.out) old ∙ apart.0)
-                ∙ ap (λ (y : View). placed key.line b y.knows.seen) old
+                ∙ ap (λ (y : View). placed b y.knows.seen) old
             | inr t ↦ absurd (apart_from b a apart.1 t)
           ];
     }
@@ -261,26 +262,26 @@ module _ (key : LineDef) (h : List Entry) (views : List View) (p : Passes key h 
     begins_second : BeginsWith (longer v.knows.seen w.knows.seen) w.knows.seen
     begins_second = longer_begins_second h v.knows.seen w.knows.seen fits_first.seen fits_other.seen
 
-    own : placed_of key.line w.knows.actor (longer v.knows.seen w.knows.seen) ≡ w.knows.mine
-    own = between_of key.line w.knows.actor h (longer v.knows.seen w.knows.seen) w.knows.seen above begins_second
+    own : placed_of w.knows.actor (longer v.knows.seen w.knows.seen) ≡ w.knows.mine
+    own = between_of w.knows.actor h (longer v.knows.seen w.knows.seen) w.knows.seen above begins_second
         (sym fits_other.mine ∙ fits_other.within) ∙ sym fits_other.within
 
     settled_before : (who : Actor) → is_among who v.knows.given ≡ true → is_among who v.knows.out ≡ false
-        → placed key.line who h ≡ placed key.line who v.knows.seen
+        → placed who h ≡ placed who v.knows.seen
     settled_before who given not_out =
         p.settled who (ap (λ (y : View). is_among who y.knows.given) first_old ∙ given)
         (ap (λ (y : View). is_among who y.knows.out) first_old ∙ not_out)
-        ∙ ap (λ (y : View). placed key.line who y.knows.seen) first_old
+        ∙ ap (λ (y : View). placed who y.knows.seen) first_old
 
     settled_seen : (who : Actor) → is_among who v.knows.given ≡ true → is_among who v.knows.out ≡ false
-        → placed key.line who (longer v.knows.seen w.knows.seen) ≡ placed key.line who v.knows.seen
-    settled_seen who given not_out = between_of key.line (Some who) h (longer v.knows.seen w.knows.seen) v.knows.seen
+        → placed who (longer v.knows.seen w.knows.seen) ≡ placed who v.knows.seen
+    settled_seen who given not_out = between_of (Some who) h (longer v.knows.seen w.knows.seen) v.knows.seen
         above begins_first (settled_before who given not_out)
 
     b_out : is_among b v.knows.out ≡ true
     b_out = ap (λ (y : View). is_among b y.knows.out) (sym first_old) ∙ out_of other w b at_other there_other is
 
-    meets : Meets key.line v.knows w.knows (met v.knows w.knows)
+    meets : Meets v.knows w.knows (met v.knows w.knows)
     meets = record {
       whole = refl;
       begins = begins_first;
@@ -327,8 +328,8 @@ module _ (key : LineDef) (h : List Entry) (views : List View) (p : Passes key h 
       def = fits_first.def;
       seen = above;
       mine = fits_first.mine;
-      within = fits_first.within ∙ subst (λ (o : Option Actor). placed_of key.line o v.knows.seen
-          ≡ placed_of key.line o (longer v.knows.seen w.knows.seen)) (sym firstly) refl;
+      within = fits_first.within ∙ subst (λ (o : Option Actor). placed_of o v.knows.seen
+          ≡ placed_of o (longer v.knows.seen w.knows.seen)) (sym firstly) refl;
     }
 
     pub met_one : Passes key h (set (set views 0 (met_view v w)) other gone_view)
@@ -363,8 +364,8 @@ module _ (key : LineDef) (h : List Entry) (views : List View) (p : Passes key h 
       strangers = λ who not_given. p.strangers who (ap (λ (y : View). is_among who y.knows.given) first_old ∙ not_given);
       settled = λ who given not_out. elim (not_out_after who not_out) [
         | inl t ↦ settled_before who given t ∙ sym (settled_seen who given t)
-        | inr t ↦ subst (λ x. placed key.line x h ≡ placed key.line x (longer v.knows.seen w.knows.seen)) t
-            (subst (λ (o : Option Actor). placed_of key.line o h ≡ placed_of key.line o (longer v.knows.seen w.knows.seen)) is (sym fits_other.mine ∙ sym own))
+        | inr t ↦ subst (λ x. placed x h ≡ placed x (longer v.knows.seen w.knows.seen)) t
+            (subst (λ (o : Option Actor). placed_of o h ≡ placed_of o (longer v.knows.seen w.knows.seen)) is (sym fits_other.mine ∙ sym own))
       ];
     }
 
@@ -374,32 +375,32 @@ module _ (key : LineDef) (h : List Entry) (views : List View) (p : Passes key h 
     same_first : p.first ≡ v
     same_first = is_first_view id v at there firstly
 
-    pub told_last : IfSome v.last (λ q. Meets key.line q.0 q.1 v.knows)
-    told_last = subst (λ (x : View). IfSome x.last (λ q. Meets key.line q.0 q.1 x.knows)) same_first p.is_first.last
+    pub told_last : IfSome v.last (λ q. Meets q.0 q.1 v.knows)
+    told_last = subst (λ (x : View). IfSome x.last (λ q. Meets q.0 q.1 x.knows)) same_first p.is_first.last
 
-    pub told_known : IsKnown key.line v.knows
+    pub told_known : IsKnown v.knows
     told_known =
         let f = p.seats id v at there in
         record {
           mine = f.within;
-          strangers = λ who e not_given. none_before key.line who h v.knows.seen f.seen
+          strangers = λ who e not_given. none_before who h v.knows.seen f.seen
               (p.strangers who (ap (λ (y : View). is_among who y.knows.given) same_first ∙ not_given));
           given = subst (λ (x : View). (who : Actor) → is_among who x.knows.out ≡ true → is_among who x.knows.given ≡ true) same_first p.is_first.given;
         }
 
     -- with nobody out it has seen all, and no other pass is there
     pub seen_all : v.knows.out ≡ [] → h ≡ v.knows.seen
-    seen_all nobody = all_seen key.line h v.knows.seen (p.seats id v at there).seen same
+    seen_all nobody = all_seen h v.knows.seen (p.seats id v at there).seen same
       where
         not_out : (who : Actor) → is_among who p.first.knows.out ≡ false
         not_out who = ap (λ (y : View). is_among who y.knows.out) same_first ∙ ap (is_among who) nobody
 
-        same : (who : Actor) → placed key.line who h ≡ placed key.line who v.knows.seen
+        same : (who : Actor) → placed who h ≡ placed who v.knows.seen
         same who = by_test (is_among who p.first.knows.given) refl
           where
-            by_test : (t : Bool) → is_among who p.first.knows.given ≡ t → placed key.line who h ≡ placed key.line who v.knows.seen
-            by_test true given = p.settled who given (not_out who) ∙ ap (λ (y : View). placed key.line who y.knows.seen) same_first
-            by_test false given = p.strangers who given ∙ sym (none_before key.line who h v.knows.seen (p.seats id v at there).seen (p.strangers who given))
+            by_test : (t : Bool) → is_among who p.first.knows.given ≡ t → placed who h ≡ placed who v.knows.seen
+            by_test true given = p.settled who given (not_out who) ∙ ap (λ (y : View). placed who y.knows.seen) same_first
+            by_test false given = p.strangers who given ∙ sym (none_before who h v.knows.seen (p.seats id v at there).seen (p.strangers who given))
 
     pub alone : v.knows.out ≡ [] → (j : ℕ) (u : View) → get_elem? views j ≡ some u → u.spent ≡ false → u ≡ v
     alone nobody j u at_u there_u = by_actor u.knows.actor refl

@@ -1,5 +1,5 @@
 -- Each step keeps the rule.
-use Rattle.std.proofs.Common.{◌≡◌, ◌≢◌, ◌⊎◌, ℕ, ◌+◌, ◌%◌, ◌^◌, ◌≤◌, ◌==◌, MatchBool, Bool, true, false, IfSome, Option}
+use Rattle.std.proofs.Common.{◌≡◌, ◌≢◌, ◌⊎◌, ℕ, ◌+◌, ◌%◌, ◌^◌, ◌≤◌, ◌==◌, MatchBool, Bool, true, false, Option}
 use Rattle.std.proofs.Common.{Some, None, List, [], ◌∷◌, ◌++◌, length, set, slice_index, refl, sym, ap, subst, ◌∙◌, inl}
 use Rattle.std.proofs.Common.{inr, arith, length-append}
 use Rattle.std.proofs.lemmas.Bool.{false≢true}
@@ -15,7 +15,7 @@ use Rattle.irq_base.specs.declared.entries.Actor.{Actor}
 use Rattle.irq_base.specs.declared.entries.Entry.{Entry}
 use Rattle.irq_base.specs.declared.lines.LineDef.{LineDef}
 use Rattle.line_lock.specs.Placed.{placed, placed_of}
-use Rattle.line_lock.specs.Knows.{BeginsWith, is_among, Meets, IsKnown}
+use Rattle.line_lock.specs.Knows.{BeginsWith, is_among}
 use Rattle.line_lock.specs.Rule.{Fits, IsFree, IsTaken, Holds, left_view, right_view, met_view}
 use Rattle.line_lock.specs.Steps.{holding, counted, idle, Took, Takes, Raises, Looks, Gives, Learns, Added, Ready}
 use Rattle.line_lock.specs.Steps.Takes.{got, busy}
@@ -100,8 +100,7 @@ module _ {T : Type 0} (def_of : T → LineDef) (entries_of : T → List Entry) w
             suits = record {
               def = free.def ∙ sym f.def;
               begins = (f.seen.0, free.entries ∙ f.seen.1);
-              mine = f.mine ∙ (ap (λ (d : LineDef). placed_of d.line v.knows.actor rule.history) (sym f.def)
-                  ∙ ap (placed_of v.def.line v.knows.actor) (sym free.entries));
+              mine = f.mine ∙ ap (placed_of v.knows.actor) (sym free.entries);
             };
             then = refl;
           }),
@@ -157,10 +156,9 @@ module _ {T : Type 0} (def_of : T → LineDef) (entries_of : T → List Entry) w
 
       counted_fits : (h : List Entry) → Fits key h (counted v h)
       counted_fits h =
-          let own : placed_of v.def.line v.knows.actor h ≡ placed_of key.line v.knows.actor h = ap (λ (d : LineDef). placed_of d.line v.knows.actor h) f.def in
-          record { def = f.def; seen = begins_self h; mine = own; within = own }
+          record { def = f.def; seen = begins_self h; mine = refl; within = refl }
 
-      raised : (x : T) (e : Entry) → entries_of x ≡ v.held ++ e ∷ [] → actor_of v.def.line e ≡ who → length (entries_of x) ≤ 100000000
+      raised : (x : T) (e : Entry) → entries_of x ≡ v.held ++ e ∷ [] → actor_of e ≡ who → length (entries_of x) ≤ 100000000
           → Holds def_of entries_of key (record {
             words = set s.words 1 ((slice_index s.words 1 + 1) % 2 ^ 64);
             homes
@@ -170,14 +168,13 @@ module _ {T : Type 0} (def_of : T → LineDef) (entries_of : T → List Entry) w
       raised x e more by few =
           let grown : entries_of x ≡ rule.history ++ e ∷ [] = more ∙ ap (λ h. h ++ e ∷ []) held in
           let n : (length v.held + 1) % 2 ^ 64 ≡ length (entries_of x) = omega (arith, ap length more, length-append v.held (e ∷ []), few) in
-          let by_key : actor_of key.line e ≡ who = ap (λ (d : LineDef). actor_of d.line e) (sym f.def) ∙ by in
           record {
             history = entries_of x;
             turn = inr (still (entries_of x) _ (counted v (entries_of x))
                 (ap (λ ns. set ns 1 ((slice_index ns 1 + 1) % 2 ^ 64)) words ∙ ap (λ k. 1 ∷ k ∷ []) n) there mine refl);
             passes = changed key rule.history s.views rule.passes (entries_of x) id v (counted v (entries_of x)) who at
                 there is there is (counted_fits (entries_of x)) (e ∷ [], grown)
-                (λ b apart. ap (placed key.line b) grown ∙ placed_other key.line b rule.history e (λ same. apart (same ∙ by_key)));
+                (λ b apart. ap (placed b) grown ∙ placed_other b rule.history e (λ same. apart (same ∙ by)));
           }
 
       looked_at : Holds def_of entries_of key (record {
@@ -192,7 +189,7 @@ module _ {T : Type 0} (def_of : T → LineDef) (entries_of : T → List Entry) w
             turn = inr (still v.held _ (counted v v.held) (ap (λ ns. set ns 1 (slice_index ns 1)) words) there mine refl);
             passes = changed key rule.history s.views rule.passes v.held id v (counted v v.held) who at there is there
                 is (counted_fits v.held) (subst (λ h. BeginsWith h rule.history) (sym held) (begins_self rule.history))
-                (λ b apart. ap (placed key.line b) held);
+                (λ b apart. ap (placed b) held);
           }
 
       given : (x : T) → def_of x ≡ v.def → entries_of x ≡ v.held
@@ -267,17 +264,15 @@ module _ {T : Type 0} (def_of : T → LineDef) (entries_of : T → List Entry) w
       let ws = (words_of key s rule).1 in
       let same : set s.words 0 (slice_index s.words 0) ≡ s.words = ap (λ ns. set ns 0 (slice_index ns 0)) ws ∙ sym ws in
       let P : List ℕ → Type 0 = λ ns. Holds def_of entries_of key (record { words = ns; homes = s.homes; views = set s.views id me.0 }) in
-      let Q : List View → Type 0 = λ vs. Holds def_of entries_of key (record { words = s.words; homes = s.homes; views = vs }) in
-      let def : key ≡ me.0.def = sym (rule.passes.seats id me.0 at there).def in (
+      let Q : List View → Type 0 = λ vs. Holds def_of entries_of key (record { words = s.words; homes = s.homes; views = vs }) in (
         me.0,
         keeps,
         tt,
         subst P (sym same) (subst Q (sym (set_again s.views id me.0 at)) rule),
         record {
           then = refl;
-          last = subst (λ (d : LineDef). IfSome me.0.last (λ p. Meets d.line p.0 p.1 me.0.knows)) def
-              (told_last key rule.history s.views rule.passes id me.0 at there firstly);
-          known = subst (λ (d : LineDef). IsKnown d.line me.0.knows) def (told_known key rule.history s.views rule.passes id me.0 at there firstly);
+          last = told_last key rule.history s.views rule.passes id me.0 at there firstly;
+          known = told_known key rule.history s.views rule.passes id me.0 at there firstly;
         },
       )
 

@@ -1,10 +1,10 @@
 -- What a pass knows, and how that changes when passes are forked and met.
 use Rattle.std.specs.Prelude.{◌≡◌, Bool, true, false, not, cond, nat_lt, IfSome, Option, Some}
 use Rattle.std.specs.Prelude.{None, List, [], ◌∷◌, ◌++◌, length, filter}
-use Rattle.irq_base.specs.declared.numbers.LineNo.{LineNo}
 use Rattle.irq_base.specs.declared.entries.Actor.{Actor}
 use Rattle.irq_base.specs.declared.entries.Entry.{Entry}
-use Rattle.line_lock.specs.Placed.{same_actor, placed, placed_of}
+use Rattle.irq_model.specs.Kinds.{same_actor}
+use Rattle.line_lock.specs.Placed.{placed, placed_of}
 use Rattle.line_lock.specs.declared.view.Known.{Known}
 
 -- the first list begins with the second
@@ -44,11 +44,11 @@ abbrev pub met : Known → Known → Known
 met k other = record k { seen = longer k.seen other.seen; out = without_of other.actor k.out }
 
 -- a pass after the history became this one
-abbrev pub looked : LineNo → Known → List Entry → Known
-looked line k history = record k { seen = history; mine = placed_of line k.actor history }
+abbrev pub looked : Known → List Entry → Known
+looked k history = record k { seen = history; mine = placed_of k.actor history }
 
 -- What a first pass learns when it meets another pass; `new` is what it knows afterwards.
-pub record Meets (line : LineNo) (old other new : Known) : Type 0 where
+pub record Meets (old other new : Known) : Type 0 where
   pub whole : new ≡ met old other
   -- what either has seen is a beginning of what is seen now
   pub begins : BeginsWith new.seen old.seen
@@ -56,17 +56,17 @@ pub record Meets (line : LineNo) (old other new : Known) : Type 0 where
   -- the other's actor was out: it was given a pass, and that pass wasn't met before
   pub was_out : IfSome other.actor (λ who. is_among who old.out ≡ true)
   -- the entries of the other's actor in what is seen now are what the other knew as its own
-  pub own : placed_of line other.actor new.seen ≡ other.mine
+  pub own : placed_of other.actor new.seen ≡ other.mine
   -- of the actors that were met before, nothing new is seen
   pub settled : (who : Actor) → is_among who old.given ≡ true → is_among who old.out ≡ false
-      → placed line who new.seen ≡ placed line who old.seen
+      → placed who new.seen ≡ placed who old.seen
 
 -- What holds of all that a pass ever knows.
-pub record IsKnown (line : LineNo) (k : Known) : Type 0 where
+pub record IsKnown (k : Known) : Type 0 where
   -- its own entries are the entries of its actor in what it has seen; a first pass has none
-  pub mine : k.mine ≡ placed_of line k.actor k.seen
+  pub mine : k.mine ≡ placed_of k.actor k.seen
   -- a first pass has seen no entry of an actor to which it gave no pass
   pub strangers : (who : Actor) → k.actor ≡ None → is_among who k.given ≡ false
-      → placed line who k.seen ≡ []
+      → placed who k.seen ≡ []
   -- an actor that is out was given a pass
   pub given : (who : Actor) → is_among who k.out ≡ true → is_among who k.given ≡ true

@@ -4,7 +4,6 @@ use Rattle.std.specs.Prelude.{◌++◌, length}
 use Rattle.atomic_table.specs.Seated.{TableId}
 use Rattle.atomic_table.specs.Table.{Me}
 use Rattle.irq_base.specs.Who.{actor_of}
-use Rattle.irq_base.specs.declared.numbers.LineNo.{LineNo}
 use Rattle.irq_base.specs.declared.entries.Actor.{Actor}
 use Rattle.irq_base.specs.declared.entries.Entry.{Entry}
 use Rattle.irq_base.specs.declared.lines.LineDef.{LineDef}
@@ -31,25 +30,25 @@ abbrev pub IsPassOf : LockSeen → PassSeen → Type 0
 IsPassOf lock pass = (pass.table ≡ lock.table) × (pass.def ≡ lock.def)
 
 -- the history has one entry more than what was held, by the actor
-abbrev pub IsMore : LineNo → Option Actor → List Entry → List Entry → Type 0
-IsMore line who held history =
-    (e : Entry) × (history ≡ held ++ e ∷ []) × (who ≡ Some (actor_of line e))
+abbrev pub IsMore : Option Actor → List Entry → List Entry → Type 0
+IsMore who held history =
+    (e : Entry) × (history ≡ held ++ e ∷ []) × (who ≡ Some (actor_of e))
 
 -- the history is the one that was held, or has one entry more, by the actor
-abbrev pub Extends : LineNo → Option Actor → List Entry → List Entry → Type 0
-Extends line who held history = (history ≡ held) ⊎ IsMore line who held history
+abbrev pub Extends : Option Actor → List Entry → List Entry → Type 0
+Extends who held history = (history ≡ held) ⊎ IsMore who held history
 
 -- What a pass keeps while it has the turn.
 pub record IsHolding {T : Type 0} (me : Me (Option T) View) (held : ℕ) : Type 0 where
   pub carried : me.1 ≡ (0, None) ∷ []
   pub count : held ≡ length me.0.held
-  pub mine : me.0.knows.mine ≡ placed_of me.0.def.line me.0.knows.actor me.0.held
+  pub mine : me.0.knows.mine ≡ placed_of me.0.knows.actor me.0.held
 
 -- What every pass keeps.
 pub record IsPass {T : Type 0} (me : Me (Option T) View) (who : Option Actor) (seen held : ℕ)
     : Type 0 where
   pub there : me.0.spent ≡ false
-  pub known : IsKnown me.0.def.line me.0.knows
+  pub known : IsKnown me.0.knows
   pub actor : who ≡ me.0.knows.actor
   pub front : seen ≡ length me.0.knows.seen
   pub idle : me.0.turn ≡ false → me.1 ≡ []

@@ -5,7 +5,6 @@ use Rattle.std.specs.Prelude.{◌∷◌, length}
 use mathlib.Core.Option.{some, none}
 use lib.ListN.{get_elem?}
 use Rattle.atomic_table.specs.Table.{State}
-use Rattle.irq_base.specs.declared.numbers.LineNo.{LineNo}
 use Rattle.irq_base.specs.declared.entries.Actor.{Actor}
 use Rattle.irq_base.specs.declared.entries.Entry.{Entry}
 use Rattle.irq_base.specs.declared.lines.FlowKind.TheVariants as flows
@@ -21,18 +20,18 @@ pub record Fits (key : LineDef) (history : List Entry) (v : View) : Type 0 where
   -- what it has seen is a beginning of the history
   pub seen : BeginsWith history v.knows.seen
   -- its own entries are exactly the entries of its actor in the history
-  pub mine : v.knows.mine ≡ placed_of key.line v.knows.actor history
+  pub mine : v.knows.mine ≡ placed_of v.knows.actor history
   -- all of them lie within what it has seen
-  pub within : v.knows.mine ≡ placed_of key.line v.knows.actor v.knows.seen
+  pub within : v.knows.mine ≡ placed_of v.knows.actor v.knows.seen
 
 -- The first pass, which gives the other passes.
-pub record IsFirst (line : LineNo) (v : View) : Type 0 where
+pub record IsFirst (v : View) : Type 0 where
   pub there : v.spent ≡ false
   pub actor : v.knows.actor ≡ None
   -- each actor that is out was given a pass
   pub given : (who : Actor) → is_among who v.knows.out ≡ true → is_among who v.knows.given ≡ true
   -- what it knows now is what it and the pass that it met last knew, taken together
-  pub last : IfSome v.last (λ p. Meets line p.0 p.1 v.knows)
+  pub last : IfSome v.last (λ p. Meets p.0 p.1 v.knows)
 
 -- the first pass, at first
 abbrev pub first_view : LineDef → View
@@ -84,7 +83,7 @@ pub record Passes (key : LineDef) (history : List Entry) (views : List View) : T
   -- there is one first pass
   pub first : View
   pub at : get_elem? views 0 ≡ some first
-  pub is_first : IsFirst key.line first
+  pub is_first : IsFirst first
   -- each other pass that is still there has an actor, and the actor is out
   pub actors : (id : ℕ) (v : View) → get_elem? views id ≡ some v → v.spent ≡ false → id ≢ 0
       → (who : Actor) × (v.knows.actor ≡ Some who) × (is_among who first.knows.out ≡ true)
@@ -98,11 +97,11 @@ pub record Passes (key : LineDef) (history : List Entry) (views : List View) : T
       → w.knows.actor ≡ Some who → i ≡ j
   -- the history has no entry of an actor that wasn't given a pass
   pub strangers : (who : Actor) → is_among who first.knows.given ≡ false
-      → placed key.line who history ≡ []
+      → placed who history ≡ []
   -- the first pass has seen each entry of an actor that was given a pass and isn't out
   pub settled : (who : Actor) → is_among who first.knows.given ≡ true
       → is_among who first.knows.out ≡ false
-      → placed key.line who history ≡ placed key.line who first.knows.seen
+      → placed who history ≡ placed who first.knows.seen
 
 module _ {T : Type 0} (def_of : T → LineDef) (entries_of : T → List Entry) where
   -- Nobody has the turn: the word is 0, and the value is at home.

@@ -16,7 +16,7 @@ holding v held = record v { turn = true; held = held }
 
 -- the pass has looked at the history of the value that it holds; this is the history now
 abbrev pub counted : View → List Entry → View
-counted v history = record v { knows = looked v.def.line v.knows history; held = history }
+counted v history = record v { knows = looked v.knows history; held = history }
 
 abbrev pub idle : View → View
 idle v = record v { turn = false; held = [] }
@@ -26,7 +26,7 @@ module _ {T : Type 0} (def_of : T → LineDef) (entries_of : T → List Entry) w
   pub record Suits (v : View) (value : T) : Type 0 where
     pub def : def_of value ≡ v.def
     pub begins : BeginsWith (entries_of value) v.knows.seen
-    pub mine : v.knows.mine ≡ placed_of v.def.line v.knows.actor (entries_of value)
+    pub mine : v.knows.mine ≡ placed_of v.knows.actor (entries_of value)
 
   -- the turn was free, and the pass has it now, with the value
   pub record Took (before after : Me (Option T) View) : Type 0 where
@@ -57,8 +57,8 @@ module _ {T : Type 0} (def_of : T → LineDef) (entries_of : T → List Entry) w
   -- the pass looked, and learned what came of a meeting
   pub record Learns (before after : Me (Option T) View) : Type 0 where
     pub then : after ≡ before
-    pub last : IfSome before.0.last (λ p. Meets before.0.def.line p.0 p.1 before.0.knows)
-    pub known : IsKnown before.0.def.line before.0.knows
+    pub last : IfSome before.0.last (λ p. Meets p.0 p.1 before.0.knows)
+    pub known : IsKnown before.0.knows
 
   -- the value carried has the history that was held and one more entry, by the actor; it isn't too
   -- long
@@ -67,7 +67,7 @@ module _ {T : Type 0} (def_of : T → LineDef) (entries_of : T → List Entry) w
     pub entry : Entry
     pub carried : me.1 ≡ (0, Some value) ∷ []
     pub more : entries_of value ≡ me.0.held ++ entry ∷ []
-    pub by : actor_of me.0.def.line entry ≡ who
+    pub by : actor_of entry ≡ who
     pub few : length (entries_of value) ≤ 100000000
 
   -- the value carried has the definition, and the history that was held

@@ -88,7 +88,7 @@ impl<T: Kept> CountedLock<T> {
         ensures def { T.definition result ≡ self.now.def }
         ensures begins { BeginsWith (T.entries result) pass.old.knows.seen }
         ensures mine { pass.old.knows.mine
-            ≡ placed_of self.now.def.line pass.old.knows.actor (T.entries result) }
+            ≡ placed_of pass.old.knows.actor (T.entries result) }
         ensures knows { pass.new.knows ≡ pass.old.knows }
         ensures held { (pass.new.turn ≡ true) × (pass.new.held ≡ T.entries result) }
     {
@@ -104,11 +104,11 @@ impl<T: Kept> CountedLock<T> {
         requires actor { IsSome pass.old.knows.actor }
         requires def { T.definition value ≡ self.now.def }
         requires few { length (T.entries value) ≤ 100000000 }
-        requires extends { Extends self.now.def.line pass.old.knows.actor pass.old.held
+        requires extends { Extends pass.old.knows.actor pass.old.held
             (T.entries value) }
         ensures pass { IsPassOf self.now pass.new }
         ensures idle { pass.new.turn ≡ false }
-        ensures knows { pass.new.knows ≡ looked self.now.def.line pass.old.knows (T.entries value) }
+        ensures knows { pass.new.knows ≡ looked pass.old.knows (T.entries value) }
     {
         let count = value.count();
         put_back(&self.table.shared, &mut pass.seat, value, count > pass.held);
@@ -143,7 +143,7 @@ impl<T: Kept> CountedLock<T> {
         requires actor { IsSome other.knows.actor }
         ensures pass { IsPassOf self.now pass.new }
         ensures idle { pass.new.turn ≡ false }
-        ensures met { Meets self.now.def.line pass.old.knows other.knows pass.new.knows }
+        ensures met { Meets pass.old.knows other.knows pass.new.knows }
     {
         let Pass { seat, front, .. } = other;
         join(&self.table.shared, &mut pass.seat, seat);

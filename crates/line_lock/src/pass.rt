@@ -56,7 +56,7 @@ impl<T: Kept> Pass<T> {
     /// What holds of every pass at every moment: its own entries are exactly the entries of its
     /// actor in what it has seen.
     pub fn is_known(&self)
-        ensures { IsKnown self.now.def.line self.now.knows }
+        ensures { IsKnown self.now.knows }
     {
         let _front = self.front;
     }

@@ -279,7 +279,7 @@ pub fn put_back<T: Kept>(lock: &Words<T>, seat: &mut Seated<T>, value: T, more: 
     requires few { length (T.entries value) ≤ 100000000 }
     requires same { IsFalse more → T.entries value ≡ seat.old.me.0.held }
     requires added { IsTrue more
-        → IsMore seat.old.me.0.def.line seat.old.me.0.knows.actor seat.old.me.0.held
+        → IsMore seat.old.me.0.knows.actor seat.old.me.0.held
         (T.entries value) }
     ensures table { seat.new.table_id ≡ seat.old.table_id }
     ensures seat { seat.new.me ≡ (idle (counted seat.old.me.0 (T.entries value)), []) }

@@ -5,19 +5,20 @@ use Rattle.std.proofs.lemmas.Bool.{false≢true}
 use Rattle.std.proofs.lemmas.List.Elements.{All-nil, All-cons, All-weaker, All-contains}
 use Rattle.std.proofs.lemmas.Option.{same_Some}
 use Rattle.irq_base.specs.Who.{actor_of}
-use Rattle.irq_base.specs.declared.numbers.LineNo.{LineNo}
 use Rattle.irq_base.specs.declared.lines.LineDef.{LineDef}
 use Rattle.irq_model.specs.Legal.{IsLegal}
 use Rattle.irq_base.specs.declared.entries.Actor.{Actor}
 use Rattle.irq_base.specs.declared.entries.Entry.{Entry}
 use Rattle.line_lock.specs.Knows.{is_among, without_of, forked, Meets, IsKnown}
-use Rattle.line_lock.specs.Placed.{same_actor, is_by, placed, placed_from, placed_of}
+use Rattle.irq_model.specs.Kinds.{same_actor, is_by}
+use Rattle.irq_steps.proofs.Same.{same_self_actor, actor_from_same}
+use Rattle.line_lock.specs.Placed.{placed, placed_from, placed_of}
 use Rattle.line_lock.specs.declared.view.Known.{Known}
 use Rattle.line_lock.specs.declared.view.Placed.{Placed}
-use Rattle.line_lock.proofs.Actors.{actor_from_same, same_or_not, among_old, among_snoc, among_without, same_self_actor}
+use Rattle.line_lock.proofs.Actors.{same_or_not, among_old, among_snoc, among_without}
 use Rattle.line_shared.specs.Meeting.{HasMet, StandsIn}
 
-module _ (line : LineNo) (k other new : Known) (who : Actor) (m : Meets line k other new) where
+module _ (k other new : Known) (who : Actor) (m : Meets k other new) where
   was_out : other.actor ≡ Some who → is_among who k.out ≡ true
   was_out is = subst (λ (o : Option Actor). IfSome o (λ a. is_among a k.out ≡ true)) is m.was_out
 
@@ -27,16 +28,16 @@ module _ (line : LineNo) (k other new : Known) (who : Actor) (m : Meets line k o
   out_is : (a : Actor) → other.actor ≡ Some who → is_among a new.out ≡ cond (same_actor who a) false (is_among a k.out)
   out_is a is = ap (λ (x : Known). is_among a x.out) m.whole ∙ (ap (λ (o : Option Actor). is_among a (without_of o k.out)) is ∙ among_without a who k.out)
 
-  pub after_meeting : IsKnown line k → other.actor ≡ Some who → HasMet line new who other
+  pub after_meeting : IsKnown k → other.actor ≡ Some who → HasMet new who other
   after_meeting known is = record {
     actor = is;
     given = given_same who (known.given who (was_out is));
     back = out_is who is ∙ ap (λ t. cond t false (is_among who k.out)) (same_self_actor who);
-    own = ap (λ (o : Option Actor). placed_of line o new.seen) (sym is) ∙ m.own;
+    own = ap (λ (o : Option Actor). placed_of o new.seen) (sym is) ∙ m.own;
   }
 
   -- who was met before stays so
-  pub stays_met : (a : Actor) (first : Known) → other.actor ≡ Some who → HasMet line k a first → HasMet line new a first
+  pub stays_met : (a : Actor) (first : Known) → other.actor ≡ Some who → HasMet k a first → HasMet new a first
   stays_met a first is h = record {
     actor = h.actor;
     given = given_same a h.given;
@@ -49,11 +50,11 @@ module _ (line : LineNo) (k other new : Known) (who : Actor) (m : Meets line k o
       by_test false = h.back
 
   -- and is another
-  pub others_met : (a : Actor) (first : Known) → other.actor ≡ Some who → HasMet line k a first → a ≡ who → ⊥
+  pub others_met : (a : Actor) (first : Known) → other.actor ≡ Some who → HasMet k a first → a ≡ who → ⊥
   others_met a first is h same = false≢true (sym h.back ∙ (ap (λ x. is_among x k.out) same ∙ was_out is))
 
 -- what is seen then was seen by one of the two
-pub met_legal : (def : LineDef) (k other new : Known) → Meets def.line k other new → IsLegal def k.seen → IsLegal def other.seen → IsLegal def new.seen
+pub met_legal : (def : LineDef) (k other new : Known) → Meets k other new → IsLegal def k.seen → IsLegal def other.seen → IsLegal def new.seen
 met_legal def k other new m one two =
     subst (λ (h : List Entry). IsLegal def h) (sym (ap (λ (x : Known). x.seen) m.whole)) (by_test (nat_lt (length k.seen) (length other.seen)))
   where
@@ -67,8 +68,8 @@ other_than k who a fresh given = elim (same_or_not a who) [
   | inr apart ↦ apart
 ]
 
-pub stays_forked : (line : LineNo) (k other : Known) (who a : Actor) → is_among who k.given ≡ false → HasMet line k a other → HasMet line (forked k who) a other
-stays_forked line k other who a fresh h = record {
+pub stays_forked : (k other : Known) (who a : Actor) → is_among who k.given ≡ false → HasMet k a other → HasMet (forked k who) a other
+stays_forked k other who a fresh h = record {
   actor = h.actor;
   given = among_old a who k.given h.given;
   back = among_snoc a who k.out ∙ (ap (λ t. cond t true (same_actor a who)) h.back ∙ other_than k who a fresh h.given);
@@ -78,50 +79,50 @@ stays_forked line k other who a fresh h = record {
 -- ---- what stands at the places
 
 -- the entry stands k places behind the first, whose place is `start`
-record From (line : LineNo) (who : Actor) (start : ℕ) (h : List Entry) (p : Placed) : Type 0 where
+record From (who : Actor) (start : ℕ) (h : List Entry) (p : Placed) : Type 0 where
   k : ℕ
   place : p.place ≡ start + k
   there : slice_get h k ≡ Some p.entry
-  by : actor_of line p.entry ≡ who
+  by : actor_of p.entry ≡ who
 
-one_on : (line : LineNo) (who : Actor) (start : ℕ) (e : Entry) (h : List Entry) (p : Placed) → From line who (suc start) h p → From line who start (e ∷ h) p
-one_on line who start e h p f = record { k = suc f.k; place = f.place ∙ omega arith; there = f.there; by = f.by }
+one_on : (who : Actor) (start : ℕ) (e : Entry) (h : List Entry) (p : Placed) → From who (suc start) h p → From who start (e ∷ h) p
+one_on who start e h p f = record { k = suc f.k; place = f.place ∙ omega arith; there = f.there; by = f.by }
 
-all_from : (line : LineNo) (who : Actor) (start : ℕ) (h : List Entry) → All (From line who start h) (placed_from line who start h)
-all_from line who start [] = All-nil (From line who start [])
-all_from line who start (e ∷ h) = by_test (All-weaker (From line who (suc start) h) (From line who start (e ∷ h))
-    (one_on line who start e h) (placed_from line who (suc start) h) (all_from line who (suc start) h))
-    (is_by line who e) refl
+all_from : (who : Actor) (start : ℕ) (h : List Entry) → All (From who start h) (placed_from who start h)
+all_from who start [] = All-nil (From who start [])
+all_from who start (e ∷ h) = by_test (All-weaker (From who (suc start) h) (From who start (e ∷ h))
+    (one_on who start e h) (placed_from who (suc start) h) (all_from who (suc start) h))
+    (is_by who e) refl
   where
-    by_test : All (From line who start (e ∷ h)) (placed_from line who (suc start) h) → (t : Bool) → is_by line who e ≡ t
-        → All (From line who start (e ∷ h)) (cond t (record { place = start; entry = e }
-        ∷ placed_from line who (suc start) h) (placed_from line who (suc start) h))
-    by_test rest true is = All-cons (From line who start (e ∷ h)) (record { place = start; entry = e })
-        (placed_from line who (suc start) h) (record {
+    by_test : All (From who start (e ∷ h)) (placed_from who (suc start) h) → (t : Bool) → is_by who e ≡ t
+        → All (From who start (e ∷ h)) (cond t (record { place = start; entry = e }
+        ∷ placed_from who (suc start) h) (placed_from who (suc start) h))
+    by_test rest true is = All-cons (From who start (e ∷ h)) (record { place = start; entry = e })
+        (placed_from who (suc start) h) (record {
           k = 0;
           place = omega arith;
           there = refl;
           by
-              = sym (actor_from_same who (actor_of line e) is);
+              = sym (actor_from_same who (actor_of e) is);
         }) rest
     by_test rest false is = rest
 
-stands_from : (line : LineNo) (who : Actor) (h : List Entry) (p : Placed) → From line who 0 h p → StandsIn line who h p
-stands_from line who h p f = record {
+stands_from : (who : Actor) (h : List Entry) (p : Placed) → From who 0 h p → StandsIn who h p
+stands_from who h p f = record {
   there = ap (slice_get h) (f.place ∙ omega arith) ∙ f.there;
   by = f.by;
 }
 
-pub all_stand : (line : LineNo) (who : Actor) (h : List Entry) → All (StandsIn line who h) (placed line who h)
-all_stand line who h = All-weaker (From line who 0 h) (StandsIn line who h) (stands_from line who h) (placed line who h) (all_from line who 0 h)
+pub all_stand : (who : Actor) (h : List Entry) → All (StandsIn who h) (placed who h)
+all_stand who h = All-weaker (From who 0 h) (StandsIn who h) (stands_from who h) (placed who h) (all_from who 0 h)
 
 -- no place is two actors'
-pub places_apart : (line : LineNo) (k first second : Known) (a b : Actor) (x y : Placed) → HasMet line k a first → HasMet line k b second → (a ≡ b → ⊥)
+pub places_apart : (k first second : Known) (a b : Actor) (x y : Placed) → HasMet k a first → HasMet k b second → (a ≡ b → ⊥)
     → Contains first.mine x → Contains second.mine y → x.place ≡ y.place → ⊥
-places_apart line k first second a b x y m n apart in_first in_second same =
-    let p = All-contains (StandsIn line a k.seen) (placed line a k.seen) x (all_stand line a k.seen)
+places_apart k first second a b x y m n apart in_first in_second same =
+    let p = All-contains (StandsIn a k.seen) (placed a k.seen) x (all_stand a k.seen)
     (subst (λ (ps : List Placed). Contains ps x) (sym m.own) in_first) in
-    let q = All-contains (StandsIn line b k.seen) (placed line b k.seen) y (all_stand line b k.seen)
+    let q = All-contains (StandsIn b k.seen) (placed b k.seen) y (all_stand b k.seen)
     (subst (λ (ps : List Placed). Contains ps y) (sym n.own) in_second) in
     let entries : x.entry ≡ y.entry = same_Some x.entry y.entry (sym p.there ∙ (ap (slice_get k.seen) same ∙ q.there)) in
-    apart (sym p.by ∙ (ap (actor_of line) entries ∙ q.by))
+    apart (sym p.by ∙ (ap (actor_of) entries ∙ q.by))

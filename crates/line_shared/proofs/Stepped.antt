@@ -1,6 +1,5 @@
 -- One hold of the line by a pass.
 use Rattle.std.proofs.Common.{◌≡◌, Option, Some, Result, Ok, Err, List, [], ◌∷◌, ◌++◌, length, refl, sym, ap, ◌∙◌}
-use Rattle.irq_base.specs.Who.{actor_of}
 use Rattle.irq_base.specs.declared.entries.Actor.{Actor}
 use Rattle.irq_base.specs.declared.entries.Entry.{Entry}
 use Rattle.irq_base.specs.declared.lines.LineDef.{LineDef}
@@ -19,11 +18,10 @@ use Rattle.line_lock.specs.declared.view.Placed.{Placed}
 use Rattle.line_lock.proofs.Placing.{placed_own}
 use Rattle.line_shared.specs.Stepping.{Gains, Steps}
 
-module _ (key : LineDef) (who : Actor) (old new : Known) (line after : LineSeen) (def : line.def ≡ key)
-    (actor : old.actor ≡ Some who) (mine : old.mine ≡ placed_of key.line (Some who) line.entries)
-    (seen : new ≡ looked key.line old after.entries) where
-  mine_is : (h : List Entry) → after.entries ≡ h → new.mine ≡ placed key.line who h
-  mine_is h same = ap (λ (k : Known). k.mine) seen ∙ (ap (λ (o : Option Actor). placed_of key.line o after.entries) actor ∙ ap (placed key.line who) same)
+module _ (who : Actor) (old new : Known) (line after : LineSeen) (actor : old.actor ≡ Some who)
+    (mine : old.mine ≡ placed_of (Some who) line.entries) (seen : new ≡ looked old after.entries) where
+  mine_is : (h : List Entry) → after.entries ≡ h → new.mine ≡ placed who h
+  mine_is h same = ap (λ (k : Known). k.mine) seen ∙ (ap (λ (o : Option Actor). placed_of o after.entries) actor ∙ ap (placed who) same)
 
   unchanged : after ≡ line → (new.seen ≡ line.entries) × (new.mine ≡ old.mine)
   unchanged same =
@@ -31,12 +29,11 @@ module _ (key : LineDef) (who : Actor) (old new : Known) (line after : LineSeen)
       (ap (λ (k : Known). k.seen) seen ∙ entries, mine_is line.entries entries ∙ sym mine)
 
   gains : (said : Option SaidSeen) (result : Result Stepped StepRefused) → Answers line who said result after → Gains old line.entries result new
-  gains said (Ok (stepped.Added e)) a =
-      let by : actor_of key.line e ≡ who = ap (λ (d : LineDef). actor_of d.line e) (sym def) ∙ a.actor in (
-        ap (λ (k : Known). k.seen) seen ∙ a.entries,
-        mine_is (line.entries ++ e ∷ []) a.entries ∙ (placed_own key.line who line.entries e by
-            ∙ ap (λ (xs : List Placed). xs ++ record { place = length line.entries; entry = e } ∷ []) (sym mine)),
-      )
+  gains said (Ok (stepped.Added e)) a = (
+    ap (λ (k : Known). k.seen) seen ∙ a.entries,
+    mine_is (line.entries ++ e ∷ []) a.entries ∙ (placed_own who line.entries e a.actor
+        ∙ ap (λ (xs : List Placed). xs ++ record { place = length line.entries; entry = e } ∷ []) (sym mine)),
+  )
   gains said (Ok (stepped.Run run)) a = unchanged a.1
   gains said (Ok stepped.NotYet) a = unchanged a.1
   gains said (Err (refusals.Full len)) a = unchanged a.1
@@ -46,11 +43,11 @@ module _ {T : Type 0} (seen_of : T → LineSeen) (may_want : Option Entry → Ty
   pub steps : (key : LineDef) (who : Actor) (old new : Known) (held : T) (after : LineSeen) (said : Option SaidSeen)
       (result : Result Stepped StepRefused) → (seen_of held).def ≡ key → old.actor ≡ Some who → IsSound (seen_of held)
       → BeginsWith (seen_of held).entries old.seen
-      → old.mine ≡ placed_of key.line old.actor (seen_of held).entries → Answers (seen_of held) who said result after
-      → WantsMemory may_want (seen_of held) who result → after.def ≡ key → IsSound after → new ≡ looked key.line old after.entries
+      → old.mine ≡ placed_of old.actor (seen_of held).entries → Answers (seen_of held) who said result after
+      → WantsMemory may_want (seen_of held) who result → after.def ≡ key → IsSound after → new ≡ looked old after.entries
       → Steps seen_of may_want key who old said result new
   steps key who old new held after said result def actor sound begins mine answer memory def_after sound_after seen =
-      let own = mine ∙ ap (λ (o : Option Actor). placed_of key.line o (seen_of held).entries) actor in
+      let own = mine ∙ ap (λ (o : Option Actor). placed_of o (seen_of held).entries) actor in
       record {
         held = held;
         line = seen_of held;
@@ -65,6 +62,6 @@ module _ {T : Type 0} (seen_of : T → LineSeen) (may_want : Option Entry → Ty
         def_after = def_after;
         sound_after = sound_after;
         seen = seen;
-        gains = gains key who old new (seen_of held) after def actor own seen said result answer;
-        own = mine_is key who old new (seen_of held) after def actor own seen after.entries refl;
+        gains = gains who old new (seen_of held) after actor own seen said result answer;
+        own = mine_is who old new (seen_of held) after actor own seen after.entries refl;
       }

@@ -39,13 +39,13 @@ pub record Steps {T : Type 0} (seen_of : T → LineSeen) (may_want : Option Entr
   -- what the pass had seen is a beginning of the line's history, and its own entries are exactly
   -- the entries of its actor there
   pub begins : BeginsWith line.entries old.seen
-  pub mine : old.mine ≡ placed_of whole.line (Some who) line.entries
+  pub mine : old.mine ≡ placed_of (Some who) line.entries
   -- the answer is the line's own; if memory was refused, that line may have wanted it
   pub answer : Answers line who said result after
   pub memory : WantsMemory may_want line who result
   -- and the pass has seen the history as it is now
   pub def_after : after.def ≡ whole
   pub sound_after : IsSound after
-  pub seen : new ≡ looked whole.line old after.entries
+  pub seen : new ≡ looked old after.entries
   pub gains : Gains old line.entries result new
-  pub own : new.mine ≡ placed_of whole.line (Some who) after.entries
+  pub own : new.mine ≡ placed_of (Some who) after.entries

@@ -6,7 +6,6 @@ ghost use Rattle.irq_base.specs.declared.entries.Actor.{Actor};
 ghost use Rattle.irq_base.specs.declared.entries.Entry.{Entry};
 ghost use Rattle.irq_base.specs.declared.lines.LineDef.{LineDef};
 ghost use Rattle.irq_base.specs.declared.numbers.DevNo.{DevNo};
-ghost use Rattle.irq_base.specs.declared.numbers.LineNo.{LineNo};
 ghost use Rattle.irq_model.specs.Kinds.{is_freed, links_dev};
 ghost use Rattle.irq_model.specs.Laws.{is_run_of};
 ghost use Rattle.irq_model.specs.Legal.{IsLegal};
@@ -20,39 +19,39 @@ ghost use Rattle.line_shared.specs.Meeting.{HasMet, StandsIn};
 
 /// A pass's own entries stand in what it has seen, each at its place, and its actor made them.
 pub fn own_entries_stand()
-    ensures law { (line : LineNo) (who : Actor) (history : List Entry)
-        → All (StandsIn line who history) (placed line who history) }
+    ensures law { (who : Actor) (history : List Entry)
+        → All (StandsIn who history) (placed who history) }
 {}
 
 /// When a first pass meets a pass, it has met that pass's actor (`HasMet`): what it has seen of the
 /// actor is what the other pass knew as its own.
 #[tactic(auto, using(crate::proofs::MetLaws::after_meeting))]
 pub fn met_is_known()
-    ensures law { (line : LineNo) (k other new : Known) (who : Actor) → Meets line k other new
-        → IsKnown line k → other.actor ≡ Some who → HasMet line new who other }
+    ensures law { (k other new : Known) (who : Actor) → Meets k other new
+        → IsKnown k → other.actor ≡ Some who → HasMet new who other }
 {}
 
 /// An actor that a first pass has met stays met when it meets another pass, and the two actors
 /// differ.
 #[tactic(auto, using(crate::proofs::MetLaws::others_met))]
 pub fn met_stays_met()
-    ensures stays { (line : LineNo) (k other new : Known) (who a : Actor) (first : Known)
-        → Meets line k other new → other.actor ≡ Some who → HasMet line k a first
-        → HasMet line new a first }
-    ensures differ { (line : LineNo) (k other new : Known) (who a : Actor) (first : Known)
-        → Meets line k other new → other.actor ≡ Some who → HasMet line k a first → a ≡ who → ⊥ }
+    ensures stays { (k other new : Known) (who a : Actor) (first : Known)
+        → Meets k other new → other.actor ≡ Some who → HasMet k a first
+        → HasMet new a first }
+    ensures differ { (k other new : Known) (who a : Actor) (first : Known)
+        → Meets k other new → other.actor ≡ Some who → HasMet k a first → a ≡ who → ⊥ }
 {}
 
 /// An actor that a first pass has met stays met when it gives a pass to an actor that had none.
 pub fn met_stays_met_at_a_fork()
-    ensures law { (line : LineNo) (k other : Known) (who a : Actor) → is_among who k.given ≡ false
-        → HasMet line k a other → HasMet line (forked k who) a other }
+    ensures law { (k other : Known) (who a : Actor) → is_among who k.given ≡ false
+        → HasMet k a other → HasMet (forked k who) a other }
 {}
 
 /// Once a first pass has met the passes of two actors, their entries have no place in common.
 pub fn places_are_apart()
-    ensures law { (line : LineNo) (k first second : Known) (a b : Actor) (x y : Placed)
-        → HasMet line k a first → HasMet line k b second → (a ≡ b → ⊥) → Contains first.mine x
+    ensures law { (k first second : Known) (a b : Actor) (x y : Placed)
+        → HasMet k a first → HasMet k b second → (a ≡ b → ⊥) → Contains first.mine x
         → Contains second.mine y → x.place ≡ y.place → ⊥ }
 {}
 
@@ -70,6 +69,6 @@ pub fn free_is_final()
 /// steps leave a legal history, so this holds of whatever passes have seen.
 #[tactic(auto, using(crate::proofs::MetLaws::met_legal))]
 pub fn met_stays_legal()
-    ensures law { (def : LineDef) (k other new : Known) → Meets def.line k other new
+    ensures law { (def : LineDef) (k other new : Known) → Meets k other new
         → IsLegal def k.seen → IsLegal def other.seen → IsLegal def new.seen }
 {}

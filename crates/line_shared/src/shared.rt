@@ -117,7 +117,7 @@ impl<L: IrqLine> SharedLine<L> {
         requires actor { IsSome other.knows.actor }
         ensures pass { IsPassOf self.now pass.new }
         ensures idle { pass.new.turn ≡ false }
-        ensures met { Meets self.now.def.line pass.old.knows other.knows pass.new.knows }
+        ensures met { Meets pass.old.knows other.knows pass.new.knows }
     {
         self.lock.meet(pass, other);
     }
@@ -155,8 +155,8 @@ fn step_held<L: IrqLine>(
         (L.seen held.new.line.value) }
     ensures memory { WantsMemory L.may_want (L.seen held.old.line.value) actor result }
     ensures few { length (L.seen held.new.line.value).entries ≤ 100000000 }
-    ensures extends { Extends (L.seen held.old.line.value).def.line (Some actor)
-        (L.seen held.old.line.value).entries (L.seen held.new.line.value).entries }
+    ensures extends { Extends (Some actor) (L.seen held.old.line.value).entries
+        (L.seen held.new.line.value).entries }
 {
     held.line.is_sound();
     let answer = held.line.step(actor, said);

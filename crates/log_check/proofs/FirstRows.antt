@@ -1,5 +1,5 @@
 -- The head of a text's first row.
-use Rattle.std.proofs.Common.{◌≡◌, ℕ, false, Option, Some, None, List, [], ◌∷◌, ◌++◌, codes, decimal, length, refl, sym}
+use Rattle.std.proofs.Common.{◌≡◌, ℕ, false, Option, Some, None, List, [], ◌∷◌, ◌++◌, decimal, length, refl, sym}
 use Rattle.std.proofs.Common.{ap, subst, ◌∙◌, append_assoc, arith}
 use Rattle.std.specs.List.{concat, join_with_byte}
 use Rattle.std.proofs.lemmas.Bool.{false≢true}
@@ -7,13 +7,19 @@ use Rattle.std.proofs.lemmas.Option.{same_Some}
 use Rattle.irq_base.specs.Who.{actor_of}
 use Rattle.irq_base.specs.declared.entries.Actor.{Actor}
 use Rattle.irq_base.specs.declared.entries.Entry.{Entry}
-use Rattle.irq_base.specs.declared.entries.Entry.TheVariants as entries
+use Rattle.irq_base.specs.declared.entries.Entry.TheVariants as by
+use Rattle.irq_base.specs.declared.entries.CpuEntry.{CpuEntry}
+use Rattle.irq_base.specs.declared.entries.CpuEntry.TheVariants as cpus
+use Rattle.irq_base.specs.declared.entries.ThreadEntry.{ThreadEntry}
+use Rattle.irq_base.specs.declared.entries.ThreadEntry.TheVariants as threads
+use Rattle.irq_base.specs.declared.entries.DriverEntry.{DriverEntry}
+use Rattle.irq_base.specs.declared.entries.DriverEntry.TheVariants as drivers
+use Rattle.irq_base.specs.declared.entries.CallEntry.{CallEntry}
+use Rattle.irq_base.specs.declared.entries.CallEntry.TheVariants as called
 use Rattle.irq_base.specs.declared.numbers.LineNo.{LineNo}
-use Rattle.log_text.specs.EntryWords.{entry_words}
+use Rattle.log_text.specs.EntryWords.{actor_word, entry_words, call_words, cpu_words, driver_words, said_words, thread_words}
 use Rattle.log_text.specs.Formed.{IsRowOf, IsSmall, IsWritable}
 use Rattle.log_text.specs.Rows.{entry_text}
-use Rattle.log_text.specs.Words.{affinity_words, answer_word, bit_word, enable_words, flags_word, link_words, loop_word, mask_word}
-use Rattle.log_text.specs.Words.{note_word, take_word, unlink_word, way_word}
 use Rattle.log_read.specs.LogOf.{is_whole, rows_of}
 use Rattle.log_read.proofs.RowCutting.{front_joined, whole_row}
 use Rattle.log_check.specs.Heads.{IsHead, IsNoEntry, ReadsNumber, actor_by}
@@ -28,7 +34,7 @@ record IsHeaded (text : List ℕ) (line : LineNo) (e : Entry) : Type 0 where
   tail : List ℕ
   is : text ≡ decimal line.0 ++ 32 ∷ letter ∷ (decimal number ++ 32 ∷ tail)
   small : IsSmall number
-  by : actor_by line letter number ≡ Some (actor_of line e)
+  whose : actor_by letter number ≡ Some (actor_of e)
 
 two_words : (a : List ℕ) (letter : ℕ) (w b after : List ℕ) (ws : List (List ℕ)) → (join_with_byte 32 (a ∷ (letter ∷ w) ∷ b ∷ ws) ++ 10 ∷ []) ++ after
     ≡ a ++ 32 ∷ letter ∷ (w ++ 32 ∷ ((join_with_byte 32 (b ∷ ws) ++ 10 ∷ []) ++ after))
@@ -39,43 +45,60 @@ two_words a letter w b after ws =
     ∙ ap (λ (xs : List ℕ). a ++ 32 ∷ letter ∷ xs)
     (ap (λ (xs : List ℕ). xs ++ after) (append_assoc w (32 ∷ rest) (10 ∷ [])) ∙ append_assoc w (32 ∷ (rest ++ 10 ∷ [])) after))
 
-headed_by : (line : LineNo) (e : Entry) (letter number : ℕ) (b after : List ℕ) (ws : List (List ℕ)) → entry_words e ≡ (letter ∷ decimal number) ∷ b ∷ ws
-    → IsSmall number → actor_by line letter number ≡ Some (actor_of line e) → IsHeaded (entry_text line e ++ after) line e
-headed_by line e letter number b after ws words small by = record {
+-- an entry says at least one word
+abbrev IsSaid : List (List ℕ) → Type 0
+IsSaid words = (first : List ℕ) × (others : List (List ℕ)) × (words ≡ first ∷ others)
+
+cpu_said : (e : CpuEntry) → IsSaid (cpu_words e)
+cpu_said (cpus.Take way answer) = (_, _, refl)
+cpu_said (cpus.Begin dev) = (_, _, refl)
+cpu_said (cpus.Return answer dev served) = (_, _, refl)
+cpu_said (cpus.End again unmask note) = (_, _, refl)
+
+thread_said : (e : ThreadEntry) → IsSaid (thread_words e)
+thread_said threads.Begin = (_, _, refl)
+thread_said (threads.Return handled served) = (_, _, refl)
+thread_said (threads.Finish kept unmask) = (_, _, refl)
+thread_said threads.Done = (_, _, refl)
+
+driver_said : (e : DriverEntry) → IsSaid (driver_words e)
+driver_said (drivers.Ask edge dev) = (_, _, refl)
+driver_said (drivers.Request flags answer opened dev) = (_, _, refl)
+driver_said (drivers.Affinity answer mask) = (_, _, refl)
+driver_said (drivers.Moment at) = (_, _, refl)
+
+call_said : (call : CallEntry) → IsSaid (call_words call)
+call_said called.Disable = (_, _, refl)
+call_said called.HardClear = (_, _, refl)
+call_said called.Synced = (_, _, refl)
+call_said (called.Enable answer) = (_, _, refl)
+call_said (called.Unlink answer dev) = (_, _, refl)
+call_said (called.Freed dev) = (_, _, refl)
+call_said (called.Wake woken dev) = (_, _, refl)
+call_said (called.Quiet dev) = (_, _, refl)
+call_said (called.Arm edge dev) = (_, _, refl)
+call_said (called.Serve dev served) = (_, _, refl)
+
+headed_by : (line : LineNo) (e : Entry) (letter number : ℕ) (after : List ℕ) → IsSaid (said_words e) → actor_word (actor_of e) ≡ letter ∷ decimal number
+    → IsSmall number → actor_by letter number ≡ Some (actor_of e) → IsHeaded (entry_text line e ++ after) line e
+headed_by line e letter number after (b, ws, words) who small whose = record {
   letter = letter;
   number = number;
   tail = (join_with_byte 32 (b ∷ ws) ++ 10 ∷ []) ++ after;
-  is = ap (λ (xs : List (List ℕ)). (join_with_byte 32 (decimal line.0 ∷ xs) ++ 10 ∷ []) ++ after) words
+  is = ap (λ (xs : List (List ℕ)). (join_with_byte 32 (decimal line.0 ∷ xs) ++ 10 ∷ []) ++ after)
+      (ap (λ (w : List ℕ). w ∷ said_words e) who ∙ ap (λ (xs : List (List ℕ)). (letter ∷ decimal number) ∷ xs) words)
       ∙ two_words (decimal line.0) letter (decimal number) b after ws;
   small = small;
-  by = by;
+  whose = whose;
 }
 
 headed : (line : LineNo) (e : Entry) (after : List ℕ) → IsWritable e → IsHeaded (entry_text line e ++ after) line e
-headed line (entries.Ask driver dev) after w = headed_by line _ 100 driver.0 (codes "ask") after (decimal dev.0 ∷ []) refl w.small.0 refl
-headed line (entries.Take cpu way answer) after w = headed_by line _ 99 cpu.0 (codes "take") after (way_word way ∷ take_word answer ∷ []) refl w.small refl
-headed line (entries.Begin cpu dev) after w = headed_by line _ 99 cpu.0 (codes "begin") after (decimal dev.0 ∷ []) refl w.small.0 refl
-headed line (entries.Return cpu dev answer served) after w =
-    headed_by line _ 99 cpu.0 (codes "return") after (decimal dev.0 ∷ answer_word answer ∷ decimal served ∷ []) refl w.small.0 refl
-headed line (entries.End cpu again unmask note) after w =
-    headed_by line _ 99 cpu.0 (codes "end") after (loop_word again ∷ mask_word unmask ∷ note_word note ∷ []) refl w.small refl
-headed line (entries.ThreadBegin dev) after w = headed_by line _ 116 dev.0 (codes "begin") after [] refl w.small refl
-headed line (entries.ThreadReturn dev served) after w = headed_by line _ 116 dev.0 (codes "return") after (decimal served ∷ []) refl w.small.0 refl
-headed line (entries.Finish dev kept unmask) after w = headed_by line _ 116 dev.0 (codes "finish") after
-    (bit_word kept ∷ mask_word unmask ∷ []) refl w.small refl
-headed line (entries.Done dev) after w = headed_by line _ 116 dev.0 (codes "done") after [] refl w.small refl
-headed line (entries.Disable driver) after w = headed_by line _ 100 driver.0 (codes "disable") after [] refl w.small refl
-headed line (entries.HardClear driver) after w = headed_by line _ 100 driver.0 (codes "hardclear") after [] refl w.small refl
-headed line (entries.Synced driver) after w = headed_by line _ 100 driver.0 (codes "synced") after [] refl w.small refl
-headed line (entries.Enable driver answer) after w = headed_by line _ 100 driver.0 (codes "enable") after (enable_words answer) refl w.small refl
-headed line (entries.Request driver dev flags answer opened) after w =
-    headed_by line _ 100 driver.0 (codes "request") after (decimal dev.0 ∷ flags_word flags ∷ link_words answer opened) refl w.small.0 refl
-headed line (entries.Unlink driver dev answer) after w =
-    headed_by line _ 100 driver.0 (codes "unlink") after (decimal dev.0 ∷ unlink_word answer ∷ []) refl w.small.0 refl
-headed line (entries.Freed driver dev) after w = headed_by line _ 100 driver.0 (codes "freed") after (decimal dev.0 ∷ []) refl w.small.0 refl
-headed line (entries.Affinity driver mask answer) after w =
-    headed_by line _ 100 driver.0 (codes "affinity") after (decimal mask ∷ affinity_words answer) refl w.small.0 refl
-headed line (entries.Moment driver moment) after w = headed_by line _ 100 driver.0 (codes "moment") after (decimal moment ∷ []) refl w.small.0 refl
+headed line (by.Cpu cpu e) after w = headed_by line (by.Cpu cpu e) 99 cpu.0 after (cpu_said e) refl w.small.0 refl
+headed line (by.CpuCall cpu call) after w = headed_by line (by.CpuCall cpu call) 99 cpu.0 after (call_said call) refl w.small.0 refl
+headed line (by.Thread dev e) after w = headed_by line (by.Thread dev e) 116 dev.0 after (thread_said e) refl w.small.0 refl
+headed line (by.ThreadCall dev call) after w = headed_by line (by.ThreadCall dev call) 116 dev.0 after (call_said call) refl w.small.0 refl
+headed line (by.Driver driver e) after w = headed_by line (by.Driver driver e) 100 driver.0 after (driver_said e) refl w.small.0 refl
+headed line (by.DriverCall driver call) after w = headed_by line (by.DriverCall driver call) 100 driver.0 after (call_said call) refl w.small.0 refl
 
 -- a text without a line feed
 pub unfed : (text : List ℕ) → rows_of text ≡ text ∷ [] → is_whole text ≡ false → IsNoEntry text
@@ -116,7 +139,7 @@ module _ (text : List ℕ) (n : ℕ) (rest : List ℕ) (line_read : ReadsNumber 
     same : line ≡ line_no n
     is : rest ≡ letter ∷ (decimal number ++ 32 ∷ tail)
     small : IsSmall number
-    by : actor_by (line_no n) letter number ≡ Some (actor_of line e)
+    whose : actor_by letter number ≡ Some (actor_of e)
 
   behind : (row : List ℕ) (rows : List (List ℕ)) (line : LineNo) (e : Entry) → rows_of text ≡ row ∷ rows → IsRowOf row line e → IsBehind line e
   behind row rows line e is of =
@@ -130,7 +153,7 @@ module _ (text : List ℕ) (n : ℕ) (rest : List ℕ) (line_read : ReadsNumber 
         same = same;
         is = read.1;
         small = h.small;
-        by = subst (λ (l : LineNo). actor_by l h.letter h.number ≡ Some (actor_of line e)) same h.by;
+        whose = h.whose;
       }
 
   pub no_letter : length rest ≡ 0 → IsNoEntry text
@@ -150,16 +173,16 @@ module _ (text : List ℕ) (n : ℕ) (rest : List ℕ) (line_read : ReadsNumber 
 
     module _ (number : ℕ) (tail : List ℕ) (number_read : ReadsNumber next (Some (number, tail))) where
       who : (row : List ℕ) (rows : List (List ℕ)) (line : LineNo) (e : Entry) → rows_of text ≡ row ∷ rows → IsRowOf row line e
-          → (line ≡ line_no n) × (actor_by (line_no n) letter number ≡ Some (actor_of line e))
+          → (line ≡ line_no n) × (actor_by letter number ≡ Some (actor_of e))
       who row rows line e is of =
           let b = behind row rows line e is of in
           let heads = same_head letter b.letter next _ (sym first ∙ b.is) in
           let read = same_pair number b.number tail b.tail (number_read b.number b.tail b.small heads.1) in
-          (b.same, ap (λ x. actor_by (line_no n) x number) heads.0 ∙ (ap (λ m. actor_by (line_no n) b.letter m) read.0 ∙ b.by))
+          (b.same, ap (λ x. actor_by x number) heads.0 ∙ (ap (λ m. actor_by b.letter m) read.0 ∙ b.whose))
 
-      pub unknown_letter : None ≡ actor_by (line_no n) letter number → IsNoEntry text
+      pub unknown_letter : None ≡ actor_by letter number → IsNoEntry text
       unknown_letter none row rows is (line, e, of) = no_actor _ (none ∙ (who row rows line e is of).1)
 
-      pub head : (actor : Actor) → Some actor ≡ actor_by (line_no n) letter number → IsHead text (line_no n) actor
+      pub head : (actor : Actor) → Some actor ≡ actor_by letter number → IsHead text (line_no n) actor
       head actor known row rows line e is of =
-          let w = who row rows line e is of in (w.0, sym (same_Some actor (actor_of line e) (known ∙ w.1)))
+          let w = who row rows line e is of in (w.0, sym (same_Some actor (actor_of e) (known ∙ w.1)))

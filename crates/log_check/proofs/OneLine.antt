@@ -90,10 +90,6 @@ due_there def line es actor due is has h =
     let own : next (with_log def most) line.entries actor ≡ due = subst (λ (hs : List Entry). next def hs actor ≡ due) (sym has) h in
     subst (λ (d : LineDef). next d line.entries actor ≡ due) (sym is) own
 
--- of the entry's own actor
-of_actor : (def : LineDef) (number : LineNo) (e : Entry) (actor : Actor) → def.line ≡ number → actor_of number e ≡ actor → actor ≡ actor_of def.line e
-of_actor def number e actor same by = sym by ∙ ap (λ (l : LineNo). actor_of l e) (sym same)
-
 -- ---- a text that begins with the row of an entry
 
 feed_first : (xs after : List ℕ) → are_above 10 xs ≡ true → rows_of ((xs ++ 10 ∷ []) ++ after) ≡ (xs ++ 10 ∷ []) ∷ rows_of after
@@ -140,11 +136,11 @@ module _ (text : List ℕ) (number : LineNo) (actor : Actor) (head : IsHead text
         let by = (head (entry_text number e) (rows_of after) number e at.rows of).1 in
         (entry_text number e, at, λ part es same stands. took of by first part es same stands)
       where
-        took : IsRowOf (entry_text number e) number e → actor_of number e ≡ actor → (first : Option ℕ) (part : Option LineDef) (es : List Entry)
+        took : IsRowOf (entry_text number e) number e → actor_of e ≡ actor → (first : Option ℕ) (part : Option LineDef) (es : List Entry)
             → IfSome part (λ (def : LineDef). def.line ≡ number) → Stands part (Some old) first es
             → Took part (entry_text number e) number es (judge (Some new) first)
         took of by None (Some def) es same (legal, is_def, has) =
-            let who = of_actor def number e actor same by in
+            let who = sym by in
             let owed : IsDue def e (reverse es) = subst (λ (a : Actor). next def es a ≡ Some e) who (due_here def old es actor (Some e) is_def has due) in
             (e, of, (legal_more def es e legal owed, kept ∙ is_def, more ∙ ap (λ (hs : List Entry). hs ++ e ∷ []) has))
         took of by None None es same stands = absurd stands
@@ -159,10 +155,10 @@ module _ (text : List ℕ) (number : LineNo) (actor : Actor) (head : IsHead text
         let own = own_row row after line e at of in
         (row, at, λ part es same stands. took own (head row (rows_of after) number e at.rows own).1 first part es same stands)
       where
-        took : IsRowOf row number e → actor_of number e ≡ actor → (first : Option ℕ) (part : Option LineDef) (es : List Entry)
+        took : IsRowOf row number e → actor_of e ≡ actor → (first : Option ℕ) (part : Option LineDef) (es : List Entry)
             → IfSome part (λ (def : LineDef). def.line ≡ number) → Stands part (Some old) first es → Took part row number es then
         took own by None (Some def) es same (legal, is_def, has) =
-            let who = of_actor def number e actor same by in
+            let who = sym by in
             let undue : IsDue def e (reverse es) → ⊥ = λ owed.
             none e (concat (rows_of after)) (due_there def old es actor (Some e) is_def has (subst (λ (a : Actor). next def es a ≡ Some e) (sym who) owed))
             (row_of text row (rows_of after) number e at.rows own) in

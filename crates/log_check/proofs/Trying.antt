@@ -22,12 +22,12 @@ heard_due : (old new : LineSeen) (a : Actor) (due : Option Entry) → Heard old 
 heard_due old new a None heard = sym heard.0
 heard_due old new a (Some e) heard = sym heard.due
 
-pub tried : (old new : LineSeen) (e : Entry) (due : Option Entry) (t : Bool) → Heard old (actor_of old.def.line e) (Ok due) new
+pub tried : (old new : LineSeen) (e : Entry) (due : Option Entry) (t : Bool) → Heard old (actor_of e) (Ok due) new
     → t ≡ option_eq (entry_eq.eq-value).it due (Some e) → Tried old e t new
 tried old new e due true heard h =
-    let added = subst (λ (o : Option Entry). Heard old (actor_of old.def.line e) (Ok o) new)
+    let added = subst (λ (o : Option Entry). Heard old (actor_of e) (Ok o) new)
     ((found_same due e true h).0 refl) heard in (added.due, added.entries)
-tried old new e due false heard h = λ owed. false≢true ((found_same due e false h).1 (heard_due old new (actor_of old.def.line e) due heard ∙ owed))
+tried old new e due false heard h = λ owed. false≢true ((found_same due e false h).1 (heard_due old new (actor_of e) due heard ∙ owed))
 
 take_suc : {X : Type 0} (xs : List X) (n : ℕ) (x : X) → slice_get xs n ≡ Some x → take (suc n) xs ≡ take n xs ++ x ∷ []
 take_suc [] n x at = cc

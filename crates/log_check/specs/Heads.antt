@@ -29,15 +29,14 @@ IsWrong lines text = (row : List ℕ) (rows : List (List ℕ)) → rows_of text 
 abbrev pub IsHead : List ℕ → LineNo → Actor → Type 0
 IsHead text number actor =
     (row : List ℕ) (rows : List (List ℕ)) (line : LineNo) (e : Entry) → rows_of text ≡ row ∷ rows
-    → IsRowOf row line e → (line ≡ number) × (actor_of line e ≡ actor)
+    → IsRowOf row line e → (line ≡ number) × (actor_of e ≡ actor)
 
--- the actor on the line that the letter, of a processor, a driver or a thread, and the number stand
--- for
-abbrev pub actor_by : LineNo → ℕ → ℕ → Option Actor
-actor_by line letter number =
+-- the actor that the letter, of a processor, a driver or a thread, and the number stand for
+abbrev pub actor_by : ℕ → ℕ → Option Actor
+actor_by letter number =
     if letter == 99 then Some (actors.Cpu (record { 0 = number }))
     else if letter == 100 then Some (actors.Driver (record { 0 = number }))
-    else if letter == 116 then Some (actors.Thread line (record { 0 = number }))
+    else if letter == 116 then Some (actors.Thread (record { 0 = number }))
     else None
 
 -- what is read of the bytes: if a number of 32 bits and a space stand first, that number, and what

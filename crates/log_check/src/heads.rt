@@ -14,19 +14,18 @@ pub(crate) fn read_head(text: &[u8]) -> Option<(LineNo, Actor)>
     let (line, rest) = number_before_space(text)?;
     let (letter, rest) = rest.split_first()?;
     let (number, _) = number_before_space(rest)?;
-    let line = LineNo(line);
-    let actor = actor_by(line, *letter, number)?;
-    Some((line, actor))
+    let actor = actor_by(*letter, number)?;
+    Some((LineNo(line), actor))
 }
 
-/// The actor on the line that the letter and the number stand for.
-fn actor_by(line: LineNo, letter: u8, number: u32) -> Option<Actor>
-    ensures { result ≡ actor_by line letter number }
+/// The actor that the letter and the number stand for.
+fn actor_by(letter: u8, number: u32) -> Option<Actor>
+    ensures { result ≡ actor_by letter number }
 {
     match letter {
         b'c' => Some(Actor::Cpu(CpuNo(number))),
         b'd' => Some(Actor::Driver(DriverNo(number))),
-        b't' => Some(Actor::Thread(line, DevNo(number))),
+        b't' => Some(Actor::Thread(DevNo(number))),
         _ => None,
     }
 }

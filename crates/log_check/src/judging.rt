@@ -35,8 +35,7 @@ fn adds<L: IrqLine>(line: &mut L, entry: Entry) -> Result<bool, NoMemory>
     ensures def { (L.seen line.new).def ≡ (L.seen line.old).def }
     ensures tried { IfOk result (λ added. Tried (L.seen line.old) entry added (L.seen line.new)) }
 {
-    let number = line.definition().line;
-    let due = step(line, entry.actor(number))?;
+    let due = step(line, entry.actor())?;
     Ok(due == Some(entry))
 }
 

@@ -1,5 +1,5 @@
 -- Entries, kind by kind: each is read exactly as it is written.
-use Rattle.std.proofs.Common.{◌≡◌, ℕ, nat_lt, Bool, true, false, cond, eqb, Some, None, List, [], ◌∷◌, ◌++◌, decimal, codes, length, get_or}
+use Rattle.std.proofs.Common.{◌≡◌, ℕ, nat_lt, Bool, true, false, cond, eqb, Some, None, List, ◌∷◌, ◌++◌, decimal, get_or}
 use Rattle.std.proofs.Common.{refl, sym, ap, subst, ◌∙◌}
 use Rattle.std.proofs.lemmas.Bool.{false≢true}
 use Rattle.irq_base.specs.Who.{actor_of}
@@ -7,11 +7,9 @@ use Rattle.irq_base.specs.declared.entries.Actor.{Actor}
 use Rattle.irq_base.specs.declared.entries.Actor.TheVariants as actors
 use Rattle.irq_base.specs.declared.entries.AffinityAnswer.{AffinityAnswer}
 use Rattle.irq_base.specs.declared.entries.AffinityAnswer.TheVariants as affinities
-use Rattle.irq_base.specs.declared.entries.CallEntry.{CallEntry}
 use Rattle.irq_base.specs.declared.entries.CallEntry.TheVariants as called
 use Rattle.irq_base.specs.declared.entries.CpuEntry.{CpuEntry}
 use Rattle.irq_base.specs.declared.entries.CpuEntry.TheVariants as cpus
-use Rattle.irq_base.specs.declared.entries.DriverEntry.{DriverEntry}
 use Rattle.irq_base.specs.declared.entries.DriverEntry.TheVariants as drivers
 use Rattle.irq_base.specs.declared.entries.Entry.{Entry}
 use Rattle.irq_base.specs.declared.entries.Entry.TheVariants as by
@@ -32,18 +30,15 @@ use Rattle.log_read.proofs.Saying.{Sound, Complete}
 use Rattle.log_read.proofs.Taking.{under}
 use Rattle.log_read.specs.Forms.{dev_no, TakesCpu, TakesThread, TakesAct, FitsThread, IsLink, IsMoved, IsBy}
 use Rattle.log_read.specs.Kinds.{cpu_verb_word, thread_verb_word, driver_verb_word, call_verb_word, driver_act_word}
-use Rattle.log_read.specs.Left.{left_of}
 use Rattle.log_read.specs.Takes.{TakesAs, Takes, Any, Reads, one}
 use Rattle.log_read.specs.Who.{HasSmallActor}
 use Rattle.log_read.specs.declared.cpus.CpuVerb.{CpuVerb}
 use Rattle.log_read.specs.declared.cpus.CpuVerb.TheVariants as cpu_verbs
 use Rattle.log_read.specs.declared.threads.ThreadVerb.{ThreadVerb}
 use Rattle.log_read.specs.declared.threads.ThreadVerb.TheVariants as thread_verbs
-use Rattle.log_read.specs.declared.drivers.DriverVerb.{DriverVerb}
 use Rattle.log_read.specs.declared.drivers.DriverVerb.TheVariants as driver_verbs
 use Rattle.log_read.specs.declared.drivers.DriverAct.{DriverAct}
 use Rattle.log_read.specs.declared.drivers.DriverAct.TheVariants as acts
-use Rattle.log_read.specs.declared.calls.CallVerb.{CallVerb}
 use Rattle.log_read.specs.declared.calls.CallVerb.TheVariants as call_verbs
 use Rattle.log_read.specs.declared.words.Words.{Words}
 
@@ -310,11 +305,10 @@ module _ (old mid new : Words) where
   driver_complete driver act e took t (by.Driver c (drivers.Ask edge dev)) rest fits h =
       let v = took.complete (acts.Own driver_verbs.Ask) (decimal dev.0 ∷ rest) tt h in
       let u = subst (λ a. TakesAct driver a mid new e) v.0 t in
-      let s = u.1.complete dev.0 rest fits.0.small.1 v.1 in
-      (
+      let s = u.1.complete dev.0 rest fits.0.small.1 v.1 in (
         u.2
-        ∙ (ap (λ f. by.Driver driver f) s.0
-        ∙ (ap (λ x. by.Driver driver (drivers.Ask x dev)) (sym fits.0.printable) ∙ ap (λ z. by.Driver z (drivers.Ask edge dev)) (same_driver fits.1))),
+            ∙ (ap (λ f. by.Driver driver f) s.0
+            ∙ (ap (λ x. by.Driver driver (drivers.Ask x dev)) (sym fits.0.printable) ∙ ap (λ z. by.Driver z (drivers.Ask edge dev)) (same_driver fits.1))),
         s.1,
       )
   driver_complete driver act e took t (by.Driver c (drivers.Request flags answer opened dev)) rest fits h =

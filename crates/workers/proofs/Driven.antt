@@ -195,8 +195,8 @@ module _ {board : BoardSeen} {lines : List LockSeen} (boards : AreBoards board l
             ∙ (ap (λ (a : Actor). next s.line.def gains.history a) (sym d.actor) ∙ gains.due)
 
         own : entries_by r (own_past s.post.pass.knows.mine) ≡ entries_by r (reverse gains.history)
-        own = own_are_seen s.line.def.line r gains.history s.post.pass.knows.mine
-            (gains.own ∙ ap (λ (a : Actor). placed s.line.def.line a gains.history) d.actor)
+        own = own_are_seen r gains.history s.post.pass.knows.mine
+            (gains.own ∙ ap (λ (a : Actor). placed a gains.history) d.actor)
 
         up : IsUpTo board.calls (lines_after (s.post.pass.def.line, e) (own_lines j.posts)) r (cond last (j.at + 1) j.at)
         up = up_after board isb (own_lines j.posts) own_defs r j.at d.up_to c at_p mine place (own_line s.post) at_y y_line gains.history e due own last is_l

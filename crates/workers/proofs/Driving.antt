@@ -25,7 +25,7 @@ use Rattle.board_play.specs.Kept.{IsCallOn, IsUpTo}
 use Rattle.board_play.specs.Lines.{BoardLine, Move, line_after, lines_after, defs_of}
 use Rattle.board_play.proofs.Counting.{kth_is_due}
 use Rattle.board_play.proofs.Members.{AreApart, find_there, found}
-use Rattle.board_play.proofs.Moving.{by_driver_is, goes_on, is_complete}
+use Rattle.board_play.proofs.Moving.{goes_on, is_complete}
 use Rattle.board_play.proofs.OfBoard.{has_calls, apart_defs}
 use Rattle.board_play.proofs.Script.{is_on, one_longer, done, IsThe, Current, is_current}
 use Rattle.line_lock.specs.Passes.{LockSeen}
@@ -160,7 +160,7 @@ module _ (board : BoardSeen) (isb : IsBoard board) (own : List BoardLine)
     d = its_due
 
     by_r : is_by_driver r e ≡ true
-    by_r = by_driver_is y.def.line r e ∙ (ap (λ (a : Actor). is_driver r a) (due_is_own y.def h (actors.Driver r) e due) ∙ same_self_driver r)
+    by_r = ap (λ (a : Actor). is_driver r a) (due_is_own y.def h (actors.Driver r) e due) ∙ same_self_driver r
 
     its_last : completes c.call e ≡ completes_at c.call d.0 e
     its_last =

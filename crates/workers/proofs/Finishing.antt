@@ -16,9 +16,9 @@ use Rattle.irq_line.specs.Seen.{LineSeen, IsSound}
 use Rattle.irq_base.specs.declared.numbers.LineNo.{LineNo}
 use Rattle.irq_laws.specs.Kept.{complete as complete_of}
 use Rattle.irq_model.specs.Due.{calls_by, entries_by, due_of, due_call}
-use Rattle.irq_model.specs.Kinds.{same_line, same_driver}
+use Rattle.irq_model.specs.Kinds.{same_line, same_driver, same_actor}
 use Rattle.irq_model.specs.Legal.{IsLegalPast}
-use Rattle.irq_steps.proofs.Same.{driver_from_same}
+use Rattle.irq_steps.proofs.Same.{driver_from_same, same_self_actor}
 use Rattle.std.specs.List.{list_any}
 use Rattle.std.proofs.lemmas.List.Sorted.{list_any-IsPermutation}
 use Rattle.irq_laws.proofs.Chosen.{the_same}
@@ -35,8 +35,6 @@ use Rattle.board_play.proofs.Members.{def_there}
 use Rattle.board_play.proofs.OfBoard.{calls_fit}
 use Rattle.line_lock.specs.Knows.{BeginsWith, is_among}
 use Rattle.line_lock.specs.Passes.{LockSeen, PassSeen}
-use Rattle.line_lock.specs.Placed.{same_actor}
-use Rattle.line_lock.proofs.Actors.{same_self_actor}
 use Rattle.workers.specs.Fit.{IsFirst, actors_on, has_worker, workers_of, Fit}
 use Rattle.workers.specs.Gathers.{board_line, board_lines, IsHome, AreHome, seen_line, seen_lines, AreOut, Gathers, IsFinal, AreFinal, AreSound}
 use Rattle.workers.specs.Gathers.{IsMetIn, HasAllOf, IsSeenIn, AreBack, IsSeenBy, AreGathered}
@@ -153,7 +151,7 @@ gathers_first lines s fit =
       out = λ k p at. by_line k p (slice_get lines k) (fit.firsts.each k p at);
       drivers = λ r declared. inl
           (sym (among_dealt (actors.Driver r) (workers_of s.board lines) (map (λ (j : JobSeen). j.actor) s.jobs) fit.actors)
-          ∙ among_right (actors.Driver r) (map (λ (x : DeviceDef). actors.Thread x.line x.dev)
+          ∙ among_right (actors.Driver r) (map (λ (x : DeviceDef). actors.Thread x.dev)
           (filter (has_worker lines) s.board.devices)) (cpus_of s.board ++ drivers_of s.board)
           (among_right (actors.Driver r) (cpus_of s.board) (drivers_of s.board)
           (driver_among r s.board.drivers declared)));

@@ -7,7 +7,8 @@ use Rattle.std.proofs.lemmas.List.{reverse-append}
 use Rattle.irq_base.specs.declared.entries.Actor.{Actor}
 use Rattle.irq_base.specs.declared.entries.Actor.TheVariants as actors
 use Rattle.irq_base.specs.declared.entries.Entry.{Entry}
-use Rattle.irq_base.specs.declared.entries.Entry.TheVariants as entries
+use Rattle.irq_base.specs.declared.entries.Entry.TheVariants as by
+use Rattle.irq_base.specs.declared.entries.CpuEntry.TheVariants as cpus
 use Rattle.irq_base.specs.declared.lines.FlowKind.{FlowKind}
 use Rattle.irq_base.specs.declared.lines.LineDef.{LineDef}
 use Rattle.irq_base.specs.declared.numbers.CpuNo.{CpuNo}
@@ -132,8 +133,8 @@ and_false true = refl
 and_false false = refl
 
 closing : (def : LineDef) (e : Entry) → closes def e ≡ true → cpu_of_handle (Some e) ≡ None
-closing def (entries.End cpu again unmask note) is = refl
-closing def (entries.Take cpu way answer) is = absurd (let h : false ≡ true = sym (and_false (is_eoi_flow def.flow)) ∙ is in not_both h)
+closing def (by.Cpu cpu (cpus.End again unmask note)) is = refl
+closing def (by.Cpu cpu (cpus.Take way answer)) is = absurd (let h : false ≡ true = sym (and_false (is_eoi_flow def.flow)) ∙ is in not_both h)
   where
     not_both : false ≡ true → ⊥
     not_both h = cc
@@ -309,7 +310,7 @@ module _ (wanted : LineDef → List Entry → Actor → Type 0) (lines : List Lo
               → (c : CpuNo) × (t : PostSeen) × (new.actor ≡ actors.Cpu c) × (slice_get new.posts i ≡ Some t)
               × (t.rests ≡ false) × IsInFlow t.pass.def c t.pass.knows
           by_tests true c is_h is_c =
-              let f = handle_cpu s.line.def.line e is_h in
+              let f = handle_cpu e is_h in
               its_at f.0 i (the_same i place (sym at ∙ flow_is true c is_h is_c))
               (sym (due_is_own s.line.def gains.history old.actor e gains.due) ∙ f.2)
               (flow_now true c is_h is_c ∙ f.1)

@@ -10,15 +10,17 @@ use Rattle.irq_base.specs.declared.entries.Entry.{Entry}
 use Rattle.irq_base.specs.declared.lines.LineDef.{LineDef}
 use Rattle.irq_laws.proofs.Chosen.{the_same}
 use Rattle.irq_model.specs.Due.{entries_by}
+use Rattle.irq_model.specs.Kinds.{same_actor}
+use Rattle.irq_steps.proofs.Same.{same_self_actor}
 use Rattle.board_def.specs.Rules.{has_driver}
 use Rattle.board_def.specs.Seen.{BoardSeen}
 use Rattle.board_play.specs.Kept.{IsUpTo}
 use Rattle.board_play.specs.Lines.{BoardLine}
 use Rattle.line_lock.specs.Knows.{BeginsWith, is_among, longer, without_of}
 use Rattle.line_lock.specs.Passes.{LockSeen, PassSeen}
-use Rattle.line_lock.specs.Placed.{same_actor, placed, placed_of}
+use Rattle.line_lock.specs.Placed.{placed, placed_of}
 use Rattle.line_lock.specs.declared.view.Known.{Known}
-use Rattle.line_lock.proofs.Actors.{same_self_actor, among_either, among_without}
+use Rattle.line_lock.proofs.Actors.{among_either, among_without}
 use Rattle.line_lock.proofs.Placing.{begins_self, begins_more}
 use Rattle.workers.specs.Fit.{IsPost, own_line, own_lines, IsManned, IsJob, works_on, actors_on}
 use Rattle.workers.specs.Gathers.{IsHome, AreHome, HasMetOne, HasMetNone, IsMet, seen_line, seen_lines, IsMetIn, IsBack, AreOut, Gathers}
@@ -134,8 +136,8 @@ module _ (board : BoardSeen) (lines : List LockSeen) (rest : List JobSeen) (j : 
       out_is j.actor ∙ ap (λ (b : Bool). cond b false (is_among j.actor q.knows.out)) (same_self_actor j.actor),
     )
 
-    own_placed : one.post.pass.knows.mine ≡ placed one.line.def.line j.actor p.knows.seen
-    own_placed = sym (ap (λ (o : Option Actor). placed_of one.line.def.line o p.knows.seen) (sym is_post.actor) ∙ one.met.own)
+    own_placed : one.post.pass.knows.mine ≡ placed j.actor p.knows.seen
+    own_placed = sym (ap (λ (o : Option Actor). placed_of o p.knows.seen) (sym is_post.actor) ∙ one.met.own)
 
   -- ---- who is out
 
@@ -203,7 +205,7 @@ module _ (board : BoardSeen) (lines : List LockSeen) (rest : List JobSeen) (j : 
       places : (k : ℕ) (p q : PassSeen) → slice_get old k ≡ Some q → HasMetOne lines j k q p ⊎ HasMetNone j k q p
           → entries_by r (reverse p.knows.seen) ≡ entries_by r (reverse q.knows.seen)
       places k p q at (inl one) = let was = back k q at in
-          same_places one.line.def.line r p.knows.seen q.knows.seen (one.met.settled (actors.Driver r) was.0 was.1)
+          same_places r p.knows.seen q.knows.seen (one.met.settled (actors.Driver r) was.0 was.1)
       places k p q at (inr none) = ap (λ (x : PassSeen). entries_by r (reverse x.knows.seen)) none.1
 
       alike : AreAlike r (seen_lines new) (seen_lines old)
@@ -242,8 +244,8 @@ module _ (board : BoardSeen) (lines : List LockSeen) (rest : List JobSeen) (j : 
           own_line one.post,
           at_map own_line j.posts k one.post (ap (λ (i : ℕ). slice_get j.posts i) (sym is) ∙ one.at_post),
           (home_of k p one.line at one.at_line).of_line.1 ∙ sym (is_post k p q one).of_line.1,
-          sym (own_are_seen one.line.def.line r p.knows.seen one.post.pass.knows.mine
-              (own_placed k p q one ∙ ap (λ (a : Actor). placed one.line.def.line a p.knows.seen) (sym its))),
+          sym (own_are_seen r p.knows.seen one.post.pass.knows.mine
+              (own_placed k p q one ∙ ap (λ (a : Actor). placed a p.knows.seen) (sym its))),
         )
 
     up_now : IsUpTo board.calls (seen_lines new) r j.at
@@ -315,8 +317,7 @@ module _ (board : BoardSeen) (lines : List LockSeen) (rest : List JobSeen) (j : 
           of_line = ap (λ (t : PostSeen). t.pass.def) (sym x.same)
               ∙ ((is_post (j.first + place) x.now x.before x.one).of_line.1 ∙ sym (line_def (j.first + place) x.now x.before x.at x.one));
           begins = subst (λ (t : PostSeen). BeginsWith x.now.knows.seen t.pass.knows.seen) x.same x.one.met.begins_other;
-          own = ap (λ (d : LineDef). placed d.line j.actor x.now.knows.seen) (line_def (j.first + place) x.now x.before x.at x.one)
-              ∙ (sym (own_placed (j.first + place) x.now x.before x.one) ∙ ap (λ (t : PostSeen). t.pass.knows.mine) x.same);
+          own = sym (own_placed (j.first + place) x.now x.before x.one) ∙ ap (λ (t : PostSeen). t.pass.knows.mine) x.same;
         },
         own_back (j.first + place) x.now x.before x.one (λ is. (g.out (j.first + place) x.before x.was).given j.actor is),
       )
@@ -340,10 +341,7 @@ module _ (board : BoardSeen) (lines : List LockSeen) (rest : List JobSeen) (j : 
     record {
       of_line = all.0.of_line ∙ sym (same_def k p q at was);
       begins = begins_more p.knows.seen q.knows.seen pass.knows.seen one.met.begins all.0.begins;
-      own = ap (λ (d : LineDef). placed d.line who p.knows.seen) (line_def k p q at one)
-          ∙ (one.met.settled who all.1.0 all.1.1
-          ∙ (ap (λ (d : LineDef). placed d.line who q.knows.seen) (sym (sym (same_def k p q at was) ∙ line_def k p q at one))
-          ∙ all.0.own));
+      own = one.met.settled who all.1.0 all.1.1 ∙ all.0.own;
     },
     (
       ap (λ (xs : List Actor). is_among who xs) (given_same k p q one) ∙ all.1.0,

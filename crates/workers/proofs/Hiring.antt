@@ -2,15 +2,19 @@
 use Rattle.std.proofs.Common.{◌≡◌, ℕ, suc, ◌+◌, ◌<◌, ◌≤◌, inl, inr, Bool, true, false, ◌&&◌, cond, nat_le, nat_lt}
 use Rattle.std.proofs.Common.{IsSomeAnd, Option, Some, None, List, [], ◌∷◌, ◌++◌, map, filter, take, length, get_or}
 use Rattle.std.proofs.Common.{slice_get, IsPermutation, refl, sym, ap, ◌∙◌, subst, arith}
+use Rattle.irq_base.specs.declared.devices.DeviceDef.{DeviceDef}
 use Rattle.irq_base.specs.declared.entries.Actor.{Actor}
 use Rattle.irq_base.specs.declared.entries.Actor.TheVariants as actors
 use Rattle.irq_base.specs.declared.entries.Entry.{Entry}
 use Rattle.irq_base.specs.declared.numbers.DriverNo.{DriverNo}
+use Rattle.irq_base.specs.declared.numbers.LineNo.{LineNo}
+use Rattle.irq_model.specs.Kinds.{same_actor}
 use Rattle.irq_model.specs.Due.{calls_by, due_call}
 use Rattle.irq_model.specs.Legal.{IsLegal}
 use Rattle.irq_model.specs.Rounds.{has_flow}
 use Rattle.irq_laws.proofs.Lists.{both_ways}
 use Rattle.irq_laws.proofs.Progress.{fresh}
+use Rattle.board_def.specs.Rules.{find_device}
 use Rattle.board_def.specs.Seen.{BoardSeen}
 use Rattle.board_def.specs.declared.rows.ScriptCall.{ScriptCall}
 use Rattle.board_play.specs.Current.{calls_on}
@@ -19,10 +23,10 @@ use Rattle.board_play.specs.Lines.{BoardLine}
 use Rattle.board_play.proofs.Counting.{completed, none_complete}
 use Rattle.line_lock.specs.Knows.{is_among}
 use Rattle.line_lock.specs.Passes.{LockSeen, PassSeen}
-use Rattle.line_lock.specs.Placed.{same_actor, placed}
+use Rattle.line_lock.specs.Placed.{placed}
 use Rattle.line_lock.specs.declared.view.Known.{Known}
 use Rattle.line_lock.specs.declared.view.Placed.{Placed}
-use Rattle.workers.specs.Fit.{IsPlaceOf, IsPost, ArePosted, own_past, own_line, own_lines, IsManned, IsJob, works_on}
+use Rattle.workers.specs.Fit.{IsPlaceOf, IsPlaceOfDevice, IsPost, ArePosted, own_past, own_line, own_lines, IsManned, IsJob, works_on}
 use Rattle.workers.specs.Fit.{actors_on, IsFirst, AreFirsts, workers_of, Fit}
 use Rattle.workers.specs.Forks.{CanFork, IsLeft, is_within, Forks, IsSpan, AreBoards, Hires}
 use Rattle.workers.specs.Grown.{IsNewJob, HaveSeenNothing, AreNew}
@@ -80,7 +84,7 @@ module _ (board : BoardSeen) (lines : List LockSeen) (who : Actor) (first end : 
         idle = fork.idle;
         actor = ap (λ (x : Known). x.actor) fork.knows ∙ ap (λ (a : Actor). Some a) (sym actor);
         legal = subst (λ (h : List Entry). IsLegal k.0.def h) (sym none) tt;
-        own = ap (λ (x : Known). x.mine) fork.knows ∙ ap (λ (h : List Entry). placed k.0.def.line j.actor h) (sym none);
+        own = ap (λ (x : Known). x.mine) fork.knows ∙ ap (λ (h : List Entry). placed j.actor h) (sym none);
         rests = λ h. both_ways s.rests h fork.rests;
       })
 
@@ -98,11 +102,11 @@ module _ (board : BoardSeen) (lines : List LockSeen) (who : Actor) (first end : 
   no_place : (i : ℕ) → None ≡ Some i → ⊥
   no_place i is = cc
 
-  manned : (j : JobSeen) → j.first ≡ first → j.posts ≡ posts → j.flow ≡ None → j.at ≡ 0 → (a : Actor) → IsSpan lines a first end → IsManned board lines j a
-  manned j from are none at (actors.Thread line dev) span = (
+  manned : (j : JobSeen) → j.first ≡ first → j.posts ≡ posts → j.flow ≡ None → j.at ≡ 0 → (a : Actor) → IsSpan board lines a first end → IsManned board lines j a
+  manned j from are none at (actors.Thread dev) span = (
     let n = f.count in let m = span.1 in let l = ap (λ (ss : List PostSeen). length ss) are in
         omega (arith, n, m, l),
-    subst (λ (k : ℕ). IsPlaceOf lines line (Some k)) (sym from) span.0,
+    subst (λ (k : ℕ). IsPlaceOfDevice board lines dev k) (sym from) span.0,
   )
   manned j from are none at (actors.Cpu c) span = (
     from ∙ span.0,
@@ -118,12 +122,12 @@ module _ (board : BoardSeen) (lines : List LockSeen) (who : Actor) (first end : 
     omega (arith, at),
   )
 
-  pub new_job : (j : JobSeen) → j.actor ≡ who → j.first ≡ first → j.posts ≡ posts → j.flow ≡ None → j.at ≡ 0 → IsSpan lines who first end
+  pub new_job : (j : JobSeen) → j.actor ≡ who → j.first ≡ first → j.posts ≡ posts → j.flow ≡ None → j.at ≡ 0 → IsSpan board lines who first end
       → HaveSeenNothing old → IsJob board lines j
   new_job j actor from are none at span nothing = record {
     posted = posted j actor from are nothing;
     manned
-        = manned j from are none at j.actor (subst (λ (a : Actor). IsSpan lines a first end) (sym actor) span);
+        = manned j from are none at j.actor (subst (λ (a : Actor). IsSpan board lines a first end) (sym actor) span);
   }
 
   -- ---- the first passes
@@ -197,15 +201,20 @@ nowhere_on who k (j ∷ js) not = by_tests (works_on k j) (same_actor who j.acto
     by_tests false false not deeper is = deeper not
 
 -- the places of an actor's lines are places of lines
-pub span_range : (lines : List LockSeen) (a : Actor) (first end : ℕ) → IsSpan lines a first end → (first ≤ end) × (end ≤ length lines)
-span_range lines (actors.Thread line dev) first end span =
-    (let e = span.1 in omega (arith, e), let e = span.1 in let w = below (slice_get lines first) refl span.0 in omega (arith, e, w))
+pub span_range : (board : BoardSeen) (lines : List LockSeen) (a : Actor) (first end : ℕ) → IsSpan board lines a first end
+    → (first ≤ end) × (end ≤ length lines)
+span_range board lines (actors.Thread dev) first end span =
+    (let e = span.1 in omega (arith, e), let e = span.1 in let w = there (find_device board.devices dev) span.0 in omega (arith, e, w))
   where
-    below : (o : Option LockSeen) → slice_get lines first ≡ o → IsSomeAnd o (λ l. l.def.line ≡ line) → first < length lines
-    below None at is = absurd is
-    below (Some l) at is = within lines first l at
-span_range lines (actors.Cpu c) first end span = (let z = span.0 in omega (arith, z), let e = span.1 in omega (arith, e))
-span_range lines (actors.Driver r) first end span = (let z = span.0 in omega (arith, z), let e = span.1 in omega (arith, e))
+    below : (line : LineNo) (o : Option LockSeen) → slice_get lines first ≡ o → IsSomeAnd o (λ l. l.def.line ≡ line) → first < length lines
+    below line None at is = absurd is
+    below line (Some l) at is = within lines first l at
+
+    there : (o : Option DeviceDef) → IsSomeAnd o (λ x. IsPlaceOf lines x.line (Some first)) → first < length lines
+    there None is = absurd is
+    there (Some x) is = below x.line (slice_get lines first) refl is
+span_range board lines (actors.Cpu c) first end span = (let z = span.0 in omega (arith, z), let e = span.1 in omega (arith, e))
+span_range board lines (actors.Driver r) first end span = (let z = span.0 in omega (arith, z), let e = span.1 in omega (arith, e))
 
 -- the job of an actor that joined is new, and so are the first passes
 module _ (lines : List LockSeen) (who : Actor) (first end : ℕ) (old new : List PassSeen) (posts : List PostSeen)
@@ -288,7 +297,7 @@ can_give_at lines here s firsts who same are is new k p at =
 pub hires_one : (lines here : List LockSeen) (s : JobsSeen) (board : BoardSeen) (jobs : List JobSeen)
     (firsts new : List PassSeen) (who : Actor) (first end : ℕ) (posts : List PostSeen)
     → here ≡ lines → record { board = board; jobs = jobs; firsts = firsts } ≡ s → AreFirsts lines s.jobs s.firsts
-    → IsSpan lines who first end → Forks here first end who firsts new posts
+    → IsSpan s.board lines who first end → Forks here first end who firsts new posts
     → (after : List JobSeen) → after ≡ jobs ++ record { actor = who; first = first; posts = posts; flow = None; at = 0; end = part_ends.Idle } ∷ []
     → Hires lines who s (record { board = board; jobs = after; firsts = new })
 hires_one lines here s board jobs firsts new who first end posts same is are span f after grown =

@@ -5,15 +5,15 @@ use Rattle.irq_base.specs.Who.{actor_of}
 use Rattle.irq_base.specs.declared.entries.Actor.{Actor}
 use Rattle.irq_base.specs.declared.entries.Actor.TheVariants as actors
 use Rattle.irq_base.specs.declared.entries.Entry.{Entry}
-use Rattle.irq_base.specs.declared.entries.Entry.TheVariants as entries
+use Rattle.irq_base.specs.declared.entries.Entry.TheVariants as by
+use Rattle.irq_base.specs.declared.entries.CpuEntry.TheVariants as cpus
 use Rattle.irq_base.specs.declared.entries.TakeAnswer.TheVariants as takes
 use Rattle.irq_base.specs.declared.lines.LineDef.{LineDef}
 use Rattle.irq_base.specs.declared.numbers.CpuNo.{CpuNo}
-use Rattle.irq_base.specs.declared.numbers.LineNo.{LineNo}
 use Rattle.irq_laws.proofs.ImpliesFlow.{take_due, end_due}
 use Rattle.irq_laws.proofs.Lists.{both_ways}
 use Rattle.irq_laws.proofs.OwnLaws.{flow_moves}
-use Rattle.irq_model.specs.Kinds.{same_cpu, is_handle}
+use Rattle.irq_model.specs.Kinds.{same_cpu, is_by, is_handle}
 use Rattle.irq_model.specs.Legal.{IsDue, IsLegalPast, IsLegal}
 use Rattle.irq_model.specs.Lines.{is_eoi_flow}
 use Rattle.irq_model.specs.Links.{is_disabled, is_none_linked}
@@ -21,19 +21,19 @@ use Rattle.irq_model.specs.Next.{next}
 use Rattle.irq_model.specs.Places.{last_of}
 use Rattle.irq_model.specs.Rounds.{closes, cpu_of_handle, flow, has_flow, is_cpu}
 use Rattle.irq_steps.proofs.Same.{cpu_from_same, same_self_cpu}
-use Rattle.line_lock.specs.Placed.{is_by, placed, placed_from}
+use Rattle.line_lock.specs.Placed.{placed, placed_from}
 use Rattle.line_lock.specs.declared.view.Placed.{Placed}
 use Rattle.workers.specs.Fit.{own_past}
 use Rattle.workers.proofs.Own.{filter-reverse}
 
 -- the actor's entries, by their places
-by_actor : (line : LineNo) (who : Actor) (n : ℕ) (h : List Entry) → map (λ (x : Placed). x.entry) (placed_from line who n h) ≡ filter (is_by line who) h
-by_actor line who n [] = refl
-by_actor line who n (e ∷ h) = by_test (is_by line who e) (by_actor line who (suc n) h)
+by_actor : (who : Actor) (n : ℕ) (h : List Entry) → map (λ (x : Placed). x.entry) (placed_from who n h) ≡ filter (is_by who) h
+by_actor who n [] = refl
+by_actor who n (e ∷ h) = by_test (is_by who e) (by_actor who (suc n) h)
   where
-    by_test : (b : Bool) → map (λ (x : Placed). x.entry) (placed_from line who (suc n) h) ≡ filter (is_by line who) h
-        → map (λ (x : Placed). x.entry) (cond b (record { place = n; entry = e } ∷ placed_from line who (suc n) h)
-        (placed_from line who (suc n) h)) ≡ cond b (e ∷ filter (is_by line who) h) (filter (is_by line who) h)
+    by_test : (b : Bool) → map (λ (x : Placed). x.entry) (placed_from who (suc n) h) ≡ filter (is_by who) h
+        → map (λ (x : Placed). x.entry) (cond b (record { place = n; entry = e } ∷ placed_from who (suc n) h)
+        (placed_from who (suc n) h)) ≡ cond b (e ∷ filter (is_by who) h) (filter (is_by who) h)
     by_test true deeper = ap (λ (es : List Entry). e ∷ es) deeper
     by_test false deeper = deeper
 
@@ -48,28 +48,28 @@ and_false true = refl
 and_false false = refl
 
 others_stay : (def : LineDef) (c : CpuNo) (e : Entry) (past : List Entry) → IsDue def e past → flow def past ≡ Some c
-    → is_by def.line (actors.Cpu c) e ≡ false → (is_handle e || closes def e) ≡ false
-others_stay def c (entries.Take cpu way takes.Handle) past due is other =
+    → is_by (actors.Cpu c) e ≡ false → (is_handle e || closes def e) ≡ false
+others_stay def c (by.Cpu cpu (cpus.Take way takes.Handle)) past due is other =
     absurd (busy (has_flow def past) (is_disabled past || is_none_linked past) (ap (λ (o : Option CpuNo). is_some o) is)
     (take_due def cpu way takes.Handle past due).answer_is)
-others_stay def c (entries.End cpu again unmask note) past due is other =
+others_stay def c (by.Cpu cpu (cpus.End again unmask note)) past due is other =
     let same : cpu ≡ c = cpu_from_same cpu c (ap (is_cpu cpu) (sym is) ∙ (end_due def cpu again unmask note past due).of_flow) in
     both_ways (same_cpu c cpu) (subst (λ (x : CpuNo). same_cpu c x ≡ true) (sym same) (same_self_cpu c)) other
 others_stay def c e past due is other = and_false (is_eoi_flow def.flow)
 
 -- a processor's own entries tell its flow
 own_flow : (def : LineDef) (c : CpuNo) (past : List Entry) → IsLegalPast def past
-    → flow def (filter (is_by def.line (actors.Cpu c)) past) ≡ Some c → flow def past ≡ Some c
+    → flow def (filter (is_by (actors.Cpu c)) past) ≡ Some c → flow def past ≡ Some c
 own_flow def c [] legal is = is
-own_flow def c (e ∷ past) legal is = by_tests (is_by def.line (actors.Cpu c) e) (is_handle e || closes def e) refl refl is (own_flow def c past legal.1)
+own_flow def c (e ∷ past) legal is = by_tests (is_by (actors.Cpu c) e) (is_handle e || closes def e) refl refl is (own_flow def c past legal.1)
   where
     own : List Entry
-    own = filter (is_by def.line (actors.Cpu c)) past
+    own = filter (is_by (actors.Cpu c)) past
 
     last : List Entry → Option Entry
     last es = last_of (λ f. is_handle f || closes def f) es
 
-    by_tests : (b t : Bool) → is_by def.line (actors.Cpu c) e ≡ b → (is_handle e || closes def e) ≡ t
+    by_tests : (b t : Bool) → is_by (actors.Cpu c) e ≡ b → (is_handle e || closes def e) ≡ t
         → flow def (cond b (e ∷ own) own) ≡ Some c → (flow def own ≡ Some c → flow def past ≡ Some c)
         → cpu_of_handle (cond t (Some e) (last past)) ≡ Some c
     by_tests true true mine marks now deeper = ap (λ (t : Bool). cpu_of_handle (cond t (Some e) (last own))) (sym marks) ∙ now
@@ -79,12 +79,12 @@ own_flow def c (e ∷ past) legal is = by_tests (is_by def.line (actors.Cpu c) e
 
 -- within a flow the processor has an entry due
 pub moves_within : (def : LineDef) (c : CpuNo) (h : List Entry) (mine : List Placed) → IsLegal def h
-    → mine ≡ placed def.line (actors.Cpu c) h → flow def (own_past mine) ≡ Some c → next def h (actors.Cpu c) ≡ None → ⊥
+    → mine ≡ placed (actors.Cpu c) h → flow def (own_past mine) ≡ Some c → next def h (actors.Cpu c) ≡ None → ⊥
 moves_within def c h mine legal are own none =
     nothing (next def h (actors.Cpu c)) (flow_moves def h c (own_flow def c (reverse h) legal (ap (λ (es : List Entry). flow def es) (sym same) ∙ own))) none
   where
-    same : own_past mine ≡ filter (is_by def.line (actors.Cpu c)) (reverse h)
-    same = ap own_past are ∙ (ap reverse (by_actor def.line (actors.Cpu c) 0 h) ∙ sym (filter-reverse (is_by def.line (actors.Cpu c)) h))
+    same : own_past mine ≡ filter (is_by (actors.Cpu c)) (reverse h)
+    same = ap own_past are ∙ (ap reverse (by_actor (actors.Cpu c) 0 h) ∙ sym (filter-reverse (is_by (actors.Cpu c)) h))
 
     nothing : (o : Option Entry) → IsSome o → o ≡ None → ⊥
     nothing None some is = cc
@@ -99,6 +99,6 @@ flow_by def e past h c is_h is_c =
     ∙ ap (λ (b : Bool). cpu_of_handle (cond (h || b) (Some e) (last_of (λ f. is_handle f || closes def f) past))) is_c
 
 -- a take that is handled is its processor's
-pub handle_cpu : (line : LineNo) (e : Entry) → is_handle e ≡ true → (c : CpuNo) × (cpu_of_handle (Some e) ≡ Some c) × (actor_of line e ≡ actors.Cpu c)
-handle_cpu line (entries.Take cpu way takes.Handle) is = (cpu, refl, refl)
-handle_cpu line e is = absurd (let n : false ≡ true = is in let m : ⊥ = cc in m)
+pub handle_cpu : (e : Entry) → is_handle e ≡ true → (c : CpuNo) × (cpu_of_handle (Some e) ≡ Some c) × (actor_of e ≡ actors.Cpu c)
+handle_cpu (by.Cpu cpu (cpus.Take way takes.Handle)) is = (cpu, refl, refl)
+handle_cpu e is = absurd (let n : false ≡ true = is in let m : ⊥ = cc in m)

@@ -14,20 +14,18 @@ use Rattle.irq_base.specs.declared.entries.Actor.TheVariants as actors
 use Rattle.irq_base.specs.declared.numbers.DevNo.{DevNo}
 use Rattle.irq_base.specs.declared.numbers.DriverNo.{DriverNo}
 use Rattle.irq_base.specs.declared.numbers.LineNo.{LineNo}
-use Rattle.irq_model.specs.Kinds.{same_line}
-use Rattle.irq_steps.proofs.Same.{line_from_same}
+use Rattle.irq_model.specs.Kinds.{same_line, same_actor}
+use Rattle.irq_steps.proofs.Same.{line_from_same, actor_from_same, same_self_actor}
 use Rattle.irq_laws.proofs.Chosen.{the_same}
 use Rattle.irq_laws.proofs.Lists.{both_ways}
 use Rattle.play_laws.specs.Actors.{count_up}
-use Rattle.board_def.proofs.Rising.{Rises, rises_on, head_of}
-use Rattle.board_def.specs.Rules.{IsBoard}
+use Rattle.board_def.proofs.Rising.{Rises, rises_on, head_of, device_at}
+use Rattle.board_def.specs.Rules.{IsBoard, find_device}
 use Rattle.board_def.specs.Seen.{BoardSeen}
 use Rattle.board_def.specs.declared.rows.ScriptCall.{ScriptCall}
 use Rattle.board_play.specs.Order.{cpus_of, drivers_of}
-use Rattle.line_lock.proofs.Actors.{actor_from_same, same_self_actor}
 use Rattle.line_lock.specs.Knows.{is_among}
 use Rattle.line_lock.specs.Passes.{LockSeen}
-use Rattle.line_lock.specs.Placed.{same_actor}
 use Rattle.workers.specs.Fit.{IsPlaceOf, has_worker, workers_of}
 use Rattle.workers.specs.Forks.{IsThere}
 use Rattle.workers.proofs.Lists.{there_or, within}
@@ -35,7 +33,7 @@ use Rattle.workers.proofs.Lists.{there_or, within}
 -- ---- an order
 
 abbrev rank : Actor → ℕ
-rank (actors.Thread line dev) = dev.0
+rank (actors.Thread dev) = dev.0
 rank (actors.Cpu cpu) = 70000 + cpu.0
 rank (actors.Driver driver) = 80000 + driver.0
 
@@ -110,7 +108,7 @@ not_before (x ∷ xs) (suc i) a each at = ap (λ (t : Bool). cond t true (is_amo
 -- ---- threads
 
 abbrev thread_of : DeviceDef → Actor
-thread_of x = actors.Thread x.line x.dev
+thread_of x = actors.Thread x.dev
 
 abbrev threads_on : List LockSeen → List DeviceDef → List Actor
 threads_on lines xs = map thread_of (filter (has_worker lines) xs)
@@ -226,45 +224,56 @@ line_there (l ∷ ls) number any = elim (or_cases (same_line number l.def.line) 
   | inr later ↦ let d = line_there ls number later in (suc d.0, d.1)
 ]
 
-abbrev EachThere : List LockSeen → List Actor → Type 0
-EachThere lines xs = (i : ℕ) (a : Actor) → slice_get xs i ≡ Some a → IsThere lines a
+module _ (board : BoardSeen) (lines : List LockSeen) where
+  abbrev EachThere : List Actor → Type 0
+  EachThere xs = (i : ℕ) (a : Actor) → slice_get xs i ≡ Some a → IsThere board lines a
 
-first_there : (lines : List LockSeen) (x : Actor) (xs : List Actor) → IsThere lines x → EachThere lines xs → EachThere lines (x ∷ xs)
-first_there lines x xs first rest zero a at = subst (λ (b : Actor). IsThere lines b) (the_same x a at) first
-first_there lines x xs first rest (suc i) a at = rest i a at
+  first_there : (x : Actor) (xs : List Actor) → IsThere board lines x → EachThere xs → EachThere (x ∷ xs)
+  first_there x xs first rest zero a at = subst (λ (b : Actor). IsThere board lines b) (the_same x a at) first
+  first_there x xs first rest (suc i) a at = rest i a at
 
-both_there : (lines : List LockSeen) (xs ys : List Actor) → EachThere lines xs → EachThere lines ys → EachThere lines (xs ++ ys)
-both_there lines [] ys a b = b
-both_there lines (x ∷ xs) ys a b = first_there lines x (xs ++ ys) (a 0 x refl) (both_there lines xs ys (λ i y at. a (suc i) y at) b)
+  both_there : (xs ys : List Actor) → EachThere xs → EachThere ys → EachThere (xs ++ ys)
+  both_there [] ys a b = b
+  both_there (x ∷ xs) ys a b = first_there x (xs ++ ys) (a 0 x refl) (both_there xs ys (λ i y at. a (suc i) y at) b)
 
-threads_there : (lines : List LockSeen) (xs : List DeviceDef) → EachThere lines (threads_on lines xs)
-threads_there lines [] = λ i a at. cc
-threads_there lines (x ∷ xs) = by_test (has_worker lines x) refl (threads_there lines xs)
-  where
-    by_test : (b : Bool) → has_worker lines x ≡ b → EachThere lines (threads_on lines xs)
-        → EachThere lines (map thread_of (cond b (x ∷ filter (has_worker lines) xs) (filter (has_worker lines) xs)))
-    by_test true is deeper = first_there lines (thread_of x) (threads_on lines xs) (line_there lines x.line (and_parts (has_thread x.kind) _ is).1) deeper
-    by_test false is deeper = deeper
+  -- the board's devices are found by their numbers
+  abbrev AreFound : List DeviceDef → Type 0
+  AreFound xs = (i : ℕ) (x : DeviceDef) → slice_get xs i ≡ Some x → find_device board.devices x.dev ≡ Some x
 
-cpus_there : (lines : List LockSeen) (ns : List ℕ) → EachThere lines (map cpu_of ns)
-cpus_there lines [] = λ i a at. cc
-cpus_there lines (n ∷ ns) = first_there lines (cpu_of n) (map cpu_of ns) tt (cpus_there lines ns)
+  thread_there : (x : DeviceDef) → find_device board.devices x.dev ≡ Some x → has_worker lines x ≡ true → IsThere board lines (thread_of x)
+  thread_there x found has =
+      let d = line_there lines x.line (and_parts (has_thread x.kind) _ has).1 in
+      (d.0, subst (λ (o : Option DeviceDef). IsSomeAnd o (λ y. IsPlaceOf lines y.line (Some d.0))) (sym found) d.1)
 
-drivers_there : (lines : List LockSeen) (rs : List DriverNo) → EachThere lines (map driver_of rs)
-drivers_there lines [] = λ i a at. cc
-drivers_there lines (r ∷ rs) = first_there lines (driver_of r) (map driver_of rs) tt (drivers_there lines rs)
+  threads_there : (xs : List DeviceDef) → AreFound xs → EachThere (threads_on lines xs)
+  threads_there [] found = λ i a at. cc
+  threads_there (x ∷ xs) found = by_test (has_worker lines x) refl (threads_there xs (λ i y at. found (suc i) y at))
+    where
+      by_test : (b : Bool) → has_worker lines x ≡ b → EachThere (threads_on lines xs)
+          → EachThere (map thread_of (cond b (x ∷ filter (has_worker lines) xs) (filter (has_worker lines) xs)))
+      by_test true has deeper = first_there (thread_of x) (threads_on lines xs) (thread_there x (found 0 x refl) has) deeper
+      by_test false has deeper = deeper
 
-all_there : (board : BoardSeen) (lines : List LockSeen) → EachThere lines (workers_of board lines)
-all_there board lines =
-    both_there lines (threads_on lines board.devices) (cpus_of board ++ drivers_of board) (threads_there lines board.devices)
-    (both_there lines (cpus_of board) (drivers_of board) (cpus_there lines (count_up 0 board.cpus)) (drivers_there lines board.drivers))
+  cpus_there : (ns : List ℕ) → EachThere (map cpu_of ns)
+  cpus_there [] = λ i a at. cc
+  cpus_there (n ∷ ns) = first_there (cpu_of n) (map cpu_of ns) tt (cpus_there ns)
 
-pub is_there : (board : BoardSeen) (lines : List LockSeen) (crew : List Actor) → IsPermutation (workers_of board lines) crew → EachThere lines crew
-is_there board lines crew dealt i a at =
-    let all : All (IsThere lines) crew = All-permutation (IsThere lines) (workers_of board lines) crew dealt
-    (λ k d less. all_there board lines k (get_or (workers_of board lines) k d)
-    (there_or (workers_of board lines) k d less)) in
-    subst (λ (x : Actor). IsThere lines x) (the_same (get_or crew i a) a (sym (there_or crew i a (within crew i a at)) ∙ at)) (all i a (within crew i a at))
+  drivers_there : (rs : List DriverNo) → EachThere (map driver_of rs)
+  drivers_there [] = λ i a at. cc
+  drivers_there (r ∷ rs) = first_there (driver_of r) (map driver_of rs) tt (drivers_there rs)
+
+  all_there : IsBoard board → EachThere (workers_of board lines)
+  all_there is =
+      both_there (threads_on lines board.devices) (cpus_of board ++ drivers_of board)
+      (threads_there board.devices (λ i x at. device_at board.devices i x (λ k y at_y. (is.devices k y at_y).rises) at))
+      (both_there (cpus_of board) (drivers_of board) (cpus_there (count_up 0 board.cpus)) (drivers_there board.drivers))
+
+  pub is_there : IsBoard board → (crew : List Actor) → IsPermutation (workers_of board lines) crew → EachThere crew
+  is_there is crew dealt i a at =
+      let all : All (IsThere board lines) crew = All-permutation (IsThere board lines) (workers_of board lines) crew dealt
+      (λ k d less. all_there is k (get_or (workers_of board lines) k d)
+      (there_or (workers_of board lines) k d less)) in
+      subst (λ (x : Actor). IsThere board lines x) (the_same (get_or crew i a) a (sym (there_or crew i a (within crew i a at)) ∙ at)) (all i a (within crew i a at))
 
 -- ---- how the crew is made
 
@@ -374,9 +383,6 @@ place_says lines number (Some k) is = any lines k is
         or_later true b h = refl
         or_later false b h = h
 
-pub not_there : (lines : List LockSeen) (number : LineNo) (dev : DevNo) → IsThere lines (actors.Thread number dev) → IsPlaceOf lines number None → ⊥
-not_there lines number dev is none = both_ways (list_any (λ (l : LockSeen). same_line number l.def.line) lines) (place_says lines number (Some is.0) is.1) none
-
 -- a line that is there isn't nowhere
 pub not_placed : (lines : List LockSeen) (number : LineNo) (k : ℕ) (l : LockSeen) → slice_get lines k ≡ Some l
     → l.def.line ≡ number → IsPlaceOf lines number None → ⊥
@@ -393,3 +399,13 @@ read_here calls k at default d P here less same is =
 
 pub not_nowhere : (lines : List LockSeen) (number : LineNo) (k : ℕ) → IsPlaceOf lines number (Some k) → IsPlaceOf lines number None → ⊥
 not_nowhere lines number k is none = both_ways (list_any (λ (l : LockSeen). same_line number l.def.line) lines) (place_says lines number (Some k) is) none
+
+-- the line of a device that is there isn't nowhere
+pub not_there : (board : BoardSeen) (lines : List LockSeen) (dev : DevNo) (x : DeviceDef) → IsThere board lines (actors.Thread dev)
+    → find_device board.devices dev ≡ Some x → IsPlaceOf lines x.line None → ⊥
+not_there board lines dev x is found = not_nowhere lines x.line is.0
+    (subst (λ (o : Option DeviceDef). IsSomeAnd o (λ y. IsPlaceOf lines y.line (Some is.0))) found is.1)
+
+pub not_found : (board : BoardSeen) (lines : List LockSeen) (dev : DevNo) → IsThere board lines (actors.Thread dev)
+    → find_device board.devices dev ≡ None → ⊥
+not_found board lines dev is none = subst (λ (o : Option DeviceDef). IsSomeAnd o (λ y. IsPlaceOf lines y.line (Some is.0))) none is.1

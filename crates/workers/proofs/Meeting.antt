@@ -88,7 +88,7 @@ module _ {lines : List LockSeen} {j : JobSeen} {old mid : List PassSeen} {left b
           either : (i : ℕ) → length before ≤ i → (i ≡ length before) ⊎ (length before < i)
           either i from = grind arith
 
-      pub met_next : (new : PassSeen) → IsPassOf l new → new.turn ≡ false → Meets l.def.line p.knows s.pass.knows new.knows
+      pub met_next : (new : PassSeen) → IsPassOf l new → new.turn ≡ false → Meets p.knows s.pass.knows new.knows
           → IsMeeting lines j old (set mid place new) before
       met_next new of_line idle met =
           record {
@@ -132,7 +132,7 @@ module _ {lines : List LockSeen} {j : JobSeen} {old mid : List PassSeen} {left b
                       at_line = ap (λ (i : ℕ). slice_get lines i) here.0 ∙ line_here;
                       at_post = at_post;
                       is = here.0 ∙ t.place_is;
-                      met = subst (λ (x : PassSeen). Meets l.def.line p.knows s.pass.knows x.knows) (sym here.1) met;
+                      met = subst (λ (x : PassSeen). Meets p.knows s.pass.knows x.knows) (sym here.1) met;
                     },
                     (let e = here.0 in let c = t.place_is in omega (arith, e, c)),
                   ),

@@ -8,16 +8,14 @@ use Rattle.irq_base.specs.declared.entries.Actor.TheVariants as actors
 use Rattle.irq_base.specs.declared.entries.Entry.{Entry}
 use Rattle.irq_base.specs.declared.lines.LineDef.{LineDef}
 use Rattle.irq_base.specs.declared.numbers.DriverNo.{DriverNo}
-use Rattle.irq_base.specs.declared.numbers.LineNo.{LineNo}
 use Rattle.irq_laws.specs.Kept.{complete}
 use Rattle.irq_model.specs.Due.{calls_by, entries_by, due_of}
-use Rattle.irq_model.specs.Kinds.{is_driver, is_by_driver}
+use Rattle.irq_model.specs.Kinds.{same_actor, is_by, is_driver, is_by_driver}
 use Rattle.board_def.specs.declared.rows.ScriptCall.{ScriptCall}
 use Rattle.board_play.specs.Current.{calls_on}
 use Rattle.board_play.specs.Kept.{IsCallOn, IsUpTo}
 use Rattle.board_play.specs.Lines.{BoardLine}
-use Rattle.board_play.proofs.Moving.{by_driver_is}
-use Rattle.line_lock.specs.Placed.{same_actor, is_by, placed, placed_from}
+use Rattle.line_lock.specs.Placed.{placed, placed_from}
 use Rattle.line_lock.specs.declared.view.Placed.{Placed}
 use Rattle.workers.specs.Fit.{own_past}
 use Rattle.workers.proofs.Manning.{filter_more}
@@ -49,21 +47,21 @@ filter_twice p (x ∷ xs) = by_test (p x) refl (filter_twice p xs)
     by_test false is deeper = deeper
 
 same_driver_actor : (r : DriverNo) (a : Actor) → same_actor (actors.Driver r) a ≡ is_driver r a
-same_driver_actor r (actors.Thread l d) = refl
+same_driver_actor r (actors.Thread d) = refl
 same_driver_actor r (actors.Cpu c) = refl
 same_driver_actor r (actors.Driver s) = refl
 
 -- the driver's entries, by their places
-pub by_places : (line : LineNo) (r : DriverNo) (n : ℕ) (h : List Entry)
-    → map (λ (x : Placed). x.entry) (placed_from line (actors.Driver r) n h) ≡ filter (is_by_driver r) h
-by_places line r n [] = refl
-by_places line r n (e ∷ h) =
-    by_test (is_by line (actors.Driver r) e) (is_by_driver r e)
-    (same_driver_actor r (actor_of line e) ∙ sym (by_driver_is line r e)) (by_places line r (suc n) h)
+pub by_places : (r : DriverNo) (n : ℕ) (h : List Entry)
+    → map (λ (x : Placed). x.entry) (placed_from (actors.Driver r) n h) ≡ filter (is_by_driver r) h
+by_places r n [] = refl
+by_places r n (e ∷ h) =
+    by_test (is_by (actors.Driver r) e) (is_by_driver r e)
+    (same_driver_actor r (actor_of e)) (by_places r (suc n) h)
   where
-    by_test : (b d : Bool) → b ≡ d → map (λ (x : Placed). x.entry) (placed_from line (actors.Driver r) (suc n) h) ≡ filter (is_by_driver r) h
+    by_test : (b d : Bool) → b ≡ d → map (λ (x : Placed). x.entry) (placed_from (actors.Driver r) (suc n) h) ≡ filter (is_by_driver r) h
         → map (λ (x : Placed). x.entry) (cond b (record { place = n; entry = e }
-        ∷ placed_from line (actors.Driver r) (suc n) h) (placed_from line (actors.Driver r) (suc n) h))
+        ∷ placed_from (actors.Driver r) (suc n) h) (placed_from (actors.Driver r) (suc n) h))
         ≡ cond d (e ∷ filter (is_by_driver r) h) (filter (is_by_driver r) h)
     by_test true true is deeper = ap (λ (es : List Entry). e ∷ es) deeper
     by_test false false is deeper = deeper
@@ -74,18 +72,18 @@ pub entries_seen : (r : DriverNo) (h : List Entry) → entries_by r (reverse h) 
 entries_seen r h = ap reverse (filter-reverse (is_by_driver r) h) ∙ reverse-reverse (filter (is_by_driver r) h)
 
 -- what is the driver's own are its entries in what is seen
-pub own_are_seen : (line : LineNo) (r : DriverNo) (h : List Entry) (mine : List Placed)
-    → mine ≡ placed line (actors.Driver r) h → entries_by r (own_past mine) ≡ entries_by r (reverse h)
-own_are_seen line r h mine is =
+pub own_are_seen : (r : DriverNo) (h : List Entry) (mine : List Placed)
+    → mine ≡ placed (actors.Driver r) h → entries_by r (own_past mine) ≡ entries_by r (reverse h)
+own_are_seen r h mine is =
     entries_seen r (map (λ (x : Placed). x.entry) mine)
-    ∙ (ap (filter (is_by_driver r)) (ap (map (λ (x : Placed). x.entry)) is ∙ by_places line r 0 h) ∙ (filter_twice (is_by_driver r) h ∙ sym (entries_seen r h)))
+    ∙ (ap (filter (is_by_driver r)) (ap (map (λ (x : Placed). x.entry)) is ∙ by_places r 0 h) ∙ (filter_twice (is_by_driver r) h ∙ sym (entries_seen r h)))
 
 -- if its places are the same, so are its entries
-pub same_places : (line : LineNo) (r : DriverNo) (h k : List Entry)
-    → placed line (actors.Driver r) h ≡ placed line (actors.Driver r) k
+pub same_places : (r : DriverNo) (h k : List Entry)
+    → placed (actors.Driver r) h ≡ placed (actors.Driver r) k
     → entries_by r (reverse h) ≡ entries_by r (reverse k)
-same_places line r h k same =
-    entries_seen r h ∙ (sym (by_places line r 0 h) ∙ (ap (map (λ (x : Placed). x.entry)) same ∙ (by_places line r 0 k ∙ sym (entries_seen r k))))
+same_places r h k same =
+    entries_seen r h ∙ (sym (by_places r 0 h) ∙ (ap (map (λ (x : Placed). x.entry)) same ∙ (by_places r 0 k ∙ sym (entries_seen r k))))
 
 -- ---- scripts look at the driver's entries alone
 

@@ -30,5 +30,5 @@ own_made lines s i place j t r fit at_job at_post driver = by_line (slice_get li
         entries : entries_by r (reverse t.pass.knows.seen) ≡ map (λ (x : Placed). x.entry) t.pass.knows.mine
         entries =
             entries_seen r t.pass.knows.seen
-            ∙ (sym (by_places l.def.line r 0 t.pass.knows.seen)
-            ∙ ap (map (λ (x : Placed). x.entry)) (sym (is.own ∙ ap (λ (a : Actor). placed l.def.line a t.pass.knows.seen) driver)))
+            ∙ (sym (by_places r 0 t.pass.knows.seen)
+            ∙ ap (map (λ (x : Placed). x.entry)) (sym (is.own ∙ ap (λ (a : Actor). placed a t.pass.knows.seen) driver)))

@@ -68,14 +68,14 @@ module _ (wanted : LineDef → List Entry → Actor → Type 0) (board : BoardSe
     grew = k.grew;
   }
 
-  pub thread_attempted : (line : LineNo) (dev : DevNo) → old.actor ≡ actors.Thread line dev
+  pub thread_attempted : (dev : DevNo) → old.actor ≡ actors.Thread dev
       → StepsPost wanted lines 0 attempt old new → AttemptsJob wanted board lines attempt old new
-  thread_attempted line dev is s =
+  thread_attempted dev is s =
       record {
-        works = works k (actors.Thread line dev) is (
+        works = works k (actors.Thread dev) is (
           let l = k.as_many in let o = m.0 in
               omega (arith, l, o),
-          subst (λ (n : ℕ). IsPlaceOf lines line (Some n)) (sym k.first) m.1,
+          subst (λ (n : ℕ). IsPlaceOfDevice board lines dev n) (sym k.first) m.1,
         );
         came = comes wanted board new attempt rest (refused_is_so wanted lines 0 attempt old new s);
         room = room_after wanted lines 0 attempt old new job.posted s;
@@ -84,13 +84,13 @@ module _ (wanted : LineDef → List Entry → Actor → Type 0) (board : BoardSe
       k : KeepsPosts lines old new
       k = keeps_posts wanted lines 0 attempt old new job.posted s
 
-      m : IsManned board lines old (actors.Thread line dev)
-      m = manned_as (actors.Thread line dev) is
+      m : IsManned board lines old (actors.Thread dev)
+      m = manned_as (actors.Thread dev) is
 
       rest : attempt ≡ attempts.NotYet → IsAtRest board new new.actor
       rest not = subst (λ (a : Actor). IsAtRest board new a) (sym (k.actor ∙ is)) each
         where
-          each : (i : ℕ) (t : PostSeen) → slice_get new.posts i ≡ Some t → IsIdle t.pass.def (actors.Thread line dev) t.pass.knows
+          each : (i : ℕ) (t : PostSeen) → slice_get new.posts i ≡ Some t → IsIdle t.pass.def (actors.Thread dev) t.pass.knows
           each i t at = elim (post_now wanted lines 0 attempt old new s i t at) [
             | inl here ↦
                 subst (λ (a : Actor). IsIdle t.pass.def a t.pass.knows) (k.actor ∙ is)
@@ -150,12 +150,12 @@ works_more board lines a b c v w =
 
 module _ (board : BoardSeen) (lines : List LockSeen) (now : JobSeen) (end : PartEnd) where
   manned_ended : (a : Actor) → IsManned board lines now a → IsManned board lines (record now { end = end }) a
-  manned_ended (actors.Thread line dev) m = m
+  manned_ended (actors.Thread dev) m = m
   manned_ended (actors.Cpu c) m = m
   manned_ended (actors.Driver r) m = m
 
   rest_ended : (a : Actor) → IsAtRest board now a → IsAtRest board (record now { end = end }) a
-  rest_ended (actors.Thread line dev) r = r
+  rest_ended (actors.Thread dev) r = r
   rest_ended (actors.Cpu c) r = r
   rest_ended (actors.Driver r) rest = elim rest [
     | inl past ↦ inl past

@@ -59,8 +59,8 @@ module _ {T : Type 0} (seen_of : T → LineSeen) (may_want : Option Entry → Ty
       is_legal = subst (λ (h : List Entry). IsLegal line.def h) (sym seen_is)
           (subst (λ (d : LineDef). IsLegal d s.after.entries) s.def_after s.sound_after.legal)
 
-      is_own : new.knows.mine ≡ placed line.def.line who new.knows.seen
-      is_own = s.own ∙ ap (λ (h : List Entry). placed line.def.line who h) (sym seen_is)
+      is_own : new.knows.mine ≡ placed who new.knows.seen
+      is_own = s.own ∙ ap (λ (h : List Entry). placed who h) (sym seen_is)
 
     pub tries_added : (e : Entry) → Steps seen_of may_want line.def who mid.knows said (Ok (stepped.Added e)) new.knows
         → Tries (Wanted seen_of may_want) line.def who old.knows (Ok (Some e)) new.knows
@@ -99,7 +99,7 @@ module _ {T : Type 0} (seen_of : T → LineSeen) (may_want : Option Entry → Ty
         → who ≡ actors.Cpu c → IsInFlow line.def c old.knows → ⊥
     flow_not_yet s c same own =
         moves_within line.def c s.line.entries old.knows.mine (subst (λ (d : LineDef). IsLegal d s.line.entries) s.def s.sound.legal)
-        (sym w.mine ∙ (s.mine ∙ ap (λ (a : Actor). placed line.def.line a s.line.entries) same)) own
+        (sym w.mine ∙ (s.mine ∙ ap (λ (a : Actor). placed a s.line.entries) same)) own
         (ap (λ (a : Actor). next line.def s.line.entries a) (sym same) ∙ subst (λ (d : LineDef). next d s.line.entries who ≡ None) s.def s.answer.0)
 
     pub tries_refused : (refused : StepRefused) → Steps seen_of may_want line.def who mid.knows said (Err refused)

@@ -11,10 +11,12 @@ use Rattle.irq_base.specs.declared.entries.Actor.{Actor}
 use Rattle.irq_base.specs.declared.entries.Actor.TheVariants as actors
 use Rattle.irq_base.specs.declared.entries.Entry.{Entry}
 use Rattle.irq_base.specs.declared.numbers.CpuNo.{CpuNo}
+use Rattle.irq_base.specs.declared.numbers.DevNo.{DevNo}
 use Rattle.irq_base.specs.declared.numbers.LineNo.{LineNo}
 use Rattle.irq_model.specs.Kinds.{same_line}
 use Rattle.irq_model.specs.Legal.{IsLegal}
 use Rattle.irq_model.specs.Rounds.{flow, has_flow}
+use Rattle.board_def.specs.Rules.{find_device}
 use Rattle.board_def.specs.Seen.{BoardSeen}
 use Rattle.board_play.specs.Kept.{IsUpTo}
 use Rattle.board_play.specs.Lines.{BoardLine, defs_of}
@@ -39,6 +41,11 @@ abbrev pub IsPlaceOf : List LockSeen → LineNo → Option ℕ → Type 0
 IsPlaceOf lines number None = list_any (λ (l : LockSeen). same_line number l.def.line) lines ≡ false
 IsPlaceOf lines number (Some k) = IsSomeAnd (slice_get lines k) (λ l. l.def.line ≡ number)
 
+-- the line of the board's device stands at this place
+abbrev pub IsPlaceOfDevice : BoardSeen → List LockSeen → DevNo → ℕ → Type 0
+IsPlaceOfDevice board lines dev k =
+    IsSomeAnd (find_device board.devices dev) (λ x. IsPlaceOf lines x.line (Some k))
+
 -- ---- one job
 
 -- The pass is of this line and this actor, and doesn't have the turn. What it has seen is legal:
@@ -49,7 +56,7 @@ pub record IsPost (line : LockSeen) (who : Actor) (s : PostSeen) : Type 0 where
   pub idle : s.pass.turn ≡ false
   pub actor : s.pass.knows.actor ≡ Some who
   pub legal : IsLegal line.def s.pass.knows.seen
-  pub own : s.pass.knows.mine ≡ placed line.def.line who s.pass.knows.seen
+  pub own : s.pass.knows.mine ≡ placed who s.pass.knows.seen
   pub rests : s.rests ≡ true → IsIdle line.def who s.pass.knows
 
 -- the passes are of consecutive lines, from the job's first line on
@@ -87,8 +94,8 @@ HasItsFlow j = (i : ℕ) → j.flow ≡ Some i → (c : CpuNo) × (s : PostSeen)
 -- most one; a driver has a pass of each line, and its calls are made up to its place: its own
 -- entries are theirs (the law `own_are_made`)
 abbrev pub IsManned : BoardSeen → List LockSeen → JobSeen → Actor → Type 0
-IsManned board lines j (actors.Thread line dev) =
-    (length j.posts ≡ 1) × IsPlaceOf lines line (Some j.first)
+IsManned board lines j (actors.Thread dev) =
+    (length j.posts ≡ 1) × IsPlaceOfDevice board lines dev j.first
 IsManned board lines j (actors.Cpu c) =
     (j.first ≡ 0) × (length j.posts ≡ length lines) × HasOneFlow j × HasItsFlow j
 IsManned board lines j (actors.Driver r) = (j.first ≡ 0) × (length j.posts ≡ length lines)
@@ -106,7 +113,7 @@ has_worker lines x =
     has_thread x.kind && list_any (λ (l : LockSeen). same_line x.line l.def.line) lines
 
 abbrev pub workers_of : BoardSeen → List LockSeen → List Actor
-workers_of board lines = map (λ (x : DeviceDef). actors.Thread x.line x.dev)
+workers_of board lines = map (λ (x : DeviceDef). actors.Thread x.dev)
     (filter (has_worker lines) board.devices) ++ (cpus_of board ++ drivers_of board)
 
 -- the job has a pass of the line at place k

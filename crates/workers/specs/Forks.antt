@@ -7,7 +7,7 @@ use Rattle.board_def.specs.Seen.{BoardSeen}
 use Rattle.board_play.specs.Lines.{defs_of}
 use Rattle.line_lock.specs.Knows.{is_among, forked, newcomer}
 use Rattle.line_lock.specs.Passes.{LockSeen, PassSeen, IsPassOf}
-use Rattle.workers.specs.Fit.{IsPlaceOf, IsJob, AreFirsts}
+use Rattle.workers.specs.Fit.{IsPlaceOfDevice, IsJob, AreFirsts}
 use Rattle.workers.specs.Seen.{PostSeen, JobSeen, JobsSeen}
 
 -- the first pass of the line can give a pass to the actor
@@ -53,16 +53,16 @@ pub record Forks (lines : List LockSeen) (first end : ℕ) (who : Actor) (old ne
 abbrev pub AreBoards : BoardSeen → List LockSeen → Type 0
 AreBoards board lines = map (λ (l : LockSeen). l.def) lines ≡ defs_of board
 
--- a thread's line is among the lines
-abbrev pub IsThere : List LockSeen → Actor → Type 0
-IsThere lines (actors.Thread line dev) = (k : ℕ) × IsPlaceOf lines line (Some k)
-IsThere lines _ = Unit {0}
+-- the line of a thread's device is among the lines
+abbrev pub IsThere : BoardSeen → List LockSeen → Actor → Type 0
+IsThere board lines (actors.Thread dev) = (k : ℕ) × IsPlaceOfDevice board lines dev k
+IsThere board lines _ = Unit {0}
 
 -- the actor has passes of the lines from index `first` up to, not including, `end`
-abbrev pub IsSpan : List LockSeen → Actor → ℕ → ℕ → Type 0
-IsSpan lines (actors.Thread line dev) first end =
-    IsPlaceOf lines line (Some first) × (end ≡ first + 1)
-IsSpan lines _ first end = (first ≡ 0) × (end ≡ length lines)
+abbrev pub IsSpan : BoardSeen → List LockSeen → Actor → ℕ → ℕ → Type 0
+IsSpan board lines (actors.Thread dev) first end =
+    IsPlaceOfDevice board lines dev first × (end ≡ first + 1)
+IsSpan board lines _ first end = (first ≡ 0) × (end ≡ length lines)
 
 -- there is one more job, the actor's, and it is right
 pub record Hires (lines : List LockSeen) (who : Actor) (old new : JobsSeen) : Type 0 where

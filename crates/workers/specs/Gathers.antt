@@ -44,7 +44,7 @@ pub record HasMetOne (lines : List LockSeen) (j : JobSeen) (k : ℕ) (old new : 
   pub at_line : slice_get lines k ≡ Some line
   pub at_post : slice_get j.posts place ≡ Some post
   pub is : k ≡ j.first + place
-  pub met : Meets line.def.line old.knows post.pass.knows new.knows
+  pub met : Meets old.knows post.pass.knows new.knows
 
 -- the job has no pass of the line, and the first pass is as it was
 abbrev pub HasMetNone : JobSeen → ℕ → PassSeen → PassSeen → Type 0
@@ -112,7 +112,7 @@ pub record HasAllOf (def : LineDef) (entries : List Entry) (who : Actor) (pass :
     : Type 0 where
   pub of_line : pass.def ≡ def
   pub begins : BeginsWith entries pass.knows.seen
-  pub own : placed def.line who entries ≡ pass.knows.mine
+  pub own : placed who entries ≡ pass.knows.mine
 
 -- a job's pass of the line at place k has seen exactly these entries
 pub record IsSeenIn (jobs : List JobSeen) (k : ℕ) (entries : List Entry) : Type 0 where

@@ -19,7 +19,7 @@ pub record Gains (def : LineDef) (who : Actor) (old : Known) (e : Entry) (new : 
     : Type 0 where
   pub history : List Entry
   pub onto : BeginsWith history old.seen
-  pub own : old.mine ≡ placed def.line who history
+  pub own : old.mine ≡ placed who history
   pub due : next def history who ≡ Some e
   pub below : length history < def.log
   pub seen : new.seen ≡ history ++ e ∷ []
@@ -50,7 +50,7 @@ module _ (wanted : LineDef → List Entry → Actor → Type 0) where
       (result : Result (Option Entry) StepRefused) (new : Known) : Type 0 where
     pub begins : BeginsWith new.seen old.seen
     pub legal : IsLegal def old.seen → IsLegal def new.seen
-    pub own : old.mine ≡ placed def.line who old.seen → new.mine ≡ placed def.line who new.seen
+    pub own : old.mine ≡ placed who old.seen → new.mine ≡ placed who new.seen
     pub came : CameTo def who old result new
 
 abbrev pub rests_after : Result (Option Entry) StepRefused → Bool

@@ -8,7 +8,7 @@ ghost use Rattle.workers.specs.Wanted.{Wanted};
 use crate::job::Job;
 use crate::lines::SharedLines;
 use callbacks::{Callbacks, Handler};
-use irq_base::{Entry, FlowKind, LineNo, TakeAnswer};
+use irq_base::{CpuEntry, Entry, FlowKind, LineNo, TakeAnswer};
 use irq_line::{IrqLine, StepRefused};
 use std::sync::Wait;
 
@@ -144,30 +144,19 @@ pub(crate) fn flow_after(
 ) -> Option<usize>
     ensures { result ≡ flow_after flow entry.now place before }
 {
-    match *entry {
-        Entry::Take {
+    let Entry::Cpu(_, entry) = *entry else {
+        return before;
+    };
+    match entry {
+        CpuEntry::Take {
             answer: TakeAnswer::Handle,
             ..
         } => Some(place),
-        Entry::End { again, .. } if !again || flow == FlowKind::Eoi => None,
-        Entry::Take { .. }
-        | Entry::End { .. }
-        | Entry::Ask { .. }
-        | Entry::Begin { .. }
-        | Entry::Return { .. }
-        | Entry::ThreadBegin { .. }
-        | Entry::ThreadReturn { .. }
-        | Entry::Finish { .. }
-        | Entry::Done { .. }
-        | Entry::Request { .. }
-        | Entry::Unlink { .. }
-        | Entry::Freed { .. }
-        | Entry::Disable { .. }
-        | Entry::HardClear { .. }
-        | Entry::Synced { .. }
-        | Entry::Enable { .. }
-        | Entry::Affinity { .. }
-        | Entry::Moment { .. } => before,
+        CpuEntry::End { again, .. } if !again || flow == FlowKind::Eoi => None,
+        CpuEntry::Take { .. }
+        | CpuEntry::End { .. }
+        | CpuEntry::Begin { .. }
+        | CpuEntry::Return { .. } => before,
     }
 }
 

@@ -34,7 +34,7 @@ fn push_threads<L: IrqLine>(
 ) -> Result<(), NoMemory>
     ensures { OnOk result
         (crew.new.items
-        ≡ crew.old.items ++ map (λ (x : DeviceDef). kinds.Thread x.line x.dev)
+        ≡ crew.old.items ++ map (λ (x : DeviceDef). kinds.Thread x.dev)
         (filter (has_worker lines.now) board.now.devices)) }
 {
     for i in 0..board.devices_len() {
@@ -42,7 +42,7 @@ fn push_threads<L: IrqLine>(
             unreachable!();
         };
         if lines.has_worker(device) {
-            crew.push(Actor::Thread(device.line, device.dev))?;
+            crew.push(Actor::Thread(device.dev))?;
         }
     }
     Ok(())

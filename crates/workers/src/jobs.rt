@@ -122,12 +122,12 @@ impl<'b, L: IrqLine> Jobs<'b, L> {
         requires defs { AreBoards self.old.board lines.now }
         requires firsts { AreFirsts lines.now self.old.jobs self.old.firsts }
         requires fresh { (k : ℕ) → is_among actor (actors_on k self.old.jobs) ≡ false }
-        requires there { IsThere lines.now actor }
+        requires there { IsThere self.old.board lines.now actor }
         ensures board { OnOk result (self.new.board ≡ self.old.board) }
         ensures hires { OnOk result (Hires lines.now actor self.old self.new) }
         ensures new { OnOk result (AreNew self.old → AreNew self.new) }
     {
-        let (first, end) = lines.span_of(actor);
+        let (first, end) = lines.span_of(self.board, actor);
         let posts = fork_all(alloc, &lines.lines, &mut self.firsts, first, end, actor)?;
         self.jobs.push(Job {
             actor,

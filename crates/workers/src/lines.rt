@@ -4,6 +4,7 @@ ghost use Rattle.line_lock.specs.Passes.{LockSeen};
 ghost use Rattle.workers.specs.Fit.{IsPlaceOf, has_worker};
 ghost use Rattle.workers.specs.Forks.{IsThere, IsSpan};
 
+use board_def::Board;
 use irq_base::{Actor, DeviceDef, FlowKind, LineNo};
 use irq_line::IrqLine;
 use line_shared::SharedLine;
@@ -64,13 +65,16 @@ impl<L: IrqLine> SharedLines<L> {
 
     /// The lines that the actor has passes of, as the index of the first and the index after the
     /// last: a thread has a pass of its device's line, a processor or a driver of each line.
-    pub(crate) fn span_of(&self, actor: Actor) -> (usize, usize)
-        requires { IsThere self.now actor }
-        ensures { IsSpan self.now actor result.0 result.1 }
+    pub(crate) fn span_of(&self, board: &Board, actor: Actor) -> (usize, usize)
+        requires { IsThere board.now self.now actor }
+        ensures { IsSpan board.now self.now actor result.0 result.1 }
     {
         match actor {
-            Actor::Thread(line, _) => {
-                let Some(place) = self.place_of(line) else {
+            Actor::Thread(dev) => {
+                let Some(device) = board.find_device(dev) else {
+                    unreachable!();
+                };
+                let Some(place) = self.place_of(device.line) else {
                     unreachable!();
                 };
                 (place, place + 1)

@@ -1,4 +1,4 @@
-use Rattle.std.proofs.Common.{sym, ap, ◌∙◌, subst}
+use Rattle.std.proofs.Common.{subst}
 use Rattle.board_core.specs.Placing.{IsPlaceOfActor}
 use Rattle.board_core.proofs.OwnScripts.{own_more, actor_fits}
 use Rattle.board_core.proofs.placing.tell.Goals as goal

@@ -14,8 +14,8 @@ loop-i-preserved c =
     let within : c.loop-i.i < length c.args.picks.now = omega arith in
     elim c.match-get.branch [
       | in-Some+in_ok-add_pick_times w ↦
-          let both = picks_so_far c.args.board.now c.loop-i.board c.match-get.board c.args.picks.now c.loop-i.i w.in-Some.pick (sym c.get.ensures ∙ w.in-Some.is)
-          c.loop-i.invariant.same c.loop-i.invariant.left (w.board-is ∙ w.in_ok-add_pick_times.ensures) in
+          let both = picks_so_far c.args.board.now c.loop-i.board c.match-get.board c.args.picks.now c.loop-i.i
+          w.in-Some.pick (sym c.get.ensures ∙ w.in-Some.is) c.loop-i.invariant.same c.loop-i.invariant.left (w.board-is ∙ w.in_ok-add_pick_times.ensures) in
           record { same = both.0; left = both.1 }
       | in_default w ↦ absurd (item_there c.args.picks.now c.loop-i.i (sym c.get.ensures ∙ w.in_default.is) within)
     ]

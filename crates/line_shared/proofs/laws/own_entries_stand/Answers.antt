@@ -2,4 +2,4 @@ use Rattle.line_shared.proofs.MetLaws.{all_stand}
 use Rattle.line_shared.proofs.laws.own_entries_stand.Goals as goal
 
 pub returns : goal.returns
-returns c = record { law = λ line who history. all_stand line who history }
+returns c = record { law = λ who history. all_stand who history }

@@ -3,6 +3,6 @@ use Rattle.line_shared.proofs.laws.places_are_apart.Goals as goal
 
 pub returns : goal.returns
 returns c = record {
-  law = λ line k first second a b x y m n apart in_first in_second same. places_apart line k first
+  law = λ k first second a b x y m n apart in_first in_second same. places_apart k first
       second a b x y m n apart in_first in_second same;
 }

@@ -1,7 +1,5 @@
-use Rattle.std.proofs.Common.{◌≡◌, Ok, ap, subst, ◌∙◌}
-use Rattle.irq_base.specs.Who.{actor_of}
+use Rattle.std.proofs.Common.{Ok, subst}
 use Rattle.irq_base.specs.declared.entries.Actor.{Actor}
-use Rattle.irq_base.specs.declared.lines.LineDef.{LineDef}
 use Rattle.irq_line.specs.Heard.{Heard}
 use Rattle.log_check.proofs.Trying.{tried}
 use Rattle.log_check.proofs.judging.adds.Goals as goal
@@ -10,7 +8,5 @@ pub returns-clause-tried : goal.returns-clause-tried
 returns-clause-tried g c =
     let seen = g.L.IrqLine.seen in
     let old = seen c.args.line.now in
-    let actor : c.actor.result ≡ actor_of old.def.line c.args.entry = c.actor.ensures
-    ∙ ap (λ (d : LineDef). actor_of d.line c.args.entry) c.definition.ensures in
     tried old (seen c.step.new.line) c.args.entry c.in_ok-due.due c.eq.result
-    (subst (λ (a : Actor). Heard old a (Ok c.in_ok-due.due) (seen c.step.new.line)) actor c.in_ok-due.ensures.heard) c.eq.ensures
+    (subst (λ (a : Actor). Heard old a (Ok c.in_ok-due.due) (seen c.step.new.line)) c.actor.ensures c.in_ok-due.ensures.heard) c.eq.ensures

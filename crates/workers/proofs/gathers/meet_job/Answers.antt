@@ -54,7 +54,7 @@ pub loop-post-preserved : goal.loop-post-preserved
 loop-post-preserved g c =
     met_next (taken g (goal.at.loop-post-preserved g c).After-len) c.index-lines-place.is c.index_mut-home.ensures.value
     c.meet.new.pass c.meet.ensures.pass c.meet.ensures.idle
-    (subst (λ (s : PostSeen). Meets c.index-lines-place.result.def.line c.index_mut-home.result.now.knows s.pass.knows
+    (subst (λ (s : PostSeen). Meets c.index_mut-home.result.now.knows s.pass.knows
     c.meet.new.pass.knows) c.post.view_is c.meet.ensures.met)
 
 pub returns : goal.returns

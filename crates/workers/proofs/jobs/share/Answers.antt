@@ -1,4 +1,5 @@
 use Rattle.std.proofs.Common.{◌<◌, ◌≤◌, List, IsPermutation, length, sym, ap, subst, ◌∙◌, arith}
+use Rattle.board_def.specs.Seen.{BoardSeen}
 use Rattle.line_lock.specs.Knows.{is_among}
 use Rattle.line_lock.specs.Passes.{LockSeen}
 use Rattle.workers.specs.Fit.{workers_of, Fit}
@@ -29,7 +30,9 @@ hire-requires-clause-there g c =
     (c.deref.ensures.value ∙ c.in_ok-crew.ensures) c.in_ok-dealt.ensures in
     let less : c.loop-i.i < length dealt = omega (arith, c.loop-i-test.true, c.len-i-end.ensures) in
     let at = at_crew dealt c.loop-i.i c.index.result.now less c.index.ensures in
-    subst (λ (ls : List LockSeen). IsThere ls c.index.result.now) c.lines.view_is (is_there c.args.board.now lines dealt perm c.loop-i.i c.index.result.now at)
+    subst (λ (b : BoardSeen). IsThere b c.in_ok-lines.lines c.index.result.now) (sym c.loop-i.invariant.same)
+    (subst (λ (ls : List LockSeen). IsThere c.args.board.now ls c.index.result.now) c.lines.view_is
+    (is_there c.args.board.now lines c.is_board.ensures.board dealt perm c.loop-i.i c.index.result.now at))
 
 pub loop-i-preserved : goal.loop-i-preserved
 loop-i-preserved g c =

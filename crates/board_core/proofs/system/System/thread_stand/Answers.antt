@@ -18,24 +18,24 @@ returns-in_default g c =
     let system = kept_system c.is_board.ensures.board c.self.invariant c.self.view_is in
     thread_of_none system c.args.dev (sym c.in_default.is ∙ c.find_device.ensures)
 
-pub returns-in_default-in-Some : goal.returns-in_default-in-Some
-returns-in_default-in-Some g c =
+pub returns-in_default-place_of : goal.returns-in_default-place_of
+returns-in_default-place_of g c =
     let system = kept_system c.is_board.ensures.board c.self.invariant c.self.view_is in
     thread_nowhere system c.args.dev c.in-Some.device (told_by_arm c.in-Some.is refl c.find_device.ensures)
-    (number_nowhere c.in-Some.device.line.0 c.deref.ensures.value c.place_of.ensures c.in_default-in-Some.is)
+    (number_nowhere c.in-Some.device.line.0 c.deref.ensures.value c.place_of.ensures c.in_default-place_of.is)
 
 pub returns-then-has_thread_up_to : goal.returns-then-has_thread_up_to
 returns-then-has_thread_up_to g c =
     let system = kept_system c.is_board.ensures.board c.self.invariant c.self.view_is in
-    thread_there system c.args.dev c.in-Some.device c.in-Some-k.k _ (told_by_arm c.in-Some.is refl c.find_device.ensures)
-    (number_there c.in-Some.device.line.0 c.deref.ensures.value c.place_of.ensures c.in-Some-k.is)
+    thread_there system c.args.dev c.in-Some.device c.in-Some-place_of.k _ (told_by_arm c.in-Some.is refl c.find_device.ensures)
+    (number_there c.in-Some.device.line.0 c.deref.ensures.value c.place_of.ensures c.in-Some-place_of.is)
     (ap (λ o. has_thread_up_to o c.args.dev) (sym c.line.ensures)
     ∙ (sym c.has_thread_up_to.ensures ∙ c.if-has_thread_up_to.true)) refl
 
 pub returns-else-has_thread_up_to : goal.returns-else-has_thread_up_to
 returns-else-has_thread_up_to g c =
     let system = kept_system c.is_board.ensures.board c.self.invariant c.self.view_is in
-    thread_below system c.args.dev c.in-Some.device c.in-Some-k.k (told_by_arm c.in-Some.is refl c.find_device.ensures)
-    (number_there c.in-Some.device.line.0 c.deref.ensures.value c.place_of.ensures c.in-Some-k.is)
+    thread_below system c.args.dev c.in-Some.device c.in-Some-place_of.k (told_by_arm c.in-Some.is refl c.find_device.ensures)
+    (number_there c.in-Some.device.line.0 c.deref.ensures.value c.place_of.ensures c.in-Some-place_of.is)
     (ap (λ o. has_thread_up_to o c.args.dev) (sym c.line.ensures)
     ∙ (sym c.has_thread_up_to.ensures ∙ c.if-has_thread_up_to.false))

@@ -4,7 +4,6 @@ use Rattle.irq_base.specs.declared.entries.Actor.{Actor}
 use Rattle.irq_line.specs.Answers.{Answers}
 use Rattle.irq_line.specs.Memory.{WantsMemory}
 use Rattle.line_lock.specs.Knows.{looked}
-use Rattle.line_lock.specs.Placed.{placed_of}
 use Rattle.line_shared.proofs.Stepped.{steps}
 use Rattle.line_shared.proofs.shared.SharedLine.step.Goals as goal
 
@@ -16,10 +15,8 @@ returns-clause-steps g c = λ who is.
     let def : line.def ≡ c.args.self.now.def = search rules in
     let actor : c.in-Some.actor ≡ who = same_Some c.in-Some.actor who (sym c.in-Some.is ∙ (c.actor.ensures ∙ is)) in
     let answer = subst (λ (a : Actor). Answers line a c.args.said c.step_held-answer.result after) actor c.step_held-answer.ensures.answer in
-    let mine : c.args.pass.now.knows.mine ≡ placed_of c.args.self.now.def.line c.args.pass.now.knows.actor line.entries =
-    c.hold-held.ensures.mine ∙ ap (λ l. placed_of l.def.line c.args.pass.now.knows.actor line.entries) c.self.view_is in
-    let now : c.leave.new.pass.knows ≡ looked c.args.self.now.def.line c.args.pass.now.knows after.entries = search rules in
+    let now : c.leave.new.pass.knows ≡ looked c.args.pass.now.knows after.entries = search rules in
     let memory = subst (λ (a : Actor). WantsMemory g.L.IrqLine.may_want line a c.step_held-answer.result) actor c.step_held-answer.ensures.memory in
     steps g.L.IrqLine.seen g.L.IrqLine.may_want c.args.self.now.def who c.args.pass.now.knows c.leave.new.pass.knows
     c.hold-held.result.line.value after c.args.said c.step_held-answer.result def is c.step_held-answer.ensures.sound.0
-    c.hold-held.ensures.begins mine answer memory (c.step_held-answer.ensures.def ∙ def) c.step_held-answer.ensures.sound.1 now
+    c.hold-held.ensures.begins c.hold-held.ensures.mine answer memory (c.step_held-answer.ensures.def ∙ def) c.step_held-answer.ensures.sound.1 now

@@ -8,7 +8,7 @@ pub returns-in-Thread : goal.returns-in-Thread
 returns-in-Thread g c =
     thread_attempted (Wanted g.L.IrqLine.seen g.L.IrqLine.may_want) c.args.board.now c.args.lines.now c.try_post.result
     c.args.self.now c.try_post.new.self c.requires.job
-    c.in-Thread.field-0 c.in-Thread.field-1 (ap (λ (j : JobSeen). j.actor) (sym c.self.view_is) ∙ c.in-Thread.is)
+    c.in-Thread.field-0 (ap (λ (j : JobSeen). j.actor) (sym c.self.view_is) ∙ c.in-Thread.is)
     c.try_post.ensures
 
 pub returns-in-Cpu : goal.returns-in-Cpu

@@ -1,10 +1,17 @@
-use Rattle.std.proofs.Common.{subst}
+use Rattle.std.proofs.Common.{sym, subst, ◌∙◌}
 use Rattle.irq_base.specs.declared.entries.Actor.{Actor}
 use Rattle.workers.specs.Forks.{IsThere}
-use Rattle.workers.proofs.Manning.{not_there}
+use Rattle.workers.proofs.Manning.{not_there, not_found}
 use Rattle.workers.proofs.lines.SharedLines.span_of.Goals as goal
 
 pub unreachable-requires : goal.unreachable-requires
 unreachable-requires g c =
-    not_there c.args.self.now c.in-Thread.line c.in-Thread.field-1
-    (subst (λ (a : Actor). IsThere c.args.self.now a) c.in-Thread.is c.requires) c.in_default.ensures.place
+    not_found c.args.board.now c.args.self.now c.in-Thread.dev
+    (subst (λ (a : Actor). IsThere c.args.board.now c.args.self.now a) c.in-Thread.is c.requires)
+    (sym c.find_device.ensures ∙ c.in_default-find_device.is)
+
+pub unreachable-2-requires : goal.unreachable-2-requires
+unreachable-2-requires g c =
+    not_there c.args.board.now c.args.self.now c.in-Thread.dev c.in-Some.device
+    (subst (λ (a : Actor). IsThere c.args.board.now c.args.self.now a) c.in-Thread.is c.requires)
+    (sym c.find_device.ensures ∙ c.in-Some.is) c.in_default-place_of.ensures.place
