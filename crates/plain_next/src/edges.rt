@@ -23,8 +23,8 @@ pub fn is_sent(alloc: Global, def: &LineDef, past: &[Entry]) -> Result<bool, NoM
     Ok(false)
 }
 
-/// An entry at which an edge comes: one that the device makes, a start that the chip resends, and on
-/// the fast-EOI flow an end that retriggers.
+/// An entry at which an edge comes: one that the device makes, a start that the chip resends, and
+/// on the fast-EOI flow an end that retriggers.
 fn is_edge(def: &LineDef, entry: Entry) -> bool
     ensures { result ≡ is_edge def.now entry }
 {

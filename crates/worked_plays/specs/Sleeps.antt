@@ -42,7 +42,7 @@ armed = record {
 abbrev pub armed_rows : List SleepEntry
 armed_rows =
     sleeps.Step (line 1) (by.Driver (driver 1)
-        (drivers.Request no_flags links.Linked (opens.Started resends.No) (dev 1)))
+    (drivers.Request no_flags links.Linked (opens.Started resends.No) (dev 1)))
     ∷ sleeps.Step (line 1) (by.DriverCall (driver 65535) called.Disable)
     ∷ sleeps.Step (line 1) (by.DriverCall (driver 65535) called.HardClear)
     ∷ sleeps.Step (line 1) (by.DriverCall (driver 65535) called.Synced)
@@ -51,7 +51,7 @@ armed_rows =
     ∷ sleeps.Step (line 1) (by.Cpu (cpu 0) (cpus.Take ways.Line takes.Off))
     ∷ sleeps.Wake (Some (line 1))
     ∷ sleeps.Step (line 1) (by.DriverCall (driver 65535)
-        (called.Enable (enables.Started resends.Chip)))
+    (called.Enable (enables.Started resends.Chip)))
     ∷ sleeps.Step (line 1) (by.Cpu (cpu 0) (cpus.Take ways.Line takes.Handle))
     ∷ sleeps.Step (line 1) (by.Cpu (cpu 0) (cpus.Begin (dev 1)))
     ∷ sleeps.Step (line 1) (by.Cpu (cpu 0) (cpus.Return answers.Handled (dev 1) 1))
@@ -78,7 +78,7 @@ unarmed = record {
 abbrev pub unarmed_rows : List SleepEntry
 unarmed_rows =
     sleeps.Step (line 1) (by.Driver (driver 1)
-        (drivers.Request no_flags links.Linked (opens.Started resends.No) (dev 1)))
+    (drivers.Request no_flags links.Linked (opens.Started resends.No) (dev 1)))
     ∷ sleeps.Step (line 1) (by.DriverCall (driver 65535) called.Disable)
     ∷ sleeps.Step (line 1) (by.DriverCall (driver 65535) called.HardClear)
     ∷ sleeps.Step (line 1) (by.DriverCall (driver 65535) called.Synced)
@@ -87,7 +87,7 @@ unarmed_rows =
     ∷ sleeps.Step (line 1) (by.Cpu (cpu 0) (cpus.Take ways.Line takes.Off))
     ∷ sleeps.Wake None
     ∷ sleeps.Step (line 1) (by.DriverCall (driver 65535)
-        (called.Enable (enables.Started resends.Chip)))
+    (called.Enable (enables.Started resends.Chip)))
     ∷ sleeps.Step (line 1) (by.Cpu (cpu 0) (cpus.Take ways.Line takes.Handle))
     ∷ sleeps.Step (line 1) (by.Cpu (cpu 0) (cpus.Begin (dev 1)))
     ∷ sleeps.Step (line 1) (by.Cpu (cpu 0) (cpus.Return answers.Handled (dev 1) 1))
