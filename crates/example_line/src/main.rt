@@ -5,45 +5,38 @@
 mod counting;
 mod describing;
 mod lines;
+mod stepping;
 
-use callbacks::Callbacks;
 use counting::Counting;
-use describing::said;
-use irq_base::{Actor, CpuNo, DriverNo, NoMemory};
-use irq_line::{MakesLine, step_heard};
+use irq_base::NoMemory;
+use irq_line::MakesLine;
 use line_core::MakesCellLine;
 use line_valid::is_valid;
 use lines::one_line;
+use std::alloc::Global;
 use std::io;
 use std::sync::atomic::{AtomicU64, Ordering};
-
-const DRIVER: Actor = Actor::Driver(DriverNo(1));
-
-const CPU: Actor = Actor::Cpu(CpuNo(0));
-
-/// Who makes each step.
-const STEPS: [Actor; 10] = [
-    DRIVER, CPU, DRIVER, CPU, CPU, CPU, DRIVER, CPU, CPU, CPU,
-];
+use stepping::ten_steps;
 
 fn main(rt: HostRuntime) -> io::Result<()> {
     let calls = AtomicU64::new(0);
-    let handlers = Callbacks::new(Counting { calls: &calls });
-    let Ok(def) = one_line(rt.alloc()) else {
+    let mut rows = [""; 10];
+    if play(rt.alloc(), &calls, &mut rows).is_err() {
         return println!(rt; "out of memory");
-    };
-    if !is_valid(&def) {
-        return println!(rt; "the line's definition isn't valid");
     }
-    let Ok(mut line) = MakesCellLine.make(rt.alloc(), 1, &def) else {
-        return println!(rt; "out of memory");
-    };
-    for actor in STEPS {
-        match step_heard(&mut line, actor, &handlers) {
-            Ok(Some(entry)) => println!(rt; "{}", said(&entry))?,
-            Ok(None) => println!(rt; "nothing is due")?,
-            Err(refused) => println!(rt; "{refused}")?,
-        }
+    for row in rows {
+        println!(rt; "{row}")?;
     }
     println!(rt; "calls of the handler: {}", calls.load(Ordering::SeqCst))
+}
+
+/// Makes the line and has it step; the rows say what each step came to. The only error is
+/// `NoMemory`.
+fn play(alloc: Global, calls: &AtomicU64, rows: &mut [&'static str; 10]) -> Result<(), NoMemory> {
+    let def = one_line(alloc)?;
+    if is_valid(&def) {
+        let mut line = MakesCellLine.make(alloc, 1, &def)?;
+        *rows = ten_steps(&mut line, Counting { calls });
+    }
+    Ok(())
 }
