@@ -155,7 +155,7 @@ module _ (def : LineDef) where
     lines_are past = ap (λ ds. lines_at ds (moves past)) alone ∙ ap lines (part_is past)
 
     pub is_play : (past : List Entry) → IsLegalPast def past → length past ≤ board.log
-        → ArePicked board (map (actor_of def.line) past) (moves past)
+        → ArePicked board (map actor_of past) (moves past)
     is_play [] legal few = tt
     is_play (e ∷ past) legal few = (
       is_play past legal.1 (omega (arith, few)),

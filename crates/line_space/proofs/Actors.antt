@@ -87,7 +87,8 @@ flow_is c None h = cc
 flow_is c (Some d) h = ap Some (sym (cpu_from_same c d h))
 
 takes : (s : StateSeen) (c : CpuNo) (e : Entry) (target line soft : Bool)
-    → cond (not target) None (cond line (Some (by.Cpu c (cpus.Take ways.Line (take_by s)))) (cond soft (Some (by.Cpu c (cpus.Take ways.Resend (take_by s)))) None)) ≡ Some e
+    → cond (not target) None (cond line (Some (by.Cpu c (cpus.Take ways.Line (take_by s))))
+    (cond soft (Some (by.Cpu c (cpus.Take ways.Resend (take_by s)))) None)) ≡ Some e
     → is_some_take (Some e) ≡ true
 takes s c e true true soft h = ap is_some_take (sym h)
 takes s c e true false true h = ap is_some_take (sym h)

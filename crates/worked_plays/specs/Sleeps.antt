@@ -1,5 +1,5 @@
 -- Boards that sleep, each with the rows of its play, worked out by hand.
-use Rattle.std.specs.Prelude.{false, Some, None, List, [], ◌∷◌}
+use Rattle.std.specs.Prelude.{true, false, Some, None, List, [], ◌∷◌}
 use Rattle.irq_base.specs.declared.calls.Call.TheVariants as calls
 use Rattle.irq_base.specs.declared.devices.Answer.TheVariants as answers
 use Rattle.irq_base.specs.declared.devices.Kind.TheVariants as kinds
