@@ -1,7 +1,8 @@
 """From events to the steps of each line: what was done there, by whom, and between which events.
 
 A step has the row's words, a place in the order (`at`), the events that it was made of, and, if it is made without the lock,
-the place up to which it may be moved (`until`). What isn't known as a step is made is filled in by later events.
+the places between which it may be moved: for what waits from `at` to `until`, for what is put at an event of its own from
+`first` to `last`. What isn't known as a step is made is filled in by later events.
 """
 
 from dataclasses import dataclass, field
@@ -35,6 +36,14 @@ class Step:
     until: int | None = None
     call: object = None
     more: dict = field(default_factory=dict)
+    first: int | None = None
+    last: int | None = None
+
+    def span(self):
+        """The first and the last place at which it may stand; the same one twice for what is done under the lock."""
+        if self.until is not None:
+            return self.at, self.until
+        return self.at if self.first is None else self.first, self.at if self.last is None else self.last
 
 
 @dataclass(eq=False)
@@ -64,7 +73,15 @@ class Flow:
         self.events, self.kind, self.at, self.is_resend = [event.number], FLOWS.get(event.name), at, is_resend
         self.line, self.cpu, self.place, self.take = line_of(event), event.cpu, None, None
         self.is_open, self.begun, self.called, self.exit = False, None, [], None
+        # the place of its last event of its handlers, and the wake whose end isn't seen yet
+        self.seen, self.wake = at, None
         self.note, self.end, self.kill, self.acks = None, None, [], 0
+
+    def meets(self, at):
+        """An event of the processor in its handlers: a wake before it is over."""
+        if self.wake:
+            self.wake.last = at
+        self.seen, self.wake = at, None
 
 
 class LineSteps:
@@ -74,6 +91,8 @@ class LineSteps:
         self.number, self.facts = number, facts or {}
         self.steps, self.reasons, self.devices, self.linked = [], {}, [], []
         self.kind, self.depth, self.flags, self.ends, self.targets, self.acks, self.busy = None, None, None, [], [], [], []
+        # of each device where the last run of its thread was over
+        self.idle = {}
         for name in [it for it in (self.facts.get("actions") or "").split(",") if it]:
             self.linked.append(self.add(name))
         self.first, self.awake, self.holes = list(self.linked), set(), []
@@ -247,6 +266,7 @@ class Walk:
             flow.take.more["rounds"] = []
         flow.take.more["rounds"].append([])
         flow.end = None
+        flow.meets(self.at)
 
     def on_irq_handler_entry(self, event):
         flow, line = self.flow(event, line_of(event)), self.line(line_of(event))
@@ -262,13 +282,18 @@ class Walk:
             line.first.append(device)
             line.linked.append(device)
         flow.called.append(device)
-        flow.begun = line.say(self.at, f"c{event.cpu}", ["begin", device], [event.number], more={"device": device})
+        read = flow.seen
+        flow.meets(self.at)
+        flow.begun = line.say(self.at, f"c{event.cpu}", ["begin", device], [event.number], more={"device": device}, first=read)
 
     def on_irq_handler_exit(self, event):
         flow = self.flow(event, line_of(event))
         if not flow or not flow.begun or flow.exit or flow.note:
             self.drop(event, "a handler outside of a flow that is modelled" if flow or event.cpu in self.polled else MISSED)
-        elif event.args.get("ret") == "unhandled":
+            return
+        flow.meets(self.at)
+        flow.begun.last = self.at
+        if event.args.get("ret") == "unhandled":
             self.answered(flow, "nothing", self.at, [event.number])
         else:
             flow.exit = (self.at, event.number)
@@ -296,6 +321,8 @@ class Walk:
         line.awake.add(device)
         self.answered(flow, "wake", self.at, events)
         line.steps[-1].more["was_woken"] = bool((value(event, "tfl") or 0) & 1)
+        flow.meets(self.at)
+        flow.wake = line.steps[-1]
 
     def on_no(self, event):
         flow, line = self.flow(event, line_of(event)), self.line(line_of(event))
@@ -303,6 +330,7 @@ class Walk:
             self.drop(event, "a note outside of a flow that is modelled")
             return
         self.settle(flow)
+        flow.meets(self.at)
         flow.note = event
 
     def on_hr(self, event):
@@ -312,6 +340,7 @@ class Walk:
             self.drop(event, "a return without its entry")
             return
         self.settle(flow)
+        flow.meets(self.at)
         line, events = self.line(flow.line), [*flow.kill, event.number]
         note = flow.note
         if note:
