@@ -38,9 +38,9 @@ class Calls(Walk):
         self.frames.setdefault(event.who, []).append(inner)
         if frame and frame.step:
             device = frame.steps["device"]
-            back = self.line(frame.line).say(self.at, ("thread", device), ["return", 0], [event.number], more={"device": device},
-                                             first=frame.at)
-            frame.steps["return"] = back
+            line = self.line(frame.line)
+            frame.steps["return"] = line.say(self.at, ("thread", device), ["return", 0], [event.number],
+                                             more={"device": device}, first=frame.at)
 
     def on_ut(self, event):
         frame = self.inside(event, "fz", line_of(event))

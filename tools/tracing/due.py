@@ -1,7 +1,7 @@
 """What was due in place of a row: the table of steps (docs/DEFINITIONS.md, section 11) over one line, kept row by row.
 
-It explains a verdict and gives none: `genirq check` judges. A history is looked through once, so long pieces can be. A search
-over placings goes by it, too: it takes copies of a line, and passes over a line that is as one before.
+It explains a verdict and gives none: `genirq check` judges. A history is looked through once, so long pieces can be.
+The search over placings (placing.py) goes by it too, on copies of a line.
 """
 
 from copy import copy
@@ -53,24 +53,25 @@ class Due:
     def copy(self):
         """The line as it stands; the board is shared."""
         other = copy(self)
-        other.linked, other.called, other.answers = list(self.linked), list(self.called), list(self.answers)
-        other.flags, other.stage, other.asks, other.seen = dict(self.flags), dict(self.stage), dict(self.asks), dict(self.seen)
-        other.woken, other.unfinished = set(self.woken), set(self.unfinished)
+        for name in ("linked", "called", "answers", "flags", "stage", "asks", "seen", "woken", "unfinished"):
+            setattr(other, name, getattr(self, name).copy())
         other.made = {who: list(it) for who, it in self.made.items()}
         return other
 
     def likeness(self):
-        """What all that is due from now on depends on, where the same entries stand before: of asks only whether there are any,
-        now and behind the run that is under way, and of what threads served only whether it is more than at the last look."""
+        """What all that is due from now on depends on, if the same entries stand before: of asks only whether there are
+        any, now and behind the run that is under way, and of what threads served only whether a note has seen it."""
         asks = []
         for device, many in self.asks.items():
             seen = self.seen.get("t" + device, 0) if self.stage.get(device) == "begun" else 0
             asks.append((device, many > 0, seen > 0, many > seen))
         return (
-            self.flow, self.at_work, self.at_work and self.seen[self.at_work] > 0, tuple(self.called), tuple(self.answers),
-            frozenset(self.woken), tuple(sorted(self.stage.items())), frozenset(self.unfinished), tuple(sorted(asks)),
-            tuple(self.linked), self.depth, self.masked, self.pending, self.soft, self.sent, self.stored, self.killed, self.freeing,
-            self.mask, self.waiting, self.count, self.unhandled, self.deferred, self.served != self.last, self.last_time,
+            self.flow, self.at_work, self.at_work and self.seen[self.at_work] > 0, tuple(self.called),
+            tuple(self.answers), frozenset(self.woken), tuple(sorted(self.stage.items())), frozenset(self.unfinished),
+            tuple(sorted(asks)),
+            tuple(self.linked), self.depth, self.masked, self.pending, self.soft, self.sent, self.stored, self.killed,
+            self.freeing, self.mask, self.waiting, self.count, self.unhandled, self.deferred, self.served != self.last,
+            self.last_time,
         )
 
     # ---- what is due

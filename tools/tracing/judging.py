@@ -107,8 +107,8 @@ class Line:
         return self
 
     def first_wrong(self, piece, tries):
-        """The number of the first row of a piece that `check` calls unlawful, None if it calls none so, as the piece was laid or
-        as a search for a lawful placing laid it then."""
+        """The number of the first row of a piece that `check` calls unlawful, None if it calls none so: as the piece
+        was laid, or as a search for a lawful placing laid it then."""
         entry = check(Written(piece, self.cpus).text())
         if entry is not None and place(piece, self.cpus, tries):
             entry = check(Written(piece, self.cpus).text())

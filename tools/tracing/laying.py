@@ -55,8 +55,9 @@ class Piece:
     spare: bool = False
     # the row at which the converter saw that the piece isn't lawful
     broken: int | None = None
-    # how many rows at the head no event is behind; what came of a search for a lawful placing (placing.py), and its tries
+    # how many rows stand at its head that no event is behind
     head: int = 0
+    # what came of a search for a lawful placing (placing.py), if one was needed, and its tries
     placing: str = ""
     tries: int = 0
 
@@ -71,7 +72,7 @@ class Piece:
                 GIVEN_UP: f"placing given up after {self.tries} tries"}[self.placing]
 
     def keep(self, other):
-        """Takes over how a search laid this piece before the trace was cut elsewhere, up to where the piece ends now."""
+        """Takes over how a search laid this piece before the trace was cut elsewhere, up to where it ends now."""
         end = max((it.place for it in self.rows if it.place is not None), default=0)
         self.rows = [it for it in other.rows if it.place is None or it.place <= end]
         self.placing, self.tries, self.broken, self.spare = other.placing, other.tries, other.broken, other.spare
@@ -198,8 +199,8 @@ def cpu_of(mask):
 
 
 def owed_runs(steps):
-    """Between which steps a thread owes a run: from the begin before to one that no wake stands between. However the line looks
-    there, it isn't at rest: a wake came behind the test of the mark that the begin before stands for."""
+    """Between which steps a thread owes a run: from a begin to its next one, if no wake stands between them. However
+    the line looks there, it isn't at rest: a wake came after the mark was tested that the first begin stands for."""
     woken, begun, spans = set(), {}, []
     for place, step in enumerate(steps):
         device = step.more.get("device")
@@ -266,7 +267,7 @@ class Laying:
         return self.is_skipping
 
     def fill_notes(self):
-        """What a note made of the counts is seen by the next note; of the last one it isn't, where handlers only woke threads."""
+        """What a note made of the counts is seen by the next note; of the last one it isn't if only threads were woken."""
         ends = [it for it in self.line.ends]
         for this, after in zip(ends, [*ends[1:], None]):
             if this.words[3] is not None:

@@ -1,10 +1,10 @@
-"""A search for a lawful placing of a piece, where the first way to lay it isn't lawful: what is made without the lock is moved,
-each entry between its two events, and what is made under it keeps its order.
+"""A search for a lawful placing of a piece, where the first way to lay it isn't lawful: what is made without the lock
+is moved, each entry between its two events, and what is made under it keeps its order.
 
-The first way is followed up to its first entry that isn't due; from there another may be put that is, and where none is the
-search goes back over what was put last. A **try** is one entry that is put after it left the first way. A search is over when
-all entries stand, when each placing was met, or after so many tries. What is due is said by `Due`. Where the line stands as it
-did before with the same entries to come, what follows was tried already.
+The first way is followed up to its first entry that isn't due. There another that is due may be put; where none is, the
+search goes back over what was put last. A **try** is one entry that is put after the search left the first way. It is
+over when all entries stand, when each placing was met, or after so many tries. What is due is said by `Due`. Where the
+line stands as it did before with the same entries to come, what follows was tried already.
 """
 
 from dataclasses import dataclass, field, replace
@@ -15,13 +15,16 @@ from writing import SPARE, Written
 
 # So many tries are made for a piece.
 MOST = 50000
-# Waits: nothing but the next wait of their call depends on them, or what they forbid, so they are put as soon as they may come.
+# Waits: nothing is forbidden by one that stands, so each is put as soon as it may come.
 WAITS = ("hardclear", "synced", "freed")
+# Why an ask stands before an entry.
+CAUSES = {"take": "an interrupt came", "begin": "it was found", "unlink": "an interrupt came before the mask"}
 
 
 @dataclass(eq=False)
 class Entry:
-    """An entry that is to be placed: its row, who makes it, and its words, None where only what stands before it says them."""
+    """An entry that is to be placed: its row, who makes it, its words, None where only what stands before says them,
+    and the first and the last place at which it may stand."""
 
     row: object
     who: str
@@ -30,7 +33,7 @@ class Entry:
     last: int
     # the rows of asks that the first way put before it
     asked: list
-    # the numbers of the entries that must stand before it: the last of its actor, and if it has one place the last of these
+    # the numbers of the entries that it stands behind: its actor's last, and if it has one place the last of these
     before: list = field(default_factory=list)
     is_early: bool = False
 
@@ -49,8 +52,8 @@ class Put:
 
 @dataclass
 class Node:
-    """Where a search stands: the line, how many entries could come so far by their first places, which of them are still to
-    come, how many of those with one place stand, and how many entries in all."""
+    """Where a search stands: the line, how many entries could come so far by their first places, which of them are
+    still to come, how many of those with one place stand, and how many entries in all."""
 
     line: Due
     opened: int = 0
@@ -62,14 +65,7 @@ class Node:
         return replace(self, line=self.line.copy(), left=list(self.left))
 
 
-def open_words(row, words):
-    """The words of a row, with None where what stands before says them: how many asks a return served, whether a finish that
-    doesn't unmask cleared, why a take isn't handled, and the last note where the trace doesn't tell."""
-    if words[0] == "return" or words[0] == "end" and row.step.more.get("unseen"):
-        return [*words[:-1], None]
-    if words[0] == "finish" and row.step.until is not None:
-        return [words[0], None, words[2]]
-    return [*words[:2], None] if words[0] == "take" and row.step.words[2] is None else words
+# ---- the entries of a piece
 
 
 def entries_of(piece, written):
@@ -88,18 +84,28 @@ def entries_of(piece, written):
     return entries
 
 
-def keep_order(numbers, entries, key):
-    """Says of each of these entries, in order, which one of the same key must stand before it."""
-    last = {}
-    for number in numbers:
-        mine = key(entries[number])
-        entries[number].before += [last[mine]] if mine in last else []
-        last[mine] = number
+def open_words(row, words):
+    """The words of a row, with None where what stands before says them: how many asks a return served, whether a finish
+    that doesn't unmask cleared, why a take isn't handled, and the last note where the trace doesn't tell."""
+    if words[0] == "return" or words[0] == "end" and row.step.more.get("unseen"):
+        return [*words[:-1], None]
+    if words[0] == "finish" and row.step.until is not None:
+        return [words[0], None, words[2]]
+    return [*words[:2], None] if words[0] == "take" and row.step.words[2] is None else words
 
 
 def at_of(entry):
     """The place of its own event, by which the entries of an actor are in order."""
     return entry.row.step.at if entry.row.step else entry.first
+
+
+def keep_order(numbers, entries, key):
+    """Says of each of these entries, in order, which one of the same key it stands behind."""
+    last = {}
+    for number in numbers:
+        mine = key(entries[number])
+        entries[number].before += [last[mine]] if mine in last else []
+        last[mine] = number
 
 
 def mark_early(entries):
@@ -108,12 +114,15 @@ def mark_early(entries):
     for it in reversed(entries):
         if it.words[0] == "take":
             way = it.words[1]
-        it.is_early = it.words[0] == "unlink" and it.words[2] == "last" and way == "line"
+        it.is_early = it.words[:1] + it.words[2:] == ["unlink", "last"] and way == "line"
+
+
+# ---- how an entry is put
 
 
 def asks_before(line, entry):
-    """The devices that ask before an entry, as the first way has it: one that the take's handlers find, else the spare one; one
-    that its handler finds. And the spare one before an edge line is masked, if a take comes behind."""
+    """The devices that ask before an entry: before a take one that its handlers find, else the spare one; before a
+    begin one that its handler finds; and the spare one before an edge line is masked, if a take comes behind."""
     if entry.is_early:
         return ["spare"] if line.kind == "edge" and not line.recalls and not line.sent else []
     more = entry.row.step.more if entry.row.step else {}
@@ -127,15 +136,6 @@ def asks_before(line, entry):
     return []
 
 
-def puts(line, number, entry):
-    """How an entry may be put now, if it is due. A run whose thread says that it served may have found an ask of its own."""
-    put = put_if_due(line, number, entry)
-    more = entry.row.step.more if put and entry.row.step else {}
-    if more.get("served") and not line.asks.get(str(more["device"].number)):
-        return [put, Put(number, put.words, [more["device"]])]
-    return [put] if put else []
-
-
 def ask(line, devices):
     for it in devices:
         line.do_ask("asks", ["ask", str(SPARE) if it == "spare" else str(it.number)])
@@ -143,18 +143,26 @@ def ask(line, devices):
 
 def put_if_due(line, number, entry):
     """The entry as it is put, if it is due of its actor now, else None; the line stays as it is."""
-    asks, sent, stored = asks_before(line, entry), line.sent, line.stored
+    asks, sent, stored, many = asks_before(line, entry), line.sent, line.stored, line.asks
     if asks:
-        before = dict(line.asks)
+        line.asks = dict(many)
         ask(line, asks)
     due = (line.due(entry.who) or "").split()
-    if asks:
-        line.asks, line.sent, line.stored = before, sent, stored
+    line.asks, line.sent, line.stored = many, sent, stored
     if len(due) != len(entry.words) or any(want not in (None, have) for want, have in zip(entry.words, due)):
         return None
     # what is open of a take is busy or off, of a note counted or quiet
-    is_open = entry.words[-1] is None
-    return None if is_open and due[-1] in ("handle", "killed") else Put(number, due, asks)
+    is_other = entry.words[-1] is None and due[-1] in ("handle", "killed")
+    return None if is_other else Put(number, due, asks)
+
+
+def puts(line, number, entry):
+    """How an entry may be put now, if it is due. A run that served, as its thread says, may have had its own ask."""
+    put = put_if_due(line, number, entry)
+    more = entry.row.step.more if put and entry.row.step else {}
+    if more.get("served") and not line.asks.get(str(more["device"].number)):
+        return [put, Put(number, put.words, [more["device"]])]
+    return [put] if put else []
 
 
 class Search:
@@ -164,11 +172,11 @@ class Search:
         self.entries, self.by_first = entries, sorted(range(len(entries)), key=lambda it: (entries[it].first, it))
         self.node, self.path, self.stands = Node(line), [], bytearray(len(entries))
         self.stack, self.met, self.tries, self.has_left = [], set(), 0, False
-        # the longest way so far: how many of its entries have one place, all of them, and the one whose time was over
+        # the way that came furthest: how many of its entries have one place, all of them, and the one that was too late
         self.furthest = (-1, [], None)
 
     def run(self, most):
-        """Whether all entries stand: True or False, or None if the tries ran out."""
+        """Whether all entries stand at last: True or False, or None if the tries ran out."""
         while True:
             self.open()
             if not self.node.left:
@@ -188,7 +196,7 @@ class Search:
 
     def over(self):
         """The earliest place at which an entry that is still to come must stand."""
-        return min((self.entries[it].last for it in self.node.left), default=None)
+        return min(self.entries[it].last for it in self.node.left)
 
     def open(self):
         """Takes in what may come by its first place."""
@@ -202,10 +210,10 @@ class Search:
 
     def choices(self):
         """What may be put next, in the order of the first way; nothing where the line was met as it stands."""
-        likeness = (self.node.opened, frozenset(self.node.left), self.node.line.likeness())
-        if likeness in self.met:
+        met = (self.node.opened, frozenset(self.node.left), self.node.line.likeness())
+        if met in self.met:
             return []
-        self.met.add(likeness)
+        self.met.add(met)
         found, over = [], self.over()
         for number in sorted(self.node.left):
             entry = self.entries[number]
@@ -241,17 +249,17 @@ class Search:
         return choices
 
 
-# Why an ask stands before an entry.
-CAUSES = {"take": "an interrupt came", "begin": "it was found", "unlink": "an interrupt came before the mask"}
+# ---- a piece
 
 
 def lay_anew(piece, entries, path, rest=()):
-    """Gives a piece the rows of a way, and behind it those of the entries that stand in none, as they were laid first."""
+    """Gives a piece the rows of a way, and behind them those of the other entries, as they were laid first."""
     rows, broken = piece.rows[: piece.head], piece.rows[piece.broken] if piece.broken is not None else None
     for put in path:
         entry = entries[put.number]
         for device in put.asks:
-            rows.append(Row(("asks",), ["ask", device], [], CAUSES[entry.words[0]], ["ask", device], entry.row.place))
+            cause = CAUSES[entry.words[0]]
+            rows.append(Row(("asks",), ["ask", device], [], cause, ["ask", device], entry.row.place))
             piece.spare |= device == "spare"
         words = [due if kept is None else have for have, kept, due in zip(entry.row.words, entry.words, put.words)]
         rows.append(replace(entry.row, words=words))
@@ -263,8 +271,9 @@ def lay_anew(piece, entries, path, rest=()):
 
 
 def place(piece, cpus, most=MOST):
-    """Looks for a lawful placing of a piece that isn't lawful as it was laid, and says on the piece what came of it. Where none is
-    found, the piece is laid by the way that came furthest, if that is further than the first. Whether its rows are others now."""
+    """Looks for a lawful placing of a piece that isn't lawful as it was laid, and says on the piece what came of it.
+    Where none is found, the piece is laid by the way that came furthest, if that is further than the first one. Whether
+    its rows are others now."""
     written = Written(piece, cpus)
     board, log = list(written.board()), list(written.log())
     wrong, _ = first_difference(board, log)
@@ -277,18 +286,17 @@ def place(piece, cpus, most=MOST):
     for row in log[: piece.head]:
         _, who, *words = row.split(" ")
         line.apply(who, words)
-    entries = entries_of(piece, written)
-    search = Search(entries, line)
+    search = Search(entries_of(piece, written), line)
     found = search.run(most)
     piece.placing, piece.tries = {True: FOUND, False: NONE, None: GIVEN_UP}[found], search.tries
     if found:
         piece.forced, piece.unfit = 0, []
-        lay_anew(piece, entries, search.path)
+        lay_anew(piece, search.entries, search.path)
         return True
-    first = sum(it.span[0] == it.span[1] for it in piece.rows[piece.head : wrong - 1] if it.words[0] != "ask")
     fixed, path, stuck = search.furthest
-    if fixed <= first:
+    if fixed <= sum(it.span[0] == it.span[1] for it in piece.rows[piece.head : wrong - 1] if it.words[0] != "ask"):
         return False
     stand = {it.number for it in path} | {stuck}
-    lay_anew(piece, entries, path, [stuck, *(it for it in range(len(entries)) if it not in stand)])
+    rest = [stuck, *(it for it in range(len(search.entries)) if it not in stand)]
+    lay_anew(piece, search.entries, path, rest)
     return True

@@ -1,8 +1,8 @@
 """From events to the steps of each line: what was done there, by whom, and between which events.
 
-A step has the row's words, a place in the order (`at`), the events that it was made of, and, if it is made without the lock,
-the places between which it may be moved: for what waits from `at` to `until`, for what is put at an event of its own from
-`first` to `last`. What isn't known as a step is made is filled in by later events.
+A step has the row's words, a place in the order (`at`), the events that it was made of, and, if it is made without the
+lock, the places between which it may be moved: for what waits from `at` to `until`, for what stands at an event of its
+own from `first` to `last`. What isn't known as a step is made is filled in by later events.
 """
 
 from dataclasses import dataclass, field
@@ -282,9 +282,9 @@ class Walk:
             line.first.append(device)
             line.linked.append(device)
         flow.called.append(device)
-        read = flow.seen
+        flow.begun = line.say(self.at, f"c{event.cpu}", ["begin", device], [event.number], more={"device": device},
+                              first=flow.seen)
         flow.meets(self.at)
-        flow.begun = line.say(self.at, f"c{event.cpu}", ["begin", device], [event.number], more={"device": device}, first=read)
 
     def on_irq_handler_exit(self, event):
         flow = self.flow(event, line_of(event))
