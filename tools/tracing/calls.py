@@ -1,7 +1,7 @@
 """From events to the steps of each line, second part: threads, and the calls of drivers and of user space."""
 
 from events import line_of, value
-from steps import ERRNO, LEVEL, NO_AUTOEN, ONESHOT, PENDING, SHARED, Frame, Walk
+from steps import ERRNO, LEVEL, NO_AUTOEN, ONESHOT, PENDING, SHARED, Walk
 
 
 EBUSY = -16
@@ -20,12 +20,12 @@ class Calls(Walk):
     # ---- threads
 
     def on_tf(self, event):
-        line, frame = self.line(line_of(event)), Frame(event, self.at)
+        line = self.line(line_of(event))
         device = line.of_action(event.args.get("act"))
         if not device:
             self.drop(event, "a run of a thread whose device isn't known")
             return
-        self.frames.setdefault(event.who, []).append(frame)
+        frame = self.enter(event)
         frame.steps["of"] = device
         if device in line.awake:
             frame.step = line.say(self.at, ("thread", device), ["begin"], [event.number], more={"device": device},
@@ -34,13 +34,13 @@ class Calls(Walk):
 
     def on_fz(self, event):
         frame = self.inside(event, "tf", line_of(event))
-        inner = Frame(event, self.at)
-        self.frames.setdefault(event.who, []).append(inner)
+        inner = self.enter(event)
         if frame and frame.step:
             device = frame.steps["device"]
             line = self.line(frame.line)
-            frame.steps["return"] = line.say(self.at, ("thread", device), ["return", 0], [event.number],
-                                             more={"device": device}, first=frame.at)
+            inner.step = line.say(self.at, ("thread", device), ["return", 0], [event.number],
+                                  more={"device": device}, first=frame.at)
+            frame.steps["return"] = inner.step
 
     def on_ut(self, event):
         frame = self.inside(event, "fz", line_of(event))
@@ -199,8 +199,7 @@ class Calls(Walk):
         """What a resend is made of; the chip's own event says whether the chip made it."""
         number = line_of(event)
         step, request = self.opening.get((event.who, number)), self.inside(event, "rq", number)
-        inner = Frame(event, self.at)
-        self.frames.setdefault(event.who, []).append(inner)
+        inner = self.enter(event)
         waits = bool((value(event, "ist") or 0) & PENDING) and not (value(event, "sta") or 0) & LEVEL
         inner.steps["words"] = inner.steps["events"] = None
         if step and "started" in step.words:
@@ -300,8 +299,7 @@ class Calls(Walk):
     # ---- affinity
 
     def on_af(self, event):
-        line, frame = self.line(line_of(event)), Frame(event, self.at)
-        self.frames.setdefault(event.who, []).append(frame)
+        line, frame = self.line(line_of(event)), self.enter(event)
         words = ["affinity", value(event, "msk") or 0, "later"]
         frame.step = line.say(self.at, self.caller(event), words, [event.number], call=["affinity"])
 

@@ -64,6 +64,12 @@ class Frame:
     def __init__(self, event, at):
         self.event, self.name, self.line, self.at = event, event.name, line_of(event), at
         self.steps, self.events, self.step = {}, [event.number], None
+        # whether whoever is in it entered the function again
+        self.is_over = False
+
+    def alone(self):
+        """Its events that aren't those of its step."""
+        return [it for it in self.events if not self.step or it not in self.step.events]
 
 
 class Flow:
@@ -170,6 +176,21 @@ class Walk:
                 return frame
         return None
 
+    def enter(self, event):
+        """A function is entered; none of these calls itself."""
+        stack, frame = self.frames.setdefault(event.who, []), Frame(event, self.at)
+        for it in stack:
+            it.is_over = it.is_over or it.name == frame.name
+        stack.append(frame)
+        return frame
+
+    def give_up(self, frame, reason, is_over):
+        """A function that never returned: its events stand in no row, but for those of a step that it made."""
+        alone = frame.alone()
+        if alone:
+            self.reasons.setdefault(reason, []).extend(alone)
+        self.fault("a call without its return", is_over and len(alone) < len(frame.events))
+
     def leave(self, event):
         """The frame that a return ends; frames above it that never returned are given up."""
         stack, name = self.frames.get(event.who, []), ENDS[event.name]
@@ -177,7 +198,7 @@ class Walk:
             if stack[place].name == name:
                 frame = stack[place]
                 for lost in stack[place + 1 :]:
-                    self.reasons.setdefault("an entry without its return", []).extend(lost.events)
+                    self.give_up(lost, "an entry without its return", True)
                 del stack[place:]
                 frame.events.append(event.number)
                 return frame
@@ -194,7 +215,7 @@ class Walk:
             if handler:
                 handler(event)
             elif event.name in PAIRS:
-                self.frames.setdefault(event.who, []).append(Frame(event, self.at))
+                self.enter(event)
             else:
                 self.drop(event, "an event that no rule is for")
         self.close()
@@ -204,7 +225,7 @@ class Walk:
         """What is still open at the end of the trace stands in no row."""
         for stack in self.frames.values():
             for frame in stack:
-                self.reasons.setdefault("a call that the trace doesn't see the end of", []).extend(frame.events)
+                self.give_up(frame, "a call that the trace doesn't see the end of", frame.is_over)
         for flows in self.flows.values():
             for flow in flows:
                 self.settle(flow)
