@@ -1,7 +1,7 @@
 """From events to the steps of each line, second part: threads, and the calls of drivers and of user space."""
 
 from events import line_of, value
-from steps import ERRNO, LEVEL, NO_AUTOEN, ONESHOT, PENDING, SHARED, Frame, Walk
+from steps import ERRNO, LEVEL, NO_AUTOEN, ONESHOT, PENDING, SHARED, Walk
 
 
 EBUSY = -16
@@ -20,24 +20,27 @@ class Calls(Walk):
     # ---- threads
 
     def on_tf(self, event):
-        line, frame = self.line(line_of(event)), Frame(event, self.at)
+        line = self.line(line_of(event))
         device = line.of_action(event.args.get("act"))
         if not device:
             self.drop(event, "a run of a thread whose device isn't known")
             return
-        self.frames.setdefault(event.who, []).append(frame)
+        frame = self.enter(event)
+        frame.steps["of"] = device
         if device in line.awake:
-            frame.step = line.say(self.at, ("thread", device), ["begin"], [event.number], more={"device": device})
+            frame.step = line.say(self.at, ("thread", device), ["begin"], [event.number], more={"device": device},
+                                  first=line.idle.get(device, 0))
             frame.steps["device"] = device
 
     def on_fz(self, event):
         frame = self.inside(event, "tf", line_of(event))
-        inner = Frame(event, self.at)
-        self.frames.setdefault(event.who, []).append(inner)
+        inner = self.enter(event)
         if frame and frame.step:
             device = frame.steps["device"]
-            back = self.line(frame.line).say(self.at, ("thread", device), ["return", 0], [event.number], more={"device": device})
-            frame.steps["return"] = back
+            line = self.line(frame.line)
+            inner.step = line.say(self.at, ("thread", device), ["return", 0], [event.number],
+                                  more={"device": device}, first=frame.at)
+            frame.steps["return"] = inner.step
 
     def on_ut(self, event):
         frame = self.inside(event, "fz", line_of(event))
@@ -63,13 +66,14 @@ class Calls(Walk):
         if not frame:
             return
         line, device = self.line(frame.line), frame.steps.get("device")
+        line.idle[frame.steps["of"]] = self.at
         if not device:
             line.drop(frame.events, BEFORE)
             return
         back = frame.steps.get("return")
         if not back:
-            back = line.say(self.at, ("thread", device), ["return", 0], [], more={"device": device})
-        back.more["served"] = value(event, "ret") == 1
+            back = line.say(self.at, ("thread", device), ["return", 0], [], more={"device": device}, first=frame.at)
+        frame.step.more["served"] = value(event, "ret") == 1
         back.events.append(event.number)
         line.say(self.at, ("thread", device), ["done"], [event.number], more={"device": device})
 
@@ -141,6 +145,7 @@ class Calls(Walk):
             return
         free, sync, line = self.inside(event, "fi", frame.line), self.inside(event, "si", frame.line), self.line(frame.line)
         if free and free.step:
+            free.steps["clear"] = self.at
             line.say(free.step.at, free.step.who, ["hardclear"], frame.events, until=self.at, call=free.step.call)
         elif sync:
             sync.steps["clear"] = self.at
@@ -161,7 +166,7 @@ class Calls(Walk):
             line.drop([*frame.events, *frame.steps["hard"]], "a wait that no row shows")
             return
         line.say(frame.at, self.caller(event), ["hardclear"], frame.steps["hard"], until=frame.steps["clear"], call=call)
-        step = line.say(frame.at, self.caller(event), ["synced"], frame.events, until=self.at, call=call)
+        step = line.say(frame.steps["clear"], self.caller(event), ["synced"], frame.events, until=self.at, call=call)
         if outer:
             outer.steps["synced"] = step
 
@@ -194,8 +199,7 @@ class Calls(Walk):
         """What a resend is made of; the chip's own event says whether the chip made it."""
         number = line_of(event)
         step, request = self.opening.get((event.who, number)), self.inside(event, "rq", number)
-        inner = Frame(event, self.at)
-        self.frames.setdefault(event.who, []).append(inner)
+        inner = self.enter(event)
         waits = bool((value(event, "ist") or 0) & PENDING) and not (value(event, "sta") or 0) & LEVEL
         inner.steps["words"] = inner.steps["events"] = None
         if step and "started" in step.words:
@@ -283,8 +287,8 @@ class Calls(Walk):
             return
         line = self.line(frame.line)
         if frame.step:
-            device = frame.step.more["device"]
-            line.say(frame.step.at, frame.step.who, ["freed", device], frame.events, until=self.at, call=frame.step.call,
+            device, clear = frame.step.more["device"], frame.steps.get("clear", frame.step.at)
+            line.say(clear, frame.step.who, ["freed", device], frame.events, until=self.at, call=frame.step.call,
                      more={"device": device})
             device.action = None
         else:
@@ -295,8 +299,7 @@ class Calls(Walk):
     # ---- affinity
 
     def on_af(self, event):
-        line, frame = self.line(line_of(event)), Frame(event, self.at)
-        self.frames.setdefault(event.who, []).append(frame)
+        line, frame = self.line(line_of(event)), self.enter(event)
         words = ["affinity", value(event, "msk") or 0, "later"]
         frame.step = line.say(self.at, self.caller(event), words, [event.number], call=["affinity"])
 

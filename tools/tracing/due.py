@@ -1,7 +1,10 @@
 """What was due in place of a row: the table of steps (docs/DEFINITIONS.md, section 11) over one line, kept row by row.
 
 It explains a verdict and gives none: `genirq check` judges. A history is looked through once, so long pieces can be.
+The search over placings (placing.py) goes by it too, on copies of a line.
 """
+
+from copy import copy
 
 FLAGS = {"shared": "s", "oneshot": "o", "noauto": "n"}
 SEVERAL = {"sync": 2, "disable": 3, "free": 3}
@@ -44,6 +47,32 @@ class Due:
             self.scripts[self.driver] = []
         elif self.driver:
             self.scripts[self.driver].append(words)
+
+    # ---- copies
+
+    def copy(self):
+        """The line as it stands; the board is shared."""
+        other = copy(self)
+        for name in ("linked", "called", "answers", "flags", "stage", "asks", "seen", "woken", "unfinished"):
+            setattr(other, name, getattr(self, name).copy())
+        other.made = {who: list(it) for who, it in self.made.items()}
+        return other
+
+    def likeness(self):
+        """What all that is due from now on depends on, if the same entries stand before: of asks only whether there are
+        any, now and behind the run that is under way, and of what threads served only whether a note has seen it."""
+        asks = []
+        for device, many in self.asks.items():
+            seen = self.seen.get("t" + device, 0) if self.stage.get(device) == "begun" else 0
+            asks.append((device, many > 0, seen > 0, many > seen))
+        return (
+            self.flow, self.at_work, self.at_work and self.seen[self.at_work] > 0, tuple(self.called),
+            tuple(self.answers), frozenset(self.woken), tuple(sorted(self.stage.items())), frozenset(self.unfinished),
+            tuple(sorted(asks)),
+            tuple(self.linked), self.depth, self.masked, self.pending, self.soft, self.sent, self.stored, self.killed,
+            self.freeing, self.mask, self.waiting, self.count, self.unhandled, self.deferred, self.served != self.last,
+            self.last_time,
+        )
 
     # ---- what is due
 

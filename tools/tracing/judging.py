@@ -8,7 +8,8 @@ from dataclasses import dataclass
 from calls import Calls
 from due import first_difference
 from events import read_trace
-from laying import Laying
+from laying import GIVEN_UP, Laying
+from placing import MOST as MOST_TRIES, place
 from reasons import reason_of
 from repository import TOP
 from writing import Written
@@ -32,6 +33,10 @@ class Unlawful:
     text: str
     due: str | None
     why: str
+
+    def was_given_up(self):
+        """Whether the search for a lawful placing of the piece ended before its end."""
+        return self.piece.placing == GIVEN_UP
 
 
 def check(text):
@@ -57,8 +62,17 @@ class Line:
         self.pieces, self.unlawful, self.rows, self.laying = [], [], 0, None
 
     def lay(self, cuts):
-        self.laying = Laying(self.steps, cuts)
+        """Lays the line's steps; what was placed by a search before stays so."""
+        before, self.laying = self.pieces, Laying(self.steps, cuts)
         self.pieces = self.laying.lay()
+        for old, new in zip(before, self.pieces):
+            if old.placing:
+                new.keep(old)
+
+    def place(self, most=MOST_TRIES):
+        """Looks for lawful placings without judging."""
+        for piece in self.pieces:
+            place(piece, self.cpus, most)
 
     def stays(self, row):
         """Whether the kernel says at a take that its line is aimed at the processor that takes: a change was dropped."""
@@ -72,35 +86,46 @@ class Line:
         since = steps[changes[0]].at if len(changes) == 2 else 0
         return any(since <= at <= steps[piece.rows[place].place].at for at in self.steps.busy)
 
-    def judge(self, most=MOST):
+    def judge(self, most=MOST, tries=MOST_TRIES):
         """Judges piece by piece; behind a row that isn't lawful the trace is cut at the next rest, and goes on."""
-        cuts, done, lawful = set(), 0, []
+        cuts, done = set(), 0
         self.lay(cuts)
         while done < len(self.pieces):
             piece = self.pieces[done]
-            written = Written(piece, self.cpus)
-            entry = check("\n".join([*written.board(), "---", *written.log()]) + "\n")
+            entry = self.first_wrong(piece, tries)
+            done += 1
             if entry is None:
                 self.rows += len(piece.rows)
-                done += 1
                 continue
-            log = list(written.log())
-            at, due = first_difference(written.board(), log)
             self.rows += entry
-            due = due if at == entry else "?"
-            why = reason_of(piece.rows[entry - 1], due, piece.rows[: entry - 1], piece.target)
-            if why in ("waiting-move", "sent-signal") and self.was_busy(piece, entry - 1):
-                why = "busy-chip"
-            elif why == "sent-signal" and self.stays(piece.rows[entry - 1]):
-                why = "hotplug-started"
-            self.unlawful.append(Unlawful(piece, entry - 1, log[entry - 1], due, why))
-            done += 1
+            self.unlawful.append(self.told(piece, entry - 1))
             if len(self.unlawful) >= most or piece.rows[entry - 1].place is None:
                 break
             if piece.broken != entry - 1:
                 cuts.add(piece.rows[entry - 1].place)
                 self.lay(cuts)
         return self
+
+    def first_wrong(self, piece, tries):
+        """The number of the first row of a piece that `check` calls unlawful, None if it calls none so: as the piece
+        was laid, or as a search for a lawful placing laid it then."""
+        entry = check(Written(piece, self.cpus).text())
+        if entry is not None and place(piece, self.cpus, tries):
+            entry = check(Written(piece, self.cpus).text())
+        return entry
+
+    def told(self, piece, number):
+        """What is said of a row that isn't lawful."""
+        written, row = Written(piece, self.cpus), piece.rows[number]
+        log = list(written.log())
+        at, due = first_difference(written.board(), log)
+        due = due if at == number + 1 else "?"
+        why = reason_of(row, due, piece.rows[:number], piece.target)
+        if why in ("waiting-move", "sent-signal") and self.was_busy(piece, number):
+            why = "busy-chip"
+        elif why == "sent-signal" and self.stays(row):
+            why = "hotplug-started"
+        return Unlawful(piece, number, log[number], due, why)
 
 
 def title(line):

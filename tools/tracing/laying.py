@@ -17,6 +17,10 @@ WINDOW, LIMIT = 100000, 99900
 FIRST = ("request", "disable", "enable", "unlink", "affinity", "ask", "moment")
 # Milliseconds of a tick on the kernel that was tried (CONFIG_HZ=250), and after how many ticks the count begins anew (HZ/10).
 TICK, FAR = 4, 25
+# IRQ_WAKE_THREAD, by include/linux/irqreturn.h.
+WOKEN = "2"
+# What comes of a search for a lawful placing: there is one, there is none, or its tries ran out.
+FOUND, NONE, GIVEN_UP = "found", "none", "given up"
 
 
 @dataclass
@@ -29,6 +33,9 @@ class Row:
     reason: str = ""
     call: object = None
     place: int | None = None
+    # the step that it was made of, and the first and the last place of the trace at which it may stand
+    step: object = None
+    span: tuple | None = None
 
 
 @dataclass
@@ -48,10 +55,29 @@ class Piece:
     spare: bool = False
     # the row at which the converter saw that the piece isn't lawful
     broken: int | None = None
+    # how many rows stand at its head that no event is behind
+    head: int = 0
+    # what came of a search for a lawful placing (placing.py), if one was needed, and its tries
+    placing: str = ""
+    tries: int = 0
 
     @property
     def later(self):
         return "later" in self.answers
+
+    @property
+    def said(self):
+        """What is said of the search; empty where none was needed."""
+        return {"": "", FOUND: f"placed by a search, {self.tries} tries", NONE: "no placing is lawful",
+                GIVEN_UP: f"placing given up after {self.tries} tries"}[self.placing]
+
+    def keep(self, other):
+        """Takes over how a search laid this piece before the trace was cut elsewhere, up to where it ends now."""
+        end = max((it.place for it in self.rows if it.place is not None), default=0)
+        self.rows = [it for it in other.rows if it.place is None or it.place <= end]
+        self.placing, self.tries, self.broken, self.spare = other.placing, other.tries, other.broken, other.spare
+        if self.placing == FOUND:
+            self.forced, self.unfit = 0, []
 
 
 class State:
@@ -172,6 +198,22 @@ def cpu_of(mask):
     return mask & -mask
 
 
+def owed_runs(steps):
+    """Between which steps a thread owes a run: from a begin to its next one, if no wake stands between them. However
+    the line looks there, it isn't at rest: a wake came after the mark was tested that the first begin stands for."""
+    woken, begun, spans = set(), {}, []
+    for place, step in enumerate(steps):
+        device = step.more.get("device")
+        if step.words[0] == "return" and step.words[2:3] == ["wake"]:
+            woken.add(device)
+        elif step.words[0] == "begin" and step.who[0] == "thread":
+            if device not in woken and device in begun:
+                spans.append((begun[device], place))
+            woken.discard(device)
+            begun[device] = place
+    return spans
+
+
 class Laying:
     """Lays the steps of one line into pieces."""
 
@@ -181,6 +223,7 @@ class Laying:
         self.target, self.coming, self.kinds, self.base = 0, None, {}, 0
         self.moved, self.searched, self.place, self.due_cut = 0, 0, None, False
         self.holes, self.skipped, self.is_skipping, self.is_broken = list(line.holes), 0, False, False
+        self.owed = owed_runs(self.steps)
         # where the line is aimed isn't known, or it isn't where it seemed to be
         self.is_lost, self.is_wrong = True, False
 
@@ -202,7 +245,7 @@ class Laying:
             # a move at once makes void a change that waits
             is_free = not self.waits and (self.coming is None or step.who == ("own",))
             is_free = is_free and (self.state.is_at_rest() or self.state.is_unused())
-            if is_free and (self.due_cut or self.wants_cut(step)):
+            if is_free and (self.due_cut or self.wants_cut(step)) and not any(a < place <= b for a, b in self.owed):
                 self.begin(self.state.linked, 0, place)
             self.put_step(step)
         self.settle_waits(float("inf"))
@@ -224,12 +267,14 @@ class Laying:
         return self.is_skipping
 
     def fill_notes(self):
-        """What a note made of the counts is seen by the next note."""
+        """What a note made of the counts is seen by the next note; of the last one it isn't if only threads were woken."""
         ends = [it for it in self.line.ends]
         for this, after in zip(ends, [*ends[1:], None]):
             if this.words[3] is not None:
                 continue
             this.words[3] = "counted" if self.was_counted(this, after) else "quiet"
+            note = this.more["note"]
+            this.more["unseen"] = this.words[3] == "quiet" and after is None and note and note.args.get("ret") == WOKEN
 
     def was_counted(self, this, after):
         note, later = this.more["note"], after and after.more["note"]
@@ -264,6 +309,7 @@ class Laying:
             self.put(Row(("own",), ["disable"], [], "disabled before this piece", ["disable_nosync"]))
         if counts[1]:
             self.prelude(piece, place)
+        piece.head = len(piece.rows)
 
     def flags_of(self, device, count):
         flags = device.flags if device.flags is not None else self.line.flags
@@ -332,6 +378,7 @@ class Laying:
 
     def put(self, row):
         row.place = self.place
+        row.span = row.step.span() if row.step else (self.steps[row.place].at,) * 2 if row.place is not None else None
         self.pieces[-1].rows.append(row)
         self.pieces[-1].calls += row.call is not None and (row.words[0] in FIRST or row.words[0] == "hardclear" and row.call == ["sync"])
         self.state.apply(row)
@@ -360,7 +407,7 @@ class Laying:
             self.move_begin(step.more["device"])
         elif kind == "end" and step.more.get("note") and int(step.more["note"].args.get("ret", 1)) == 0:
             self.moment(step)
-        self.put(Row(step.who, list(step.words), step.events, call=step.call))
+        self.put(Row(step.who, list(step.words), step.events, call=step.call, step=step))
 
     def moment(self, step):
         """The time of a note that finds nothing, where it is long after the one before: only then it counts."""
@@ -386,7 +433,7 @@ class Laying:
                 self.ask(next((it for it in found if not self.state.asks.get(it)), None), "an interrupt came")
         if self.is_broken:
             self.pieces[-1].broken, self.is_broken = len(self.pieces[-1].rows), False
-        self.put(Row(step.who, words, step.events))
+        self.put(Row(step.who, words, step.events, step=step))
         if self.coming is not None:
             self.target, self.coming = self.coming, None
 
@@ -404,7 +451,7 @@ class Laying:
         if words[2] in ("now", "later"):
             self.pieces[-1].answers.add(words[2])
         self.moved += step.who == ("own",)
-        self.put(Row(step.who, words, step.events, call=step.call))
+        self.put(Row(step.who, words, step.events, call=step.call, step=step))
 
     # ---- what is made without the lock
 
@@ -438,7 +485,7 @@ class Laying:
             held = any(it.call is not None and it.call is step.call or it.who[0] == "thread" and it.who == step.who for it in left)
             if not held and (self.may(step) or step.until <= at):
                 self.pieces[-1].forced += not self.may(step)
-                if step.words[0] == "finish" and step.words[1] is None:
+                if step.words[0] == "finish":
                     step.words[1] = "kept" if step.who[1] in self.state.woken else "cleared"
                 self.put_step(step)
             else:

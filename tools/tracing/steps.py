@@ -1,7 +1,8 @@
 """From events to the steps of each line: what was done there, by whom, and between which events.
 
-A step has the row's words, a place in the order (`at`), the events that it was made of, and, if it is made without the lock,
-the place up to which it may be moved (`until`). What isn't known as a step is made is filled in by later events.
+A step has the row's words, a place in the order (`at`), the events that it was made of, and, if it is made without the
+lock, the places between which it may be moved: for what waits from `at` to `until`, for what stands at an event of its
+own from `first` to `last`. What isn't known as a step is made is filled in by later events.
 """
 
 from dataclasses import dataclass, field
@@ -35,6 +36,14 @@ class Step:
     until: int | None = None
     call: object = None
     more: dict = field(default_factory=dict)
+    first: int | None = None
+    last: int | None = None
+
+    def span(self):
+        """The first and the last place at which it may stand; the same one twice for what is done under the lock."""
+        if self.until is not None:
+            return self.at, self.until
+        return self.at if self.first is None else self.first, self.at if self.last is None else self.last
 
 
 @dataclass(eq=False)
@@ -55,6 +64,12 @@ class Frame:
     def __init__(self, event, at):
         self.event, self.name, self.line, self.at = event, event.name, line_of(event), at
         self.steps, self.events, self.step = {}, [event.number], None
+        # whether whoever is in it entered the function again
+        self.is_over = False
+
+    def alone(self):
+        """Its events that aren't those of its step."""
+        return [it for it in self.events if not self.step or it not in self.step.events]
 
 
 class Flow:
@@ -64,7 +79,15 @@ class Flow:
         self.events, self.kind, self.at, self.is_resend = [event.number], FLOWS.get(event.name), at, is_resend
         self.line, self.cpu, self.place, self.take = line_of(event), event.cpu, None, None
         self.is_open, self.begun, self.called, self.exit = False, None, [], None
+        # the place of its last event of its handlers, and the wake whose end isn't seen yet
+        self.seen, self.wake = at, None
         self.note, self.end, self.kill, self.acks = None, None, [], 0
+
+    def meets(self, at):
+        """An event of the processor in its handlers: a wake before it is over."""
+        if self.wake:
+            self.wake.last = at
+        self.seen, self.wake = at, None
 
 
 class LineSteps:
@@ -74,6 +97,8 @@ class LineSteps:
         self.number, self.facts = number, facts or {}
         self.steps, self.reasons, self.devices, self.linked = [], {}, [], []
         self.kind, self.depth, self.flags, self.ends, self.targets, self.acks, self.busy = None, None, None, [], [], [], []
+        # of each device where the last run of its thread was over
+        self.idle = {}
         for name in [it for it in (self.facts.get("actions") or "").split(",") if it]:
             self.linked.append(self.add(name))
         self.first, self.awake, self.holes = list(self.linked), set(), []
@@ -151,6 +176,21 @@ class Walk:
                 return frame
         return None
 
+    def enter(self, event):
+        """A function is entered; none of these calls itself."""
+        stack, frame = self.frames.setdefault(event.who, []), Frame(event, self.at)
+        for it in stack:
+            it.is_over = it.is_over or it.name == frame.name
+        stack.append(frame)
+        return frame
+
+    def give_up(self, frame, reason, is_over):
+        """A function that never returned: its events stand in no row, but for those of a step that it made."""
+        alone = frame.alone()
+        if alone:
+            self.reasons.setdefault(reason, []).extend(alone)
+        self.fault("a call without its return", is_over and len(alone) < len(frame.events))
+
     def leave(self, event):
         """The frame that a return ends; frames above it that never returned are given up."""
         stack, name = self.frames.get(event.who, []), ENDS[event.name]
@@ -158,7 +198,7 @@ class Walk:
             if stack[place].name == name:
                 frame = stack[place]
                 for lost in stack[place + 1 :]:
-                    self.reasons.setdefault("an entry without its return", []).extend(lost.events)
+                    self.give_up(lost, "an entry without its return", True)
                 del stack[place:]
                 frame.events.append(event.number)
                 return frame
@@ -175,7 +215,7 @@ class Walk:
             if handler:
                 handler(event)
             elif event.name in PAIRS:
-                self.frames.setdefault(event.who, []).append(Frame(event, self.at))
+                self.enter(event)
             else:
                 self.drop(event, "an event that no rule is for")
         self.close()
@@ -185,7 +225,7 @@ class Walk:
         """What is still open at the end of the trace stands in no row."""
         for stack in self.frames.values():
             for frame in stack:
-                self.reasons.setdefault("a call that the trace doesn't see the end of", []).extend(frame.events)
+                self.give_up(frame, "a call that the trace doesn't see the end of", frame.is_over)
         for flows in self.flows.values():
             for flow in flows:
                 self.settle(flow)
@@ -247,6 +287,7 @@ class Walk:
             flow.take.more["rounds"] = []
         flow.take.more["rounds"].append([])
         flow.end = None
+        flow.meets(self.at)
 
     def on_irq_handler_entry(self, event):
         flow, line = self.flow(event, line_of(event)), self.line(line_of(event))
@@ -262,13 +303,18 @@ class Walk:
             line.first.append(device)
             line.linked.append(device)
         flow.called.append(device)
-        flow.begun = line.say(self.at, f"c{event.cpu}", ["begin", device], [event.number], more={"device": device})
+        flow.begun = line.say(self.at, f"c{event.cpu}", ["begin", device], [event.number], more={"device": device},
+                              first=flow.seen)
+        flow.meets(self.at)
 
     def on_irq_handler_exit(self, event):
         flow = self.flow(event, line_of(event))
         if not flow or not flow.begun or flow.exit or flow.note:
             self.drop(event, "a handler outside of a flow that is modelled" if flow or event.cpu in self.polled else MISSED)
-        elif event.args.get("ret") == "unhandled":
+            return
+        flow.meets(self.at)
+        flow.begun.last = self.at
+        if event.args.get("ret") == "unhandled":
             self.answered(flow, "nothing", self.at, [event.number])
         else:
             flow.exit = (self.at, event.number)
@@ -296,6 +342,8 @@ class Walk:
         line.awake.add(device)
         self.answered(flow, "wake", self.at, events)
         line.steps[-1].more["was_woken"] = bool((value(event, "tfl") or 0) & 1)
+        flow.meets(self.at)
+        flow.wake = line.steps[-1]
 
     def on_no(self, event):
         flow, line = self.flow(event, line_of(event)), self.line(line_of(event))
@@ -303,6 +351,7 @@ class Walk:
             self.drop(event, "a note outside of a flow that is modelled")
             return
         self.settle(flow)
+        flow.meets(self.at)
         flow.note = event
 
     def on_hr(self, event):
@@ -312,6 +361,7 @@ class Walk:
             self.drop(event, "a return without its entry")
             return
         self.settle(flow)
+        flow.meets(self.at)
         line, events = self.line(flow.line), [*flow.kill, event.number]
         note = flow.note
         if note:

@@ -91,6 +91,8 @@ class Written:
         window = WINDOW - count + 1 if unhandled else WINDOW
         limit = min(max(LIMIT - unhandled + 1 if unhandled else LIMIT, 0), window - 1)
         yield "board 2"
+        if piece.said:
+            yield f"# {piece.said}"
         yield f"cpus {self.cpus}"
         yield f"spurious {window} {limit}"
         yield "log 1000000"
@@ -118,6 +120,10 @@ class Written:
     def log(self):
         for row in self.piece.rows:
             yield f"{self.number} {self.who(row)} {' '.join(self.word(it) for it in row.words)}"
+
+    def text(self):
+        """What `genirq check` reads."""
+        return "\n".join([*self.board(), "---", *self.log()]) + "\n"
 
     def sources(self):
         """Of each row its events, or why it has none."""
