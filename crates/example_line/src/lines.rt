@@ -1,6 +1,8 @@
 //! The definition of the line.
-use irq_base::{Call, CallList, DevNo, DeviceDef, DeviceList, DriverNo, Flags, FlowKind};
-use irq_base::{Kind, LineDef, LineNo, NoMemory, Trigger};
+use irq_base::{
+    Call, CallList, DevNo, DeviceDef, DeviceList, DriverNo, Flags, FlowKind, Kind, LineDef, LineNo,
+    NoMemory, Trigger,
+};
 use std::alloc::Global;
 
 const LINE: LineNo = LineNo(1);

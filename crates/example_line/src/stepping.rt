@@ -9,9 +9,7 @@ const DRIVER: Actor = Actor::Driver(DriverNo(1));
 const CPU: Actor = Actor::Cpu(CpuNo(0));
 
 /// Who makes each step.
-const STEPS: [Actor; 10] = [
-    DRIVER, CPU, DRIVER, CPU, CPU, CPU, DRIVER, CPU, CPU, CPU,
-];
+const STEPS: [Actor; 10] = [DRIVER, CPU, DRIVER, CPU, CPU, CPU, DRIVER, CPU, CPU, CPU];
 
 /// Makes the steps, of any line and with any handlers, and says what each came to.
 pub fn ten_steps<L: IrqLine, H: Handler + Drop>(line: &mut L, handler: H) -> [&'static str; 10] {
