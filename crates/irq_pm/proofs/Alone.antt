@@ -4,7 +4,6 @@ use Rattle.std.specs.List.{list_any}
 use Rattle.irq_base.specs.Who.{actor_of}
 use Rattle.irq_base.specs.declared.entries.Actor.{Actor}
 use Rattle.irq_base.specs.declared.entries.Entry.{Entry}
-use Rattle.irq_base.specs.declared.numbers.DriverNo.{DriverNo}
 use Rattle.irq_model.specs.Kinds.{is_any_ask, is_by_driver, is_driver}
 use Rattle.irq_laws.proofs.Lists.{both_ways}
 use Rattle.board_driver.specs.Longer.{last_driver}
