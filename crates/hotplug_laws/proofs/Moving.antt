@@ -191,7 +191,8 @@ module _ (def : LineDef) (r : DriverNo) where
           (subst (All (Fits def.cpus)) rest.1 (All-drop (Fits def.cpus) n (calls_by r def.calls) moved.own)) in
           record {
             now = ((affinity_due def s mask answer past due).answer_is ∙ fits_now moved mask fits, tells.now);
-            mask = sym (ap (λ es. mask_before (length es) def.mask (calls_by r def.calls)) (one_more true (by.Driver s (drivers.Affinity answer mask)) past same)
+            mask = sym (ap (λ es. mask_before (length es) def.mask (calls_by r def.calls))
+                (one_more true (by.Driver s (drivers.Affinity answer mask)) past same)
                 ∙ mask_here n def.mask mask (calls_by r def.calls) rest.0 moved.own rest.1);
           }
       by_case false other = absurd (no_move_due (calls_by s def.calls) (entries_by s past) mask count (moved.others s other) call)

@@ -102,7 +102,8 @@ module _ (board : BoardSeen) (lines : List LockSeen) (who : Actor) (first end : 
   no_place : (i : ℕ) → None ≡ Some i → ⊥
   no_place i is = cc
 
-  manned : (j : JobSeen) → j.first ≡ first → j.posts ≡ posts → j.flow ≡ None → j.at ≡ 0 → (a : Actor) → IsSpan board lines a first end → IsManned board lines j a
+  manned : (j : JobSeen) → j.first ≡ first → j.posts ≡ posts → j.flow ≡ None → j.at ≡ 0
+      → (a : Actor) → IsSpan board lines a first end → IsManned board lines j a
   manned j from are none at (actors.Thread dev) span = (
     let n = f.count in let m = span.1 in let l = ap (λ (ss : List PostSeen). length ss) are in
         omega (arith, n, m, l),
@@ -297,7 +298,7 @@ can_give_at lines here s firsts who same are is new k p at =
 pub hires_one : (lines here : List LockSeen) (s : JobsSeen) (board : BoardSeen) (jobs : List JobSeen)
     (firsts new : List PassSeen) (who : Actor) (first end : ℕ) (posts : List PostSeen)
     → here ≡ lines → record { board = board; jobs = jobs; firsts = firsts } ≡ s → AreFirsts lines s.jobs s.firsts
-    → IsSpan s.board lines who first end → Forks here first end who firsts new posts
+    → IsSpan board lines who first end → Forks here first end who firsts new posts
     → (after : List JobSeen) → after ≡ jobs ++ record { actor = who; first = first; posts = posts; flow = None; at = 0; end = part_ends.Idle } ∷ []
     → Hires lines who s (record { board = board; jobs = after; firsts = new })
 hires_one lines here s board jobs firsts new who first end posts same is are span f after grown =
@@ -307,7 +308,8 @@ hires_one lines here s board jobs firsts new who first end posts same is are spa
       job = j;
       jobs = grown ∙ ap (λ (x : JobsSeen). x.jobs ++ j ∷ []) is;
       actor = refl;
-      is = new_job s.board lines who first end firsts new posts forks j refl refl refl refl refl span
+      is = new_job s.board lines who first end firsts new posts forks j refl refl refl refl refl
+          (subst (λ (b : BoardSeen). IsSpan b lines who first end) (ap (λ (x : JobsSeen). x.board) is) span)
           (subst HaveSeenNothing (ap (λ (x : JobsSeen). x.firsts) (sym is)) (have_seen_nothing lines s.jobs s.firsts are));
       firsts = subst (λ (js : List JobSeen). AreFirsts lines js new) (sym grown)
           (new_firsts s.board lines who first end firsts new posts forks jobs j refl refl refl

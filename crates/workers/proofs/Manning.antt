@@ -273,7 +273,8 @@ module _ (board : BoardSeen) (lines : List LockSeen) where
       let all : All (IsThere board lines) crew = All-permutation (IsThere board lines) (workers_of board lines) crew dealt
       (λ k d less. all_there is k (get_or (workers_of board lines) k d)
       (there_or (workers_of board lines) k d less)) in
-      subst (λ (x : Actor). IsThere board lines x) (the_same (get_or crew i a) a (sym (there_or crew i a (within crew i a at)) ∙ at)) (all i a (within crew i a at))
+      let less = within crew i a at in
+      subst (λ (x : Actor). IsThere board lines x) (the_same (get_or crew i a) a (sym (there_or crew i a less) ∙ at)) (all i a less)
 
 -- ---- how the crew is made
 

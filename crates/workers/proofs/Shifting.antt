@@ -14,7 +14,7 @@ use Rattle.board_def.specs.Seen.{BoardSeen}
 use Rattle.irq_laws.proofs.Chosen.{the_same}
 use Rattle.board_play.specs.Lines.{defs_of}
 use Rattle.line_lock.specs.Passes.{LockSeen, PassSeen}
-use Rattle.workers.specs.Fit.{IsPost, ArePosted, IsPlaceOf, IsManned, IsJob, works_on, actors_on, workers_of, IsFirst, AreFirsts, Fit}
+use Rattle.workers.specs.Fit.{IsPost, ArePosted, IsPlaceOfDevice, IsManned, IsJob, works_on, actors_on, workers_of, IsFirst, AreFirsts, Fit}
 use Rattle.workers.specs.Room.{RoomAfterPart, room_of_jobs}
 use Rattle.workers.specs.Grown.{JobsGrow}
 use Rattle.workers.specs.Shifts.{IsAtRest, WorksOn, is_refused, ComesTo, AttemptsJob, EndIsSo, WorksJob, KeepsJobs}

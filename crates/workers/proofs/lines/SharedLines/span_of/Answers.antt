@@ -8,10 +8,10 @@ pub unreachable-requires : goal.unreachable-requires
 unreachable-requires g c =
     not_found c.args.board.now c.args.self.now c.in-Thread.dev
     (subst (λ (a : Actor). IsThere c.args.board.now c.args.self.now a) c.in-Thread.is c.requires)
-    (sym c.find_device.ensures ∙ c.in_default-find_device.is)
+    (sym c.find_device.ensures ∙ c.in_default.is)
 
-pub unreachable-2-requires : goal.unreachable-2-requires
-unreachable-2-requires g c =
+pub unreachable-requires-in_default-place_of : goal.unreachable-requires-in_default-place_of
+unreachable-requires-in_default-place_of g c =
     not_there c.args.board.now c.args.self.now c.in-Thread.dev c.in-Some.device
     (subst (λ (a : Actor). IsThere c.args.board.now c.args.self.now a) c.in-Thread.is c.requires)
     (sym c.find_device.ensures ∙ c.in-Some.is) c.in_default-place_of.ensures.place
