@@ -7,6 +7,9 @@ from repository import TOP
 
 # What a crate takes that the table lacks, in seconds of a processor, and the least that one still takes that is at work.
 UNKNOWN, LEAST = 30.0, 2.0
+# What a crate takes that an earlier run had proved, what the program's own build takes then, and how long a crate is at work
+# that wasn't proved before.
+KEPT, BUILT, SLOW = 1.0, 40.0, 20.0
 
 
 def read_costs():
@@ -48,8 +51,10 @@ class Clock:
         self.begun, self.rate = {}, 1.0
 
     def left(self, seconds, done, kept=()):
-        """The seconds that are left after so many, if these crates are done, some of them kept from earlier runs. Where too
-        little is done to tell how fast this machine is, it is as the table has it."""
+        """The seconds that are left after so many, if these crates are done, some of them kept from earlier runs. As long as all
+        were kept, so will the rest be. Where too little is done to tell how fast this machine is, it is as the table has it."""
+        if done and set(done) <= set(kept) and all(name in done or seconds - at < SLOW for name, at in self.begun.items()):
+            return KEPT * (len(self.crates) - len(done)) + BUILT
         costs = {name: 0.0 if name in kept else cost for name, cost in self.costs.items()}
         busy = sum(name not in done for name in self.begun)
         gain = 1 + (max(1, min(4, self.lanes // max(busy, 1))) - 1) / 3

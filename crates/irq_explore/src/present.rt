@@ -39,10 +39,8 @@ fn dev_of_call(call: CallEntry) -> Option<DevNo>
         | CallEntry::Quiet { dev }
         | CallEntry::Arm { dev, .. }
         | CallEntry::Serve { dev, .. } => Some(dev),
-        CallEntry::Disable
-        | CallEntry::HardClear
-        | CallEntry::Synced
-        | CallEntry::Enable { .. } => None,
+        CallEntry::Disable | CallEntry::HardClear | CallEntry::Synced | CallEntry::Enable { .. } =>
+            None,
     }
 }
 
