@@ -8,6 +8,7 @@ ghost use Rattle.line_survey.specs.Surveyed.{AreSoMany, AreRests, IsSurvey};
 ghost use Rattle.line_survey.specs.declared.survey.RestRow.{RestRow};
 ghost use Rattle.state_search.specs.Seen.{cut_of};
 
+use crate::reader::Reader;
 use crate::searching::LineSearch;
 use crate::survey::{RestRow, Survey};
 use irq_base::NoMemory;
@@ -96,10 +97,15 @@ impl LineSearch {
         ensures { IfOk result (λ rests. AreRests self.now.def (cut_of self.now.searched)
             (take self.now.searched.looked self.now.searched.paths) rests.items) }
     {
+        let mut reader = Reader::new(self.alloc, &self.def)?;
         let mut rests = Vec::new(self.alloc);
         for place in 0..self.searched.looked() {
             if self.is_at_rest(place) {
-                note(&mut rests, self.left_at(place)?, self.depth(place))?;
+                note(
+                    &mut rests,
+                    self.left_at(&mut reader, place)?,
+                    self.depth(place),
+                )?;
             }
         }
         Ok(rests)
