@@ -45,11 +45,7 @@ one_child = record {
 abbrev pub one_child_rows : List ChainEntry
 one_child_rows =
     steps.Child (line 1) (by.Driver (driver 1)
-<<<<<<< HEAD
-        (drivers.Request no_flags links.Linked (opens.Started resends.No) (dev 1)))
-=======
     (drivers.Request no_flags links.Linked (opens.Started resends.No) (dev 1)))
->>>>>>> 93f89c5d69b2b6309b7145470c93f7309772659c
     ∷ steps.Child (line 1) (by.Driver (driver 1) (drivers.Ask true (dev 1)))
     ∷ steps.Enter (cpu 0) 1
     ∷ steps.Child (line 1) (by.Cpu (cpu 0) (cpus.Take ways.Line takes.Handle))
@@ -58,11 +54,7 @@ one_child_rows =
     ∷ steps.Child (line 1) (by.Cpu (cpu 0) (cpus.End false false notes.Quiet))
     ∷ steps.Exit (cpu 0)
     ∷ steps.Child (line 1) (by.DriverCall (driver 1)
-<<<<<<< HEAD
-        (called.Unlink (unlinks.Unlinked true) (dev 1)))
-=======
     (called.Unlink (unlinks.Unlinked true) (dev 1)))
->>>>>>> 93f89c5d69b2b6309b7145470c93f7309772659c
     ∷ steps.Child (line 1) (by.DriverCall (driver 1) called.HardClear)
     ∷ steps.Child (line 1) (by.DriverCall (driver 1) (called.Freed (dev 1)))
     ∷ []
@@ -90,15 +82,9 @@ two_children = record {
 abbrev pub two_children_rows : List ChainEntry
 two_children_rows =
     steps.Child (line 1) (by.Driver (driver 1)
-<<<<<<< HEAD
-        (drivers.Request no_flags links.Linked (opens.Started resends.No) (dev 1)))
-    ∷ steps.Child (line 2) (by.Driver (driver 1)
-        (drivers.Request no_flags links.Linked (opens.Started resends.No) (dev 2)))
-=======
     (drivers.Request no_flags links.Linked (opens.Started resends.No) (dev 1)))
     ∷ steps.Child (line 2) (by.Driver (driver 1)
     (drivers.Request no_flags links.Linked (opens.Started resends.No) (dev 2)))
->>>>>>> 93f89c5d69b2b6309b7145470c93f7309772659c
     ∷ steps.Child (line 2) (by.Driver (driver 1) (drivers.Ask true (dev 2)))
     ∷ steps.Child (line 1) (by.Driver (driver 1) (drivers.Ask true (dev 1)))
     ∷ steps.Enter (cpu 0) 3
@@ -138,15 +124,9 @@ asks_again = record {
 abbrev pub asks_again_rows : List ChainEntry
 asks_again_rows =
     steps.Child (line 1) (by.Driver (driver 1)
-<<<<<<< HEAD
-        (drivers.Request no_flags links.Linked (opens.Started resends.No) (dev 1)))
-    ∷ steps.Child (line 2) (by.Driver (driver 1)
-        (drivers.Request no_flags links.Linked (opens.Started resends.No) (dev 2)))
-=======
     (drivers.Request no_flags links.Linked (opens.Started resends.No) (dev 1)))
     ∷ steps.Child (line 2) (by.Driver (driver 1)
     (drivers.Request no_flags links.Linked (opens.Started resends.No) (dev 2)))
->>>>>>> 93f89c5d69b2b6309b7145470c93f7309772659c
     ∷ steps.Child (line 1) (by.Driver (driver 1) (drivers.Ask true (dev 1)))
     ∷ steps.Child (line 2) (by.Driver (driver 1) (drivers.Ask true (dev 2)))
     ∷ steps.Enter (cpu 0) 3
@@ -190,11 +170,7 @@ edge_within = record {
 abbrev pub edge_within_rows : List ChainEntry
 edge_within_rows =
     steps.Child (line 1) (by.Driver (driver 1)
-<<<<<<< HEAD
-        (drivers.Request no_flags links.Linked (opens.Started resends.No) (dev 1)))
-=======
     (drivers.Request no_flags links.Linked (opens.Started resends.No) (dev 1)))
->>>>>>> 93f89c5d69b2b6309b7145470c93f7309772659c
     ∷ steps.Child (line 1) (by.Driver (driver 1) (drivers.Ask true (dev 1)))
     ∷ steps.Enter (cpu 0) 1
     ∷ steps.Child (line 1) (by.Cpu (cpu 0) (cpus.Take ways.Line takes.Handle))
@@ -233,11 +209,7 @@ level_within = record {
 abbrev pub level_within_rows : List ChainEntry
 level_within_rows =
     steps.Child (line 1) (by.Driver (driver 1)
-<<<<<<< HEAD
-        (drivers.Request no_flags links.Linked (opens.Started resends.No) (dev 1)))
-=======
     (drivers.Request no_flags links.Linked (opens.Started resends.No) (dev 1)))
->>>>>>> 93f89c5d69b2b6309b7145470c93f7309772659c
     ∷ steps.Child (line 1) (by.Driver (driver 1) (drivers.Ask true (dev 1)))
     ∷ steps.Enter (cpu 0) 1
     ∷ steps.Child (line 1) (by.Cpu (cpu 0) (cpus.Take ways.Line takes.Handle))
@@ -274,11 +246,7 @@ threads_first = record {
 abbrev pub threads_first_rows : List ChainEntry
 threads_first_rows =
     steps.Child (line 1) (by.Driver (driver 1)
-<<<<<<< HEAD
-        (drivers.Request oneshot_flag links.Linked (opens.Started resends.No) (dev 1)))
-=======
     (drivers.Request oneshot_flag links.Linked (opens.Started resends.No) (dev 1)))
->>>>>>> 93f89c5d69b2b6309b7145470c93f7309772659c
     ∷ steps.Child (line 1) (by.Driver (driver 1) (drivers.Ask true (dev 1)))
     ∷ steps.Enter (cpu 0) 1
     ∷ steps.Child (line 1) (by.Cpu (cpu 0) (cpus.Take ways.Line takes.Handle))
@@ -314,11 +282,7 @@ soft_resend = record {
 abbrev pub soft_resend_rows : List ChainEntry
 soft_resend_rows =
     steps.Child (line 1) (by.Driver (driver 1)
-<<<<<<< HEAD
-        (drivers.Request no_flags links.Linked (opens.Started resends.No) (dev 1)))
-=======
     (drivers.Request no_flags links.Linked (opens.Started resends.No) (dev 1)))
->>>>>>> 93f89c5d69b2b6309b7145470c93f7309772659c
     ∷ steps.Child (line 1) (by.DriverCall (driver 1) called.Disable)
     ∷ steps.Child (line 1) (by.Driver (driver 1) (drivers.Ask true (dev 1)))
     ∷ steps.Enter (cpu 0) 1
@@ -359,15 +323,9 @@ sibling_disabled = record {
 abbrev pub sibling_disabled_rows : List ChainEntry
 sibling_disabled_rows =
     steps.Child (line 1) (by.Driver (driver 1)
-<<<<<<< HEAD
-        (drivers.Request no_flags links.Linked (opens.Started resends.No) (dev 1)))
-    ∷ steps.Child (line 2) (by.Driver (driver 1)
-        (drivers.Request no_flags links.Linked (opens.Started resends.No) (dev 2)))
-=======
     (drivers.Request no_flags links.Linked (opens.Started resends.No) (dev 1)))
     ∷ steps.Child (line 2) (by.Driver (driver 1)
     (drivers.Request no_flags links.Linked (opens.Started resends.No) (dev 2)))
->>>>>>> 93f89c5d69b2b6309b7145470c93f7309772659c
     ∷ steps.Child (line 1) (by.Driver (driver 1) (drivers.Ask true (dev 1)))
     ∷ steps.Child (line 2) (by.Driver (driver 1) (drivers.Ask true (dev 2)))
     ∷ steps.Enter (cpu 0) 3
