@@ -60,7 +60,8 @@ module _ {L : Type 0} (can : L → List L → Type 0) (node : List L → List �
         by (inr ge) =
             let one : length (cs ++ c ∷ []) ≡ length cs + 1 = length_push cs c in
             let same : i ≡ k = omega (arith, lt, one, ge, place) in
-            let stays : slice_get (states_of es') k ≡ Some ws = put_stays i found n es es' put k ws (subst (λ m. slice_get (states_of es) m ≡ Some ws) same here) in
+            let stays : slice_get (states_of es') k ≡ Some ws
+            = put_stays i found n es es' put k ws (subst (λ m. slice_get (states_of es) m ≡ Some ws) same here) in
             unwanted g path (sym (one_at (states_of es') k ws (node g) stays at)) w
 
   -- the state that is looked at next has these numbers

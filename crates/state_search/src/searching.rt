@@ -21,10 +21,11 @@ pub struct Sought<L: Copy> {
 
 /// Searches the space, breadth first, until a state is wanted, for at most `most` states.
 ///
-/// If the search stops, the first state that wasn't looked at is the wanted one: no path to a wanted
-/// state is shorter. Else no state that was looked at is wanted. They are all states; or, if there
-/// are more than `most`, the search is cut: only the first `looked` states were looked at for what
-/// comes next, and after the next one comes a state that is left out. The only error is `NoMemory`.
+/// If the search stops, the first state that wasn't looked at is the wanted one, and no path to a
+/// wanted state is shorter. Else no state that was looked at is wanted. They are all states; or, if
+/// there are more than `most`, the search is cut: only the first `looked` states were looked at for
+/// what comes next, and after the next one comes a state that is left out. The only error is
+/// `NoMemory`.
 pub fn search<L: Copy + Eq, S: Space<L>>(
     alloc: Global,
     space: &mut S,
