@@ -1,7 +1,7 @@
 -- The entry that an actor adds.
-use Rattle.std.proofs.Common.{◌≡◌, ◌<◌, ℕ, ◌+◌, Bool, true, false, true≢false, cond, Option, Some, None, is_some, option_map}
-use Rattle.std.proofs.Common.{List, [], ◌∷◌, ◌++◌, drop, slice_get, refl, sym, ap, ◌∙◌}
-use Rattle.std.proofs.lemmas.List.{append-nil, append_assoc}
+use Rattle.std.proofs.Common.{◌≡◌, ◌<◌, ◌≤◌, ℕ, ◌+◌, ◌-◌, Bool, true, false, true≢false, cond, Option, Some, None, is_some, option_map}
+use Rattle.std.proofs.Common.{List, [], ◌∷◌, ◌++◌, length, take, drop, slice_get, refl, sym, ap, ◌∙◌, arith}
+use Rattle.std.proofs.lemmas.List.{append-nil, append_assoc, take_all}
 use Rattle.std.specs.List.{filter}
 use Rattle.irq_model.proofs.Lists.{next_item}
 use Rattle.irq_base.specs.declared.entries.Actor.{Actor}
@@ -25,6 +25,7 @@ use Rattle.line_space.proofs.ReadAt.{ReadAt}
 use Rattle.line_space.proofs.Again.{due_again, can_due, after_again}
 use Rattle.line_space.proofs.Stepped.{is_due, may_move, at_more, are_more, few_more}
 use Rattle.line_space.specs.Stepping.{led_to, steps_of, all_steps, is_due_in}
+use Rattle.state_search.proofs.Places.{same_some}
 
 -- What is due of the actor at the past that was read, as the code found it on the state.
 pub record DueAt (def : LineDef) (g : List Entry) (t : StateSeen) (scripts : List (DriverNo × RowSeen)) (a : Actor) (o : Option DueStep) : Type 0 where
@@ -115,8 +116,21 @@ pub filter_next : (P : Actor → Bool) (xs : List Actor) (i : ℕ) (a : Actor) �
     → after ++ filter P (drop (i + 1) xs) ≡ now ++ filter P (drop i xs)
 filter_next P xs i a at t is now after added =
     ap (λ (y : List Actor). y ++ filter P (drop (i + 1) xs)) added
-    ∙ (by t ∙ sym (ap (λ (ys : List Actor). now ++ filter P ys) (next_item xs i a at) ∙ ap (λ (b : Bool). now ++ cond b (a ∷ filter P (drop (i + 1) xs)) (filter P (drop (i + 1) xs))) is))
+    ∙ (by t ∙ sym (ap (λ (ys : List Actor). now ++ filter P ys) (next_item xs i a at)
+    ∙ ap (λ (b : Bool). now ++ cond b (a ∷ filter P (drop (i + 1) xs)) (filter P (drop (i + 1) xs))) is))
   where
     by : (b : Bool) → cond b (now ++ a ∷ []) now ++ filter P (drop (i + 1) xs) ≡ now ++ cond b (a ∷ filter P (drop (i + 1) xs)) (filter P (drop (i + 1) xs))
     by true = append_assoc now (a ∷ []) (filter P (drop (i + 1) xs))
     by false = refl
+
+-- what is due of the first actor was added, that of the others is left
+pub first_added : (def : LineDef) (g : List Entry) (xs : List Actor) (a : Actor) → 1 ≤ length xs → slice_get xs 0 ≡ Some a
+    → (before now : List (Entry × List ℕ)) → now ≡ before ++ steps_of def g a
+    → now ++ all_steps def g (take (length xs - 1) (drop 1 xs)) ≡ before ++ all_steps def g xs
+first_added def g [] a some at before now added = absurd (omega (arith, some))
+first_added def g (x ∷ xs) a some at before now added =
+    let rest : take (length (x ∷ xs) - 1) xs ≡ xs = take_all (length (x ∷ xs) - 1) xs (omega arith) in
+    ap (λ (y : List (Entry × List ℕ)). y ++ all_steps def g (take (length (x ∷ xs) - 1) xs)) added
+    ∙ (ap (λ (ys : List Actor). (before ++ steps_of def g a) ++ all_steps def g ys) rest
+    ∙ (append_assoc before (steps_of def g a) (all_steps def g xs)
+    ∙ ap (λ (y : Actor). before ++ (steps_of def g y ++ all_steps def g xs)) (sym (same_some x a at))))
