@@ -1,21 +1,16 @@
 -- What a search says of a row.
-use Rattle.std.proofs.Common.{◌≡◌, ◌<◌, ℕ, true, None, Some, List, [], ◌∷◌, ◌++◌, length, reverse}
-use Rattle.std.proofs.Common.{slice_get, slice_index_or, refl, ap, sym, subst, ◌∙◌, arith}
-use Rattle.std.proofs.lemmas.List.{reverse-append}
+use Rattle.std.proofs.Common.{◌≡◌, ◌<◌, ℕ, List, ◌∷◌, length}
+use Rattle.std.proofs.Common.{slice_index_or, refl, ap, sym, subst, arith}
 use Rattle.std.proofs.lemmas.Option.{slice_get_within}
-use Rattle.irq_base.proofs.SameEntries.{same_entries}
 use Rattle.irq_base.specs.declared.entries.Entry.{Entry}
 use Rattle.irq_base.specs.declared.lines.LineDef.{LineDef}
 use Rattle.irq_model.specs.Legal.{IsLegalPast}
-use Rattle.line_search.proofs.Searching.{met, never, not_within}
 use Rattle.line_search.specs.Found.{IsShortest as IsShortestBefore}
-use Rattle.line_wanted.specs.Wanted.{IsShortest, IsNever, IsNotWithin}
+use Rattle.line_wanted.specs.Wanted.{IsShortest}
 use Rattle.line_wanted.specs.declared.wanted.Wanted.TheVariants as wants
-use Rattle.state_search.proofs.Places.{same_some}
-use Rattle.state_search.specs.Firsts.{IsNoted, IsNotedAt}
-use Rattle.state_search.specs.Seen.{SearchSeen, cut_of}
+use Rattle.state_search.specs.Seen.{SearchSeen}
 use Rattle.state_search.specs.declared.firsts.First.{First}
-use Rattle.line_survey.specs.Kept.{same_entry, IsOfLine}
+use Rattle.line_survey.specs.Kept.{IsOfLine}
 
 module _ (def : LineDef) (s : SearchSeen Entry) (line : IsOfLine def s) (e : Entry) where
   pub shortest_of : (past : List Entry) → IsShortestBefore def e past → IsShortest def (wants.Row e) (e ∷ past)

@@ -1,6 +1,6 @@
 -- What a search says of a line at rest.
-use Rattle.std.proofs.Common.{◌≡◌, ◌≤◌, ◌<◌, ◌-◌, ◌⊎◌, inl, inr, Contains, ℕ, zero, suc, Bool, true, false, ltb, Option}
-use Rattle.std.proofs.Common.{None, Some, List, [], map, take, length}
+use Rattle.std.proofs.Common.{◌≡◌, ◌≤◌, ◌<◌, ◌⊎◌, inl, inr, Contains, ℕ, zero, suc, Bool, true, false, ltb, Option}
+use Rattle.std.proofs.Common.{None, Some, List, map, take, length}
 use Rattle.std.proofs.Common.{reverse, slice_get, refl, ap, sym, subst, ◌∙◌, arith}
 use Rattle.std.specs.Option.{option_map}
 use Rattle.std.proofs.lemmas.Bool.Decides.{nat_tests}

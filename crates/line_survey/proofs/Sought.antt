@@ -1,5 +1,5 @@
 -- What a search for something wanted says of it.
-use Rattle.std.proofs.Common.{◌≡◌, ◌≤◌, ◌<◌, ◌-◌, ◌⊎◌, inl, inr, ℕ, zero, suc, Option, None, Some, List, [], ◌∷◌, map, length}
+use Rattle.std.proofs.Common.{◌≡◌, ◌≤◌, ◌<◌, ◌-◌, ◌⊎◌, inl, inr, ℕ, zero, suc, Option, None, Some, List, [], ◌∷◌, length}
 use Rattle.std.proofs.Common.{◌++◌, IfSome, reverse, slice_get, refl, ap, sym, subst, ◌∙◌, arith}
 use Rattle.std.specs.Option.{option_map}
 use Rattle.std.proofs.lemmas.Bool.{cases_lt}
@@ -93,12 +93,14 @@ module _ (def : LineDef) where
                 let on = left_out q at in
                 settled_none def valid p met.0 on.0 (subst (IsDue def on.0) (empty ∙ sym here) on.1)
 
-        within : (v : Wanted) (p : List Entry) → d ≤ length p → (length p ≡ 0 → d ≡ 0 → (left : Left) → v ≡ wants.Rest left → ⊥) → known_within v d < length (whole_past v p)
-        within (wants.Row e) p le no = omega (arith, le)
-        within (wants.Rest left) p le no = by d (length p) refl refl
+        within : (v : Wanted) (p : List Entry) → d ≤ length p
+            → (length p ≡ 0 → d ≡ 0 → (left : Left) → v ≡ wants.Rest left → ⊥)
+            → known_within v d < length (whole_past v p)
+        within (wants.Row e) p le apart = omega (arith, le)
+        within (wants.Rest left) p le apart = by d (length p) refl refl
           where
             by : (n m : ℕ) → n ≡ d → m ≡ length p → d - 1 < length p
-            by zero zero here there = absurd (no (sym there) (sym here) left refl)
+            by zero zero here there = absurd (apart (sym there) (sym here) left refl)
             by zero (suc m) here there = omega (arith, here, there)
             by (suc n) m here there = omega (arith, here, le)
 
@@ -124,9 +126,9 @@ module _ (def : LineDef) where
       -- what is said where it isn't met
       pub unmet_said : (most : ℕ) → IsValid def → length s.paths ≤ most → LeavesOut (IsDue def) (node def) s.paths s.looked
           → IfSome (cut_of s) (λ d. length s.paths ≡ most) → (cut : Option ℕ) → cut_of s ≡ cut → IsAnswer most def w (unmet_answer w cut)
-      unmet_said most valid within left_out all None is = is_never is
-      unmet_said most valid within left_out all (Some d) is =
-          not_within_said valid d is left_out most within (subst (λ (o : Option ℕ). IfSome o (λ d. length s.paths ≡ most)) is all)
+      unmet_said most valid few left_out all None is = is_never is
+      unmet_said most valid few left_out all (Some d) is =
+          not_within_said valid d is left_out most few (subst (λ (o : Option ℕ). IfSome o (λ d. length s.paths ≡ most)) is all)
 
     -- the cut is small
     pub cut_few : (most : ℕ) → most ≤ 100000000 → length s.paths ≤ most → IfSome (cut_of s) (λ d. d ≤ 100000000)

@@ -1,5 +1,5 @@
 -- Which states are wanted.
-use Rattle.std.specs.Prelude.{◌≡◌, ℕ, Option, None, Some, List, ◌∷◌}
+use Rattle.std.specs.Prelude.{ℕ, Option, None, Some, List, ◌∷◌}
 use Rattle.irq_base.specs.declared.entries.Entry.{Entry}
 use Rattle.irq_base.specs.declared.lines.LineDef.{LineDef}
 use Rattle.irq_model.specs.Legal.{IsDue}

@@ -1,5 +1,5 @@
 //! States at rest are read one after another.
-ghost use Rattle.std.specs.Prelude.{◌≡◌, ◌≤◌, ◌×◌, IfOk, List, length};
+ghost use Rattle.std.specs.Prelude.{◌≡◌, ◌≤◌, IfOk, List, length};
 ghost use Rattle.irq_base.specs.declared.entries.Entry.{Entry};
 ghost use Rattle.irq_model.specs.Legal.{IsLegalPast};
 ghost use Rattle.irq_model.specs.Valid.{IsValid};

@@ -13,8 +13,8 @@ use state_search::{Found, Space};
 use std::alloc::Global;
 use std::marker::Model;
 
-/// The states of a line, and what is wanted of it. A row is met by a state in which it is due, and a
-/// way of being left by a state at rest that leaves the line so. Contracts see the line's definition
+/// The states of a line, and what is wanted of it. A row is met by a state in which it is due, a
+/// way to be left by a state at rest that leaves the line so. Contracts see the line's definition
 /// and what is wanted.
 #[derive(Drop)]
 pub(crate) struct WantedSpace {

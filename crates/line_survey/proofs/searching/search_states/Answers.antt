@@ -1,5 +1,4 @@
-use Rattle.std.proofs.Common.{◌≡◌, List, subst, arith}
-use Rattle.irq_base.specs.declared.entries.Entry.{Entry}
+use Rattle.std.proofs.Common.{subst, arith}
 use Rattle.irq_base.specs.declared.lines.LineDef.{LineDef}
 use Rattle.irq_model.specs.Legal.{IsDue}
 use Rattle.line_survey.proofs.OfLine.{never_met}

@@ -1,6 +1,6 @@
-use Rattle.std.proofs.Common.{◌≡◌, length, sym, ◌∙◌, arith}
+use Rattle.std.proofs.Common.{◌≤◌, length, sym, ◌∙◌, arith}
 use Rattle.line_survey.proofs.Lists.{below_next}
-use Rattle.line_survey.proofs.Met.{IsOther, is_there, is_other, all_other}
+use Rattle.line_survey.proofs.Meeting.{IsOther, is_there, is_other, all_other}
 use Rattle.line_survey.proofs.wanting.has_entry.Goals as goal
 
 pub returns-then-eq-clause-has : goal.returns-then-eq-clause-has

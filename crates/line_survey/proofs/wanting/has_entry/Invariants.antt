@@ -1,5 +1,5 @@
 use Rattle.std.proofs.Common.{◌<◌, ℕ}
-use Rattle.line_survey.proofs.Met.{IsOther}
+use Rattle.line_survey.proofs.Meeting.{IsOther}
 use Rattle.line_survey.proofs.wanting.has_entry.Given as goal
 
 abbrev pub invariant-loop-place : goal.invariant-loop-place

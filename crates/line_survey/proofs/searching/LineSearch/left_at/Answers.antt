@@ -1,4 +1,4 @@
-use Rattle.std.proofs.Common.{◌≡◌, Some, List, slice_get, sym, subst, ◌∙◌}
+use Rattle.std.proofs.Common.{◌≡◌, Some, List, slice_get, sym, subst}
 use Rattle.irq_base.specs.declared.entries.Entry.{Entry}
 use Rattle.line_survey.proofs.Rests.{legal_at, short_at, words_at, past_at}
 use Rattle.line_survey.specs.Kept.{IsReader}

@@ -1,12 +1,12 @@
 -- Which states are wanted, by what is found after them.
-use Rattle.std.proofs.Common.{◌≡◌, ◌<◌, ◌≤◌, ℕ, Bool, true, false, Contains, List, [], ◌∷◌, map, length, reverse, slice_get, Some, refl, sym, ap, subst, ◌∙◌, arith}
+use Rattle.std.proofs.Common.{◌≡◌, ◌<◌, ◌≤◌, ℕ, true, false, Contains, List, ◌∷◌, map, length, reverse}
+use Rattle.std.proofs.Common.{slice_get, Some, sym, ap, subst, ◌∙◌, arith}
 use Rattle.std.proofs.Common.{true≢false}
 use Rattle.std.proofs.lemmas.List.{length-map}
 use Rattle.std.proofs.lemmas.Option.{slice_get_within}
 use Rattle.irq_base.proofs.SameEntries.{same_entries}
 use Rattle.irq_base.specs.contracts.entries.EntryEq.TheImpl.Laws as entry_laws
 use Rattle.irq_base.specs.declared.entries.Entry.{Entry}
-use Rattle.irq_base.specs.declared.lines.LineDef.{LineDef}
 use Rattle.irq_model.specs.Legal.{IsDue, IsLegalPast}
 use Rattle.irq_model.specs.Settled.{IsSettled}
 use Rattle.irq_model.specs.Valid.{IsValid}
@@ -73,7 +73,7 @@ module _ (s : WantedSeen) (words : List ℕ) (found : List (Entry × List ℕ))
 
   pub row_unmet : (e : Entry) → s.wanted ≡ wants.Row e → (Contains (labels_of found) e → ⊥) → (g : List Entry) → IsPath (IsDue s.def) g → node s.def g ≡ words
       → IsMetBy s.def s.wanted g → ⊥
-  row_unmet e is no g path same met = no ((steps g path same).all e (subst (λ (w : Wanted). IsMetBy s.def w g) is met))
+  row_unmet e is lacks g path same met = lacks ((steps g path same).all e (subst (λ (w : Wanted). IsMetBy s.def w g) is met))
 
   module _ (valid : IsValid s.def) (left : Left) (is : s.wanted ≡ wants.Rest left) where
     leaves : (g : List Entry) → IsMetBy s.def s.wanted g → Leaves s.def left g

@@ -1,6 +1,6 @@
 use Rattle.line_survey.specs.Growing.{AreRestsTo}
 use Rattle.line_survey.specs.Kept.{IsReader}
-use Rattle.line_survey.proofs.searching.LineSearch.rests.Given as goal
+use Rattle.line_survey.proofs.searching.LineSearch.rests_by.Given as goal
 
 abbrev pub invariant-loop-place : goal.invariant-loop-place
 invariant-loop-place l = record {
