@@ -21,7 +21,6 @@ use Rattle.irq_base.specs.declared.lines.LineDef.{LineDef}
 use Rattle.irq_base.specs.declared.numbers.LineNo.{LineNo}
 use Rattle.irq_model.specs.Legal.{IsLegal, IsLegalPast}
 use Rattle.line_survey.specs.Answers.{IsAnswer}
-use Rattle.line_survey.specs.Seen.{LineSearchSeen}
 use Rattle.line_survey.specs.declared.answer.Answer.{Answer}
 use Rattle.line_survey.specs.declared.answer.Answer.TheVariants as answers
 use Rattle.line_wanted.specs.Wanted.{Meets}
@@ -196,7 +195,7 @@ lawful states b line wanted answers.Never answered there number printable small 
 lawful states b line wanted (answers.NotWithin n) answered there number printable small = tt
 
 -- what is answered of a line can be printed
-pub printable_said : (s : LineSearchSeen) (wanted : Wanted) (answer : Answer) → IsAnswer s wanted answer → IsPrintableAnswer answer
-printable_said s wanted (answers.Found v) is = all_printable s.def v.items (legal_of s.def wanted (reverse v.items) is.meets)
-printable_said s wanted answers.Never is = tt
-printable_said s wanted (answers.NotWithin n) is = tt
+pub printable_said : (states : ℕ) (def : LineDef) (wanted : Wanted) (answer : Answer) → IsAnswer states def wanted answer → IsPrintableAnswer answer
+printable_said states def wanted (answers.Found v) is = all_printable def v.items (legal_of def wanted (reverse v.items) is.meets)
+printable_said states def wanted answers.Never is = tt
+printable_said states def wanted (answers.NotWithin n) is = tt

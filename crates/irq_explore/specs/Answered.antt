@@ -1,44 +1,27 @@
 -- The answer to what is wanted of a board's line.
-use Rattle.std.specs.Prelude.{◌≡◌, ℕ, Some, List, ◌++◌, codes, decimal, reverse}
-use Rattle.std.specs.Prelude.{slice_get}
-use Rattle.std.specs.Option.{option_map}
+use Rattle.std.specs.Prelude.{◌≡◌, ℕ, Some, List, ◌++◌, codes, decimal, slice_get}
 use Rattle.board_def.specs.Layout.{layout_of}
 use Rattle.board_def.specs.LineOf.{line_of_row}
 use Rattle.board_def.specs.Seen.{BoardSeen}
 use Rattle.board_def.specs.declared.rows.LineRow.{LineRow}
 use Rattle.domain_rules.specs.declared.layouts.Placement.{Placement}
 use Rattle.domain_rules.specs.declared.layouts.Placement.TheVariants as placements
-use Rattle.irq_base.specs.declared.lines.LineDef.{LineDef}
 use Rattle.irq_base.specs.declared.numbers.LineNo.{LineNo}
 use Rattle.line_survey.specs.declared.answer.Answer.{Answer}
 use Rattle.line_survey.specs.declared.answer.Answer.TheVariants as answers
-use Rattle.line_survey.specs.Answers.{known_within}
-use Rattle.line_survey.specs.Seen.{LineSearchSeen}
-use Rattle.line_wanted.specs.Wanted.{IsShortest, IsNever, IsNotWithin}
+use Rattle.line_survey.specs.Answers.{IsAnswer}
 use Rattle.line_wanted.specs.declared.wanted.Wanted.{Wanted}
 use Rattle.log_check.specs.Verdicts.{ChecksLog}
 use Rattle.log_check.specs.declared.verdict.Verdict.TheVariants as verdicts
 use Rattle.log_text.specs.Rows.{history_text}
-use Rattle.state_search.specs.Seen.{cut_of}
-use Rattle.irq_explore.specs.Searched.{IsSearchOf}
 
 -- by a search through at most `states` states of the line
 module _ (states : ℕ) where
-  -- the answer for a line: a shortest history as wanted, its oldest entry first; or that there is
-  -- none; or that there is none up to a length, all that a search knows that was cut after this
-  -- many states
-  abbrev pub Says : LineDef → Wanted → Answer → Type 0
-  Says def wanted (answers.Found es) = IsShortest def wanted (reverse es.items)
-  Says def wanted answers.Never = IsNever def wanted
-  Says def wanted (answers.NotWithin n) =
-      IsNotWithin def wanted n × (search : LineSearchSeen) × IsSearchOf states def search
-      × (Some n ≡ option_map (known_within wanted) (cut_of search.searched))
-
   -- the answer for a line of the board, by whether it is mapped or refused: a refused line has no
   -- history
   abbrev pub AnsweredLine : BoardSeen → LineRow → Placement → Wanted → Answer → Type 0
   AnsweredLine b row (placements.Mapped virq path) wanted answer =
-      Says (line_of_row b row) wanted answer
+      IsAnswer states (line_of_row b row) wanted answer
   AnsweredLine b row (placements.Refused why) wanted answer = answer ≡ answers.Never
 
   -- the answer for the board's line at index i

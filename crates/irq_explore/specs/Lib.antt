@@ -3,6 +3,5 @@ pub mod Explored
 pub mod Played
 pub mod Present
 pub mod Printing
-pub mod Searched
 pub mod Surveyed
 pub mod Surveying

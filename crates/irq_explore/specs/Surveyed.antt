@@ -13,7 +13,7 @@ use Rattle.line_survey.specs.Surveyed.{IsSurvey}
 use Rattle.line_survey.specs.declared.survey.Survey.{Survey}
 use Rattle.log_text.specs.LayoutRows.{layout_rows}
 use Rattle.survey_rows.specs.Texts.{HasRow, survey_text}
-use Rattle.irq_explore.specs.Searched.{IsSearchOf}
+use Rattle.line_survey.specs.Searched.{IsSearchOf}
 use Rattle.irq_explore.specs.declared.surveying.LineSurvey.{LineSurvey}
 
 -- the survey is of a search through at most `most` states of the line

@@ -8,7 +8,7 @@ use board_def::Board;
 use board_layout::lay;
 use domain_rules::Placement;
 use irq_base::NoMemory;
-use line_survey::{Answer, LineSearch};
+use line_survey::{Answer, shortest};
 use line_wanted::Wanted;
 use std::alloc::Global;
 
@@ -31,6 +31,5 @@ pub(crate) fn answer_at(
         return Ok(Answer::Never);
     };
     let defs = board.line_defs(alloc)?;
-    let search = LineSearch::new(alloc, &defs[place], states as usize)?;
-    search.shortest(wanted)
+    shortest(alloc, &defs[place], wanted, states as usize)
 }

@@ -1,7 +1,9 @@
 -- The entry that an actor adds.
-use Rattle.std.proofs.Common.{◌≡◌, ◌<◌, ℕ, Option, Some, None, option_map, Result, Ok, Err, List, [], ◌∷◌, ◌++◌, sym, ap, ◌∙◌}
-use Rattle.std.specs.Prelude.{OnOk}
-use Rattle.std.proofs.lemmas.List.{append-nil}
+use Rattle.std.proofs.Common.{◌≡◌, ◌<◌, ◌≤◌, ℕ, ◌+◌, ◌-◌, Bool, true, false, true≢false, cond, Option, Some, None, is_some, option_map}
+use Rattle.std.proofs.Common.{List, [], ◌∷◌, ◌++◌, length, take, drop, slice_get, refl, sym, ap, ◌∙◌, arith}
+use Rattle.std.proofs.lemmas.List.{append-nil, append_assoc, take_all}
+use Rattle.std.specs.List.{filter}
+use Rattle.irq_model.proofs.Lists.{next_item}
 use Rattle.irq_base.specs.declared.entries.Actor.{Actor}
 use Rattle.irq_base.specs.declared.entries.Entry.{Entry}
 use Rattle.irq_base.specs.declared.lines.LineDef.{LineDef}
@@ -22,11 +24,8 @@ use Rattle.line_words.specs.Told.{places_told, state_told}
 use Rattle.line_space.proofs.ReadAt.{ReadAt}
 use Rattle.line_space.proofs.Again.{due_again, can_due, after_again}
 use Rattle.line_space.proofs.Stepped.{is_due, may_move, at_more, are_more, few_more}
-use Rattle.line_space.specs.Stepping.{led_to, steps_of}
-
-pub always : {A E P : Type 0} (r : Result A E) → P → OnOk r P
-always (Ok a) p = p
-always (Err e) p = tt
+use Rattle.line_space.specs.Stepping.{led_to, steps_of, all_steps, is_due_in}
+use Rattle.state_search.proofs.Places.{same_some}
 
 -- What is due of the actor at the past that was read, as the code found it on the state.
 pub record DueAt (def : LineDef) (g : List Entry) (t : StateSeen) (scripts : List (DriverNo × RowSeen)) (a : Actor) (o : Option DueStep) : Type 0 where
@@ -91,3 +90,47 @@ module _ {def : LineDef} {g : List Entry} {t : StateSeen} {scripts : List (Drive
   tables_after u next =
       let due = is_due made.read a made.due in
       tables_of_canon def (e ∷ g) made.read.valid (due, made.read.legal) u (ap canon next ∙ after_again made.read e due)
+
+-- ---- the actors of whom something is due
+
+module _ {def : LineDef} {g : List Entry} {t : StateSeen} {scripts : List (DriverNo × RowSeen)} (read : ReadAt def g t scripts) where
+  -- the others add nothing
+  pub due_only : (xs : List Actor) → all_steps def g (filter (is_due_in def t scripts) xs) ≡ all_steps def g xs
+  due_only [] = refl
+  due_only (a ∷ xs) = by (is_due_in def t scripts a) refl (due_only xs)
+    where
+      none_if : (o : Option Entry) → is_some o ≡ false → o ≡ None
+      none_if None h = refl
+      none_if (Some e) h = absurd (true≢false h)
+
+      by : (b : Bool) → is_due_in def t scripts a ≡ b → all_steps def g (filter (is_due_in def t scripts) xs) ≡ all_steps def g xs
+          → all_steps def g (cond b (a ∷ filter (is_due_in def t scripts) xs) (filter (is_due_in def t scripts) xs)) ≡ steps_of def g a ++ all_steps def g xs
+      by true is rest = ap (λ (x : List (Entry × List ℕ)). steps_of def g a ++ x) rest
+      by false is rest =
+          let none : next_past def g a ≡ None = sym (due_again read a) ∙ none_if (due_by def t scripts a) is in
+          rest ∙ ap (λ (o : Option Entry). led_to def g o ++ all_steps def g xs) (sym none)
+
+-- one more actor is looked at
+pub filter_next : (P : Actor → Bool) (xs : List Actor) (i : ℕ) (a : Actor) → slice_get xs i ≡ Some a
+    → (t : Bool) → P a ≡ t → (now after : List Actor) → after ≡ cond t (now ++ a ∷ []) now
+    → after ++ filter P (drop (i + 1) xs) ≡ now ++ filter P (drop i xs)
+filter_next P xs i a at t is now after added =
+    ap (λ (y : List Actor). y ++ filter P (drop (i + 1) xs)) added
+    ∙ (by t ∙ sym (ap (λ (ys : List Actor). now ++ filter P ys) (next_item xs i a at)
+    ∙ ap (λ (b : Bool). now ++ cond b (a ∷ filter P (drop (i + 1) xs)) (filter P (drop (i + 1) xs))) is))
+  where
+    by : (b : Bool) → cond b (now ++ a ∷ []) now ++ filter P (drop (i + 1) xs) ≡ now ++ cond b (a ∷ filter P (drop (i + 1) xs)) (filter P (drop (i + 1) xs))
+    by true = append_assoc now (a ∷ []) (filter P (drop (i + 1) xs))
+    by false = refl
+
+-- what is due of the first actor was added, that of the others is left
+pub first_added : (def : LineDef) (g : List Entry) (xs : List Actor) (a : Actor) → 1 ≤ length xs → slice_get xs 0 ≡ Some a
+    → (before now : List (Entry × List ℕ)) → now ≡ before ++ steps_of def g a
+    → now ++ all_steps def g (take (length xs - 1) (drop 1 xs)) ≡ before ++ all_steps def g xs
+first_added def g [] a some at before now added = absurd (omega (arith, some))
+first_added def g (x ∷ xs) a some at before now added =
+    let rest : take (length (x ∷ xs) - 1) xs ≡ xs = take_all (length (x ∷ xs) - 1) xs (omega arith) in
+    ap (λ (y : List (Entry × List ℕ)). y ++ all_steps def g (take (length (x ∷ xs) - 1) xs)) added
+    ∙ (ap (λ (ys : List Actor). (before ++ steps_of def g a) ++ all_steps def g ys) rest
+    ∙ (append_assoc before (steps_of def g a) (all_steps def g xs)
+    ∙ ap (λ (y : Actor). before ++ (steps_of def g y ++ all_steps def g xs)) (sym (same_some x a at))))

@@ -1,5 +1,6 @@
 -- What may come next of one actor, and where it leads.
-use Rattle.std.specs.Prelude.{◌≡◌, ◌<◌, ℕ, Option, Some, None, List, [], ◌∷◌, ◌++◌, length}
+use Rattle.std.specs.Prelude.{◌≡◌, ◌<◌, ℕ, Bool, Option, Some, None, is_some, List, [], ◌∷◌, ◌++◌}
+use Rattle.std.specs.Prelude.{length}
 use Rattle.irq_base.specs.declared.devices.DeviceDef.{DeviceDef}
 use Rattle.irq_base.specs.declared.entries.Actor.{Actor}
 use Rattle.irq_base.specs.declared.entries.Actor.TheVariants as actors
@@ -9,6 +10,9 @@ use Rattle.irq_base.specs.declared.numbers.CpuNo.{CpuNo}
 use Rattle.irq_base.specs.declared.numbers.DriverNo.{DriverNo}
 use Rattle.irq_model.specs.Legal.{IsLegalPast}
 use Rattle.irq_model.specs.Next.{next_past}
+use Rattle.line_marks.specs.Next.{due_by}
+use Rattle.line_marks.specs.State.{StateSeen}
+use Rattle.line_scripts.specs.Rows.{RowSeen}
 use Rattle.line_words.specs.Node.{node}
 
 -- a legal past of fewer than 100,000,000 entries has these numbers
@@ -47,3 +51,7 @@ drivers_of (r ∷ rs) = actors.Driver r ∷ drivers_of rs
 abbrev pub actors_by : LineDef → Option CpuNo → Option CpuNo → List DriverNo → List Actor
 actors_by def flow taker rs =
     threads_in def.devices ++ (cpus_in flow ++ (cpus_in taker ++ drivers_of rs))
+
+-- something is due of the actor by the state and the scripts
+abbrev pub is_due_in : LineDef → StateSeen → List (DriverNo × RowSeen) → Actor → Bool
+is_due_in def s scripts a = is_some (due_by def s scripts a)

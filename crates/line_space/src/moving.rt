@@ -1,10 +1,11 @@
 //! One step of one actor.
 ghost use Rattle.std.specs.Prelude.{◌≡◌, ◌++◌, ◌<◌, ◌≤◌, [], List, length, OnOk};
+ghost use Rattle.std.specs.List.{filter};
 ghost use Rattle.irq_base.specs.declared.entries.Entry.{Entry};
 ghost use Rattle.irq_model.specs.Legal.{IsLegalPast};
 ghost use Rattle.irq_model.specs.Valid.{IsValid};
 ghost use Rattle.line_space.specs.Reading.{IsKept, IsRead};
-ghost use Rattle.line_space.specs.Stepping.{IsReached, steps_of, all_steps, actors_by};
+ghost use Rattle.line_space.specs.Stepping.{IsReached, steps_of, all_steps, actors_by, is_due_in};
 ghost use Rattle.line_space.specs.Stepping.{threads_in, cpus_in, drivers_of};
 ghost use Rattle.line_state.specs.Seen.{taker_of};
 ghost use Rattle.line_words.specs.Node.{node, drivers_in};
@@ -16,9 +17,8 @@ use line_core::{advance, due_by};
 use line_state::LineState;
 use state_search::Found;
 
-/// Adds the entry that is due of the actor in the state with these numbers, if there is one, and
-/// the numbers of the state after it; then the numbers are read again. The only error is
-/// `NoMemory`.
+/// Adds the entry that is due of the actor in the state with these numbers, which were read, if
+/// there is one, and the numbers of the state after it. The only error is `NoMemory`.
 pub(crate) fn add_due(
     scratch: &mut Scratch,
     def: &LineDef,
@@ -33,8 +33,6 @@ pub(crate) fn add_due(
     requires read { IsRead def.now words.now scratch.old }
     requires room { 1 ≤ scratch.old.state.spare }
     ensures kept { IsKept def.now scratch.new }
-    ensures read { OnOk result (IsRead def.now words.now scratch.new) }
-    ensures room { OnOk result (1 ≤ scratch.new.state.spare) }
     ensures found { OnOk result ((past : List Entry) → IsLegalPast def.now past
         → words.now ≡ node def.now past → length past < 100000000
         → found.new ≡ found.old ++ steps_of def.now past actor) }
@@ -44,11 +42,11 @@ pub(crate) fn add_due(
     };
     let entry = scratch.state.make(def, step);
     advance(&mut scratch.scripts, actor, &entry);
-    scratch.add(def, drivers, entry, found)?;
-    scratch.read(def, drivers, words)
+    scratch.add(def, drivers, entry, found)
 }
 
-/// Adds the entries that are due of these actors. The only error is `NoMemory`.
+/// Adds the entries that are due of these actors in the state with these numbers, which were read.
+/// Between one step and the next they are read again. The only error is `NoMemory`.
 pub(crate) fn add_all(
     scratch: &mut Scratch,
     def: &LineDef,
@@ -67,8 +65,33 @@ pub(crate) fn add_all(
         → words.now ≡ node def.now past → length past < 100000000
         → found.new ≡ found.old ++ all_steps def.now past actors.now) }
 {
-    for actor in actors {
+    let [first, others @ ..] = actors else {
+        return Ok(());
+    };
+    add_due(scratch, def, drivers, words, *first, found)?;
+    for actor in others {
+        scratch.read(def, drivers, words)?;
         add_due(scratch, def, drivers, words, *actor, found)?;
+    }
+    Ok(())
+}
+
+/// Puts those of the actors into the list, which is empty, of whom something is due in the state
+/// that was read. The only error is `NoMemory`.
+pub(crate) fn push_due(
+    due: &mut Vec<Actor>,
+    def: &LineDef,
+    scratch: &Scratch,
+    asked: &[Actor],
+) -> Result<(), NoMemory>
+    requires { due.old.items ≡ [] }
+    ensures { OnOk result (due.new.items
+        ≡ filter (is_due_in def.now scratch.now.state.state scratch.now.scripts) asked.now) }
+{
+    for actor in asked {
+        if due_by(def, &scratch.state, &scratch.scripts, *actor).is_some() {
+            due.push(*actor)?;
+        }
     }
     Ok(())
 }

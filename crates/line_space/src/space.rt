@@ -8,7 +8,7 @@ ghost use Rattle.line_words.specs.Node.{node};
 ghost use Rattle.line_words.specs.Scripts.{AreScripts};
 
 use crate::drivers::drivers_of;
-use crate::moving::{add_all, push_actors};
+use crate::moving::{add_all, push_actors, push_due};
 use crate::scratch::Scratch;
 use irq_base::{Actor, DriverNo, Entry, LineDef, NoMemory};
 use line_scripts::Scripts;
@@ -17,15 +17,16 @@ use state_search::{Found, Space};
 use std::alloc::Global;
 use std::marker::Model;
 
-/// The states of a line, over all its legal histories: the labels are the entries that are due.
-/// Contracts see the definition.
+/// The states of a line, over all its legal histories: the labels are the entries that are due, and
+/// none of the states is wanted. Contracts see the definition.
 #[derive(Drop)]
 pub struct LineSpace {
     alloc: Global,
     def: LineDef,
     drivers: Vec<DriverNo>,
     scratch: Scratch,
-    actors: Vec<Actor>,
+    asked: Vec<Actor>,
+    due: Vec<Actor>,
 }
 
 impl Model for LineSpace {
@@ -40,6 +41,13 @@ impl Model for LineSpace {
 }
 
 impl LineSpace {
+    /// The line's definition.
+    pub fn def(&self) -> &LineDef
+        ensures { result.now ≡ self.now }
+    {
+        &self.def
+    }
+
     /// The space of a line of that definition. The only error is `NoMemory`.
     pub fn new(alloc: Global, def: &LineDef) -> Result<LineSpace, NoMemory>
         requires { IsValid def.now }
@@ -53,7 +61,8 @@ impl LineSpace {
             def,
             drivers,
             scratch,
-            actors: Vec::new(alloc),
+            asked: Vec::new(alloc),
+            due: Vec::new(alloc),
         })
     }
 }
@@ -72,6 +81,8 @@ impl Space<Entry> for LineSpace {
 
     ghost node = { λ def. node def };
 
+    ghost wanted = { λ def past. ⊥ };
+
     fn first(&mut self, words: &mut Vec<u32>) -> Result<(), NoMemory> {
         let scripts = fresh_scripts(self.alloc, &self.def)?;
         let state = fresh(self.alloc, &self.def)?;
@@ -81,15 +92,18 @@ impl Space<Entry> for LineSpace {
     fn steps(&mut self, words: &[u32], found: &mut Found<Entry>) -> Result<(), NoMemory> {
         let drivers = self.drivers.as_slice();
         self.scratch.read(&self.def, drivers, words)?;
-        self.actors.clear();
-        push_actors(&mut self.actors, &self.def, drivers, &self.scratch.state)?;
-        add_all(
-            &mut self.scratch,
-            &self.def,
-            drivers,
-            words,
-            self.actors.as_slice(),
-            found,
-        )
+        self.asked.clear();
+        push_actors(&mut self.asked, &self.def, drivers, &self.scratch.state)?;
+        self.due.clear();
+        let asked = self.asked.as_slice();
+        push_due(&mut self.due, &self.def, &self.scratch, asked)?;
+        let due = self.due.as_slice();
+        add_all(&mut self.scratch, &self.def, drivers, words, due, found)
+    }
+
+    fn is_wanted(&mut self, words: &[u32], found: &Found<Entry>) -> Result<bool, NoMemory> {
+        let _ = words;
+        let _ = found;
+        Ok(false)
     }
 }

@@ -6,3 +6,5 @@ pub mod Rests
 pub mod Growing
 pub mod Surveys
 pub mod OfLine
+pub mod Meeting
+pub mod Sought

@@ -1,6 +1,6 @@
 -- What a search says of a line at rest.
-use Rattle.std.proofs.Common.{◌≡◌, ◌≤◌, ◌<◌, ◌-◌, ◌⊎◌, inl, inr, Contains, ℕ, zero, suc, Bool, true, false, ltb, Option}
-use Rattle.std.proofs.Common.{None, Some, List, [], map, take, length}
+use Rattle.std.proofs.Common.{◌≡◌, ◌≤◌, ◌<◌, ◌⊎◌, inl, inr, Contains, ℕ, zero, suc, Bool, true, false, ltb, Option}
+use Rattle.std.proofs.Common.{None, Some, List, map, take, length}
 use Rattle.std.proofs.Common.{reverse, slice_get, refl, ap, sym, subst, ◌∙◌, arith}
 use Rattle.std.specs.Option.{option_map}
 use Rattle.std.proofs.lemmas.Bool.Decides.{nat_tests}
@@ -18,16 +18,16 @@ use Rattle.irq_model.specs.Valid.{IsValid}
 use Rattle.line_futures.proofs.Futures.{due_alike}
 use Rattle.line_search.proofs.Nodes.{node_tells}
 use Rattle.line_search.proofs.Searching.{path_is_legal, legal_is_path}
-use Rattle.line_wanted.specs.Wanted.{IsShortest, IsNever, IsNotWithin}
+use Rattle.line_wanted.specs.Wanted.{IsShortest}
 use Rattle.line_wanted.specs.declared.left.Left.{Left}
 use Rattle.line_wanted.specs.declared.wanted.Wanted.TheVariants as wants
 use Rattle.line_words.specs.Node.{node}
 use Rattle.play_laws.proofs.Rest.{rest_is_settled}
 use Rattle.state_search.proofs.Places.{all_at, one_at, same_some, contains_at, map_at, map_from, there}
-use Rattle.state_search.specs.Paths.{IsPath, IsBelow, IsCount, LeavesOut}
+use Rattle.state_search.specs.Paths.{IsPath, IsBelow, IsCount}
 use Rattle.state_search.specs.Seen.{SearchSeen, cut_of}
 use Rattle.line_survey.proofs.Lefts.{left_alike}
-use Rattle.line_survey.proofs.Lists.{taken, no_items}
+use Rattle.line_survey.proofs.Lists.{taken}
 use Rattle.line_survey.specs.Kept.{IsOfLine}
 use Rattle.line_survey.specs.Rests.{Leaves, LeavesAt, RestsAt, MovesAt, IsFirstAt}
 
@@ -177,30 +177,3 @@ module _ (def : LineDef) (valid : IsValid def) where
             let rises = line.searches.rising k x.place p x.past after is x.there in omega (arith, rises, x.least)
         shorter h legal leaves (inr long) =
             let rises = line.searches.rising k s.looked p long.0 (omega (arith, within)) is long.1 in omega (arith, rises, long.2)
-
-    -- no place that was looked at leaves the line so
-    module _ (none : (j : ℕ) → j < s.looked → LeavesAt def s.paths left j → ⊥) where
-      unknown : (h : List Entry) → IsLegalPast def h → Leaves def left h → IsBelow (cut_of s) (length h) → ⊥
-      unknown h legal leaves below = let x = known h legal leaves below in none x.place x.within (x.past, x.there, x.leaves)
-
-      pub rest_never : cut_of s ≡ None → IsNever def (wants.Rest left)
-      rest_never whole h meets =
-          let B : Option ℕ → Type 0 = λ o. IsBelow o (length h) in
-          unknown h meets.0 (meets.1, meets.2) (subst B (sym whole) tt)
-
-      pub rest_not_within : (d : ℕ) → LeavesOut (IsDue def) (node def) s.paths s.looked → cut_of s ≡ Some d → IsNotWithin def (wants.Rest left) (d - 1)
-      rest_not_within d left_out cut h meets = by_cut (cut_cases h)
-        where
-          long_enough : (q : List Entry) → slice_get s.paths s.looked ≡ Some q → length q ≤ length h → (n : ℕ) → length h ≡ n → d - 1 < n
-          long_enough q is long zero none =
-              let empty : q ≡ [] = no_items q (omega (arith, long, none)) in
-              let here : h ≡ [] = no_items h none in
-              let on = left_out q is in
-              absurd (settled_none h meets.1 on.0 (subst (IsDue def on.0) (empty ∙ sym here) on.1))
-          long_enough q is long (suc n) many = let same
-              : length q ≡ d = same_some (length q) d (ap (option_map length) (sym is) ∙ cut) in
-              omega (arith, same, long, many)
-
-          by_cut : IsBelow (cut_of s) (length h) ⊎ ((q : List Entry) × (slice_get s.paths s.looked ≡ Some q) × (length q ≤ length h)) → d - 1 < length h
-          by_cut (inl below) = absurd (unknown h meets.0 (meets.1, meets.2) below)
-          by_cut (inr long) = long_enough long.0 long.1 long.2 (length h) refl

@@ -1,12 +1,14 @@
 -- What is answered of something wanted.
 use Rattle.std.specs.Prelude.{◌≡◌, ◌-◌, ℕ, Some, reverse}
 use Rattle.std.specs.Option.{option_map}
+use Rattle.irq_base.specs.declared.lines.LineDef.{LineDef}
 use Rattle.line_wanted.specs.Wanted.{IsShortest, IsNever, IsNotWithin}
 use Rattle.line_wanted.specs.declared.wanted.Wanted.{Wanted}
 use Rattle.line_wanted.specs.declared.wanted.Wanted.TheVariants as wants
 use Rattle.state_search.specs.Seen.{cut_of}
 use Rattle.line_survey.specs.declared.answer.Answer.{Answer}
 use Rattle.line_survey.specs.declared.answer.Answer.TheVariants as answers
+use Rattle.line_survey.specs.Searched.{IsSearchOf}
 use Rattle.line_survey.specs.Seen.{LineSearchSeen}
 
 -- A search that was cut at this length knows what comes after each shorter past: so all rows with
@@ -15,9 +17,12 @@ abbrev pub known_within : Wanted → ℕ → ℕ
 known_within (wants.Row e) cut = cut
 known_within (wants.Rest left) cut = cut - 1
 
--- a shortest history; or there is none; or none within what the search knows, which was cut
-abbrev pub IsAnswer : LineSearchSeen → Wanted → Answer → Type 0
-IsAnswer s wanted (answers.Found entries) = IsShortest s.def wanted (reverse entries.items)
-IsAnswer s wanted answers.Never = IsNever s.def wanted
-IsAnswer s wanted (answers.NotWithin n) =
-    IsNotWithin s.def wanted n × (Some n ≡ option_map (known_within wanted) (cut_of s.searched))
+-- by a search through at most `most` states of the line: a shortest history as wanted, its oldest
+-- entry first; or that there is none; or that there is none up to a length, all that a search knows
+-- that was cut after this many states
+abbrev pub IsAnswer : ℕ → LineDef → Wanted → Answer → Type 0
+IsAnswer most def wanted (answers.Found es) = IsShortest def wanted (reverse es.items)
+IsAnswer most def wanted answers.Never = IsNever def wanted
+IsAnswer most def wanted (answers.NotWithin n) =
+    IsNotWithin def wanted n × (search : LineSearchSeen) × IsSearchOf most def search
+    × (Some n ≡ option_map (known_within wanted) (cut_of search.searched))

@@ -1,4 +1,4 @@
--- What a search through the states of a line keeps.
+-- What a search through the states of a line keeps, and what states are read into.
 use Rattle.std.specs.Prelude.{◌≡◌, ◌≤◌, Bool, map, length}
 use Rattle.irq_base.specs.contracts.entries.EntryPartialEq.TheImpl as entry_eq
 use Rattle.irq_base.specs.declared.entries.Entry.{Entry}
@@ -9,6 +9,9 @@ use Rattle.line_words.specs.Node.{node, drivers_in}
 use Rattle.state_search.specs.Firsts.{AreFirsts}
 use Rattle.state_search.specs.Paths.{Searches, AreCounted, LeavesOut}
 use Rattle.state_search.specs.Seen.{SearchSeen, cut_of}
+use Rattle.line_words.specs.Scripts.{AreScripts}
+use Rattle.line_words.specs.Tables.{HasTables}
+use Rattle.line_survey.specs.declared.reader.Reader.{Reader}
 use Rattle.line_survey.specs.declared.searching.LineSearch.TheInside.{Inside}
 
 -- the entries are equal
@@ -28,5 +31,10 @@ pub record IsOfLine (def : LineDef) (s : SearchSeen Entry) : Type 0 where
 
 pub record IsSearch (s : Inside) : Type 0 where
   pub valid : IsValid s.def
-  pub drivers : s.drivers.items ≡ drivers_in s.def.calls
   pub line : IsOfLine s.def s.searched
+
+-- numbers of the line can be read into it
+pub record IsReader (def : LineDef) (r : Reader) : Type 0 where
+  pub drivers : r.drivers.items ≡ drivers_in def.calls
+  pub tables : HasTables def r.state.state
+  pub scripts : AreScripts def r.scripts

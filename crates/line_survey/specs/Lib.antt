@@ -5,3 +5,5 @@ pub mod Answers
 pub mod Rests
 pub mod Surveyed
 pub mod Growing
+pub mod Searched
+pub mod Wanting

@@ -4,12 +4,16 @@
 
 pub mod answer;
 mod leaving;
+mod reader;
 mod resting;
 mod rows;
 pub mod searching;
+pub mod seeking;
 pub mod survey;
 mod surveying;
+mod wanting;
 
 pub use answer::Answer;
 pub use searching::LineSearch;
+pub use seeking::shortest;
 pub use survey::{EntryRow, RestRow, Survey};

@@ -2,17 +2,14 @@
 ghost use Rattle.std.specs.Prelude.{◌≡◌, ◌≤◌, ◌<◌, IfOk, IfSome, length};
 ghost use Rattle.irq_model.specs.Legal.{IsDue};
 ghost use Rattle.irq_model.specs.Valid.{IsValid};
-ghost use Rattle.line_survey.specs.Answers.{IsAnswer};
 ghost use Rattle.line_survey.specs.Kept.{IsOfLine};
 ghost use Rattle.line_survey.specs.Seen.{depth_at};
 ghost use Rattle.line_words.specs.Node.{node};
 ghost use Rattle.state_search.specs.Paths.{Searches, AreCounted, LeavesOut};
 ghost use Rattle.state_search.specs.Seen.{cut_of};
 
-use crate::answer::Answer;
-use irq_base::{DriverNo, Entry, LineDef, NoMemory};
-use line_space::{LineSpace, drivers_of};
-use line_wanted::Wanted;
+use irq_base::{Entry, LineDef, NoMemory};
+use line_space::LineSpace;
 use state_search::{Searched, search};
 use std::alloc::Global;
 use std::marker::Model;
@@ -23,7 +20,6 @@ use std::marker::Model;
 pub struct LineSearch {
     pub(crate) alloc: Global,
     pub(crate) def: LineDef,
-    pub(crate) drivers: Vec<DriverNo>,
     pub(crate) searched: Searched<Entry>,
 }
 
@@ -48,7 +44,8 @@ fn search_states(alloc: Global, def: &LineDef, most: usize) -> Result<Searched<E
     ensures cut { IfOk result (λ s. IfSome (cut_of s) (λ _. length s.paths ≡ most)) }
 {
     let mut space = LineSpace::new(alloc, def)?;
-    search(alloc, &mut space, most)
+    let sought = search(alloc, &mut space, most)?;
+    Ok(sought.found)
 }
 
 impl LineSearch {
@@ -71,25 +68,12 @@ impl LineSearch {
             LeavesOut (IsDue def.now) (node def.now) s.searched.paths s.searched.looked) }
     {
         let searched = search_states(alloc, def, most)?;
-        let drivers = drivers_of(alloc, &def.calls)?;
         let def = def.try_clone(alloc)?;
         Ok(LineSearch {
             alloc,
             def,
-            drivers,
             searched,
         })
-    }
-
-    /// A shortest legal history as wanted; or that there is none, or none as far as was searched.
-    /// The only error is `NoMemory`.
-    pub fn shortest(&self, wanted: Wanted) -> Result<Answer, NoMemory>
-        ensures { IfOk result (IsAnswer self.now wanted) }
-    {
-        match wanted {
-            Wanted::Row(entry) => self.shortest_row(entry),
-            Wanted::Rest(left) => self.shortest_rest(left),
-        }
     }
 
     /// If the search was cut: the length of histories from which on states may be unknown.

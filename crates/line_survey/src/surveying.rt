@@ -4,10 +4,12 @@ ghost use Rattle.std.specs.Prelude.{length};
 ghost use Rattle.std.specs.Prelude.{sum, slice_get, take, reverse};
 ghost use Rattle.irq_model.specs.Settled.{IsSettled};
 ghost use Rattle.line_survey.specs.Growing.{IsNoted};
+ghost use Rattle.line_survey.specs.Kept.{IsReader};
 ghost use Rattle.line_survey.specs.Surveyed.{AreSoMany, AreRests, IsSurvey};
 ghost use Rattle.line_survey.specs.declared.survey.RestRow.{RestRow};
 ghost use Rattle.state_search.specs.Seen.{cut_of};
 
+use crate::reader::Reader;
 use crate::searching::LineSearch;
 use crate::survey::{RestRow, Survey};
 use irq_base::NoMemory;
@@ -96,10 +98,21 @@ impl LineSearch {
         ensures { IfOk result (λ rests. AreRests self.now.def (cut_of self.now.searched)
             (take self.now.searched.looked self.now.searched.paths) rests.items) }
     {
+        let mut reader = Reader::new(self.alloc, &self.def)?;
+        self.rests_by(&mut reader)
+    }
+
+    /// The same, by reading each state at rest. The only error is `NoMemory`.
+    fn rests_by(&self, reader: &mut Reader) -> Result<Vec<RestRow>, NoMemory>
+        requires { IsReader self.now.def reader.old }
+        ensures { IfOk result (λ rests. AreRests self.now.def (cut_of self.now.searched)
+            (take self.now.searched.looked self.now.searched.paths) rests.items) }
+    {
         let mut rests = Vec::new(self.alloc);
         for place in 0..self.searched.looked() {
             if self.is_at_rest(place) {
-                note(&mut rests, self.left_at(place)?, self.depth(place))?;
+                let left = self.left_at(reader, place)?;
+                note(&mut rests, left, self.depth(place))?;
             }
         }
         Ok(rests)

@@ -14,7 +14,7 @@ ghost use Rattle.std.specs.Prelude.{◌≤◌};
 
 use crate::numbers::{Numbers, Step};
 use irq_base::NoMemory;
-use state_search::{Searched, search};
+use state_search::{Searched, Sought, search};
 use std::alloc::Global;
 
 /// The numbers in the order of the search, and the lengths of their paths.
@@ -31,13 +31,21 @@ const ORDER: [(u32, usize); 10] = [
     (7, 4),
 ];
 
-/// The first ten numbers, or as many as are asked for.
+/// A search through the first ten numbers, or as many as are asked for, for one that is wanted.
+fn sought(alloc: Global, wanted: u16, most: usize) -> Result<Sought<Step>, NoMemory>
+    requires some { 1 ≤ most }
+    requires most { most ≤ 100000000 }
+{
+    let mut space = Numbers { limit: 10, wanted };
+    search(alloc, &mut space, most)
+}
+
+/// The same, and none is wanted.
 fn searched(alloc: Global, most: usize) -> Result<Searched<Step>, NoMemory>
     requires some { 1 ≤ most }
     requires most { most ≤ 100000000 }
 {
-    let mut space = Numbers { limit: 10 };
-    search(alloc, &mut space, most)
+    Ok(sought(alloc, 0, most)?.found)
 }
 
 /// Whether the number stands at index `place`, with a path of this length.
@@ -99,9 +107,28 @@ fn labels(rt: HostRuntime) -> Result<(), NoMemory> {
 /// Nothing comes after 1 up to 1, and no label is met.
 #[test]
 fn one_number(rt: HostRuntime) -> Result<(), NoMemory> {
-    let mut space = Numbers { limit: 1 };
-    let found = search(rt.alloc(), &mut space, 1)?;
+    let mut space = Numbers {
+        limit: 1,
+        wanted: 0,
+    };
+    let found = search(rt.alloc(), &mut space, 1)?.found;
     assert!(rt; ends(&found, 1, 1, None));
     assert!(rt; found.first(Step::AddOne).is_none());
+    Ok(())
+}
+
+/// 5 stands at place 5: the five before it were looked at, and what comes after these is there. One
+/// that isn't met is sought to the end, or to the cut.
+#[test]
+fn wanted_numbers(rt: HostRuntime) -> Result<(), NoMemory> {
+    let five = sought(rt.alloc(), 5, 10)?;
+    assert!(rt; five.is_met && ends(&five.found, 8, 5, Some(3)));
+    assert!(rt; stands(&five.found, 5, 5, 3));
+    let one = sought(rt.alloc(), 1, 10)?;
+    assert!(rt; one.is_met && ends(&one.found, 1, 0, Some(0)));
+    let eleven = sought(rt.alloc(), 11, 10)?;
+    assert!(rt; !eleven.is_met && ends(&eleven.found, 10, 10, None));
+    let seven = sought(rt.alloc(), 7, 6)?;
+    assert!(rt; !seven.is_met && ends(&seven.found, 6, 3, Some(2)));
     Ok(())
 }

@@ -14,17 +14,21 @@ pub enum Step {
     AddOne,
 }
 
-/// The numbers from 1 to the limit to which steps lead.
+/// The numbers from 1 to the limit to which steps lead, and one of them that is wanted.
 #[derive(Drop)]
 pub struct Numbers {
     /// The greatest number.
     pub limit: u16,
+    /// The number that is wanted; 0 if none is.
+    pub wanted: u16,
 }
 
 impl Space<Step> for Numbers {
     ghost can = { λ s step g. CanStep s.limit step g };
 
     ghost node = { λ s g. number g ∷ [] };
+
+    ghost wanted = { λ s g. number g ≡ s.wanted };
 
     fn first(&mut self, words: &mut Vec<u32>) -> Result<(), NoMemory> {
         words.push(1)?;
@@ -43,5 +47,10 @@ impl Space<Step> for Numbers {
             found.push(Step::AddOne, &[number + 1])?;
         }
         Ok(())
+    }
+
+    fn is_wanted(&mut self, words: &[u32], found: &Found<Step>) -> Result<bool, NoMemory> {
+        let _ = found;
+        Ok(words.first().copied() == Some(u32::from(self.wanted)))
     }
 }

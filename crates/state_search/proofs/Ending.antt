@@ -7,7 +7,7 @@ use Rattle.std.specs.Cmp.{IsEquivalence}
 use Rattle.std.specs.Option.{option_map}
 use Rattle.state_search.specs.declared.firsts.First.{First}
 use Rattle.state_search.specs.Firsts.{AreFirsts}
-use Rattle.state_search.specs.Paths.{IsPath, IsBelow, Searches}
+use Rattle.state_search.specs.Paths.{IsPath, IsBelow, Searches, IsNearest, NoneWanted}
 use Rattle.state_search.specs.Steps.{AreUnder, AreNotedUnder}
 use Rattle.state_search.proofs.Inducing.{IsMet, HasOpen, met}
 use Rattle.state_search.proofs.Places.{there, at_take, map_at, map_from, all_from, contains_from}
@@ -145,3 +145,22 @@ module _ {L : Type 0} (can : L → List L → Type 0) (node : List L → List �
           let d = n.noted x.0 x.1 x.5 x.2 h l path (sym x.3) c in
           (d.0, d.1, d.2, d.3);
     }
+
+  module _ (wanted : List L → Type 0)
+      (none : (k : ℕ) (g : List L) → k < i → slice_get (map node ps) k ≡ Some (node g) → IsPath can g → wanted g → ⊥) where
+    pub none_wanted : NoneWanted can wanted ps i cut
+    none_wanted = record {
+      passed = λ k p lt at w. none k p lt (map_at node ps k p at) (u.paths_are k p at) w;
+      below = λ h path less w.
+          let m = looked h path less in
+          none m.0 h m.5 (map_at node ps m.0 m.1 m.2 ∙ ap Some m.3) path w;
+    }
+
+    -- the next state is wanted
+    pub is_nearest : (p : List L) → slice_get ps i ≡ Some p → wanted p → IsNearest can wanted ps i
+    is_nearest p at w = record { path = p; there = at; is_wanted = w; least = λ h path is. by h path is (cases_lt (length h) (length p)) }
+      where
+        by : (h : List L) → IsPath can h → wanted h → (length h < length p) ⊎ (length p ≤ length h) → length p ≤ length h
+        by h path is (inl less) =
+            absurd (none_wanted.below h path (subst (λ o. IsBelow (option_map length o) (length h)) (sym at) less) is)
+        by h path is (inr more) = more

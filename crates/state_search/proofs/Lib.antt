@@ -7,6 +7,7 @@ pub mod Closing
 pub mod Counting
 pub mod Noting
 pub mod Ending
+pub mod Passing
 pub mod Looking
 pub mod Kept
 pub mod Putting

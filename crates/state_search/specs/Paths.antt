@@ -84,3 +84,18 @@ module _ {L : Type 0} (can : L → List L → Type 0) (node : List L → List �
     pub whole : cut ≡ None → looked ≡ length paths
     pub all : (h : List L) → IsPath can h → IsBelow cut (length h)
         → Contains (map node (take looked paths)) (node h)
+
+-- ---- what is wanted
+
+module _ {L : Type 0} (can : L → List L → Type 0) (wanted : List L → Type 0) where
+  -- the path at the place leads to a wanted state, and no path to one is shorter
+  pub record IsNearest (paths : List (List L)) (k : ℕ) : Type 0 where
+    pub path : List L
+    pub there : slice_get paths k ≡ Some path
+    pub is_wanted : wanted path
+    pub least : (h : List L) → IsPath can h → wanted h → length path ≤ length h
+
+  -- none of the states that were looked at is wanted, and none with a path shorter than the cut
+  pub record NoneWanted (paths : List (List L)) (looked : ℕ) (cut : Option ℕ) : Type 0 where
+    pub passed : (k : ℕ) (p : List L) → k < looked → slice_get paths k ≡ Some p → wanted p → ⊥
+    pub below : (h : List L) → IsPath can h → IsBelow cut (length h) → wanted h → ⊥

@@ -1,5 +1,6 @@
 -- Rows of numbers, one after another in one list.
-use Rattle.std.specs.Prelude.{◌≤◌, ℕ, List, Vec, map, length, slice_range, All}
+use Rattle.std.specs.Prelude.{◌≡◌, ◌≤◌, ℕ, List, Vec, map, length, slice_range, All}
+use Rattle.std.specs.List.{flat_map}
 use Rattle.state_search.specs.declared.found.Row.{Row}
 
 module _ {L : Type 0} where
@@ -10,6 +11,11 @@ module _ {L : Type 0} where
   -- each row lies within the list
   abbrev pub AreWithin : List (Row L) → List ℕ → Type 0
   AreWithin rows words = All (λ r. (r.from ≤ r.to) × (r.to ≤ length words)) rows
+
+  -- the list is the numbers of the rows, and no others
+  pub record AreOf (rows : List (Row L)) (words : List ℕ) : Type 0 where
+    pub within : AreWithin rows words
+    pub all : flat_map (λ f. f.1) (found_in rows words) ≡ words
 
 -- the rows of a map from numbers
 module _ {V Z : Type 0} where

@@ -54,3 +54,13 @@ module _ {L : Type 0} where
       pub firsts : AreNotedUnder s.looked s.paths s.firsts
       pub counts : AreCounted can s.paths s.counts
       pub counted : length s.counts ≡ s.looked
+
+  -- the path leads to the state that is looked at next
+  abbrev pub IsNext : (List L → List ℕ) → SearchSeen L → List L → Type 0
+  IsNext node s g = slice_get s.states s.looked ≡ Some (node g)
+
+  -- none of the states that were looked at is wanted, by whatever path it is reached
+  abbrev pub NonePassed : (L → List L → Type 0) → (List L → List ℕ) → (List L → Type 0)
+      → SearchSeen L → Type 0
+  NonePassed can node wanted s = (k : ℕ) (g : List L) → k < s.looked
+      → slice_get s.states k ≡ Some (node g) → IsPath can g → wanted g → ⊥

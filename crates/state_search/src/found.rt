@@ -1,5 +1,6 @@
 //! What may come next in a state.
-ghost use Rattle.std.specs.Prelude.{◌≡◌, ◌<◌, [], ◌∷◌, ◌++◌, length, OnOk, slice_get, Some};
+ghost use Rattle.std.specs.Prelude.{◌≡◌, ◌<◌, [], ◌∷◌, ◌++◌, length, OnOk, OnErr};
+ghost use Rattle.std.specs.Prelude.{slice_get, Some};
 
 use irq_base::NoMemory;
 use std::alloc::Global;
@@ -14,7 +15,7 @@ pub(crate) struct Row<L: Copy> {
 }
 
 /// Labels, each with the numbers of the state to which it leads. The numbers of all states stand in
-/// one list, so that a label takes no memory of its own.
+/// one list, so that a label takes no memory of its own, and no other numbers stand there.
 #[derive(Drop)]
 pub struct Found<L: Copy> {
     rows: Vec<Row<L>>,
@@ -26,11 +27,11 @@ impl<L: Copy> Model for Found<L> {
 
     ghost Value = { List (L × List ℕ) };
 
-    ghost use Rattle.state_search.specs.Rows.{found_in, AreWithin};
+    ghost use Rattle.state_search.specs.Rows.{found_in, AreOf};
 
     ghost view = { λ f. found_in f.rows.items f.words.items };
 
-    ghost invariant = { λ f. AreWithin f.rows.items f.words.items };
+    ghost invariant = { λ f. AreOf f.rows.items f.words.items };
 }
 
 impl<L: Copy> Found<L> {
@@ -45,14 +46,18 @@ impl<L: Copy> Found<L> {
     }
 
     /// Adds a label and the numbers of the state after it, at the end. The only error is
-    /// `NoMemory`.
+    /// `NoMemory`, and then nothing is added.
     pub fn push(&mut self, label: L, words: &[u32]) -> Result<(), NoMemory>
-        ensures { OnOk result (self.new ≡ self.old ++ (label, words.now) ∷ []) }
+        ensures added { OnOk result (self.new ≡ self.old ++ (label, words.now) ∷ []) }
+        ensures refused { OnErr result (self.new ≡ self.old) }
     {
         let from = self.words.len();
         self.words.extend_from_slice(words)?;
         let to = self.words.len();
-        self.rows.push(Row { label, from, to })?;
+        let Ok(()) = self.rows.push(Row { label, from, to }) else {
+            self.words.truncate(from);
+            return Err(NoMemory);
+        };
         Ok(())
     }
 

@@ -11,5 +11,5 @@ mod states;
 pub use firsts::First;
 pub use found::Found;
 pub use searched::Searched;
-pub use searching::search;
+pub use searching::{Sought, search};
 pub use space::Space;

@@ -1,11 +1,11 @@
 //! What a search found.
-ghost use Rattle.std.specs.Prelude.{◌≡◌, ◌≤◌, ◌<◌, ℕ, ◌+◌, [], true, false, IfOk, IfSome, IfNone};
-ghost use Rattle.std.specs.Prelude.{OnOk, IsTrue, ◌↔◌, length, reverse, slice_get, Some};
+ghost use Rattle.std.specs.Prelude.{◌≡◌, ◌≤◌, ◌<◌, ℕ, ◌+◌, [], IfOk, IfSome, IfNone};
+ghost use Rattle.std.specs.Prelude.{OnOk, IsTrue, ◌↔◌, List, length, reverse, slice_get, Some};
 ghost use Rattle.std.specs.Option.{option_map};
 ghost use Rattle.state_search.specs.Firsts.{IsNoted, IsNotedAt};
-ghost use Rattle.state_search.specs.Paths.{LeavesOut};
+ghost use Rattle.state_search.specs.Paths.{IsPath, LeavesOut};
 ghost use Rattle.state_search.specs.Seen.{cut_of};
-ghost use Rattle.state_search.specs.Steps.{IsUnder, IsStart};
+ghost use Rattle.state_search.specs.Steps.{IsUnder, IsStart, IsNext, NonePassed};
 
 use crate::firsts::{First, note, place_of};
 use crate::found::Found;
@@ -14,6 +14,17 @@ use crate::states::States;
 use irq_base::NoMemory;
 use std::alloc::Global;
 use std::marker::Model;
+
+/// What came of the look at a state.
+#[derive(Clone, Copy)]
+pub(crate) enum Look {
+    /// All states that come after it fit.
+    Whole,
+    /// They don't.
+    Cut,
+    /// It is wanted, and what comes after it was left alone.
+    Wanted,
+}
 
 /// What a search found: the states in the order in which it met them, each with a shortest path;
 /// how many labels may come next in each that was looked at; and the labels, each with the place of
@@ -150,40 +161,52 @@ impl<L: Copy> Searched<L> {
         self.looked() < self.states.len()
     }
 
-    /// Looks at what comes after the next state. True if all states found there fit; else the
-    /// search is cut at `most` states. The only error is `NoMemory`.
+    /// Looks at the next state, and at what comes after it if it isn't wanted. The search is cut at
+    /// `most` states. The only error is `NoMemory`.
     pub(crate) fn look<S: Space<L>>(
         &mut self,
         alloc: Global,
         space: &mut S,
         found: &mut Found<L>,
         most: usize,
-    ) -> Result<bool, NoMemory>
+    ) -> Result<Look, NoMemory>
     where
         L: Eq,
         requires open { self.old.looked < length self.old.paths }
         requires few { length self.old.paths ≤ most }
         requires most { most ≤ 100000000 }
         requires under { IsUnder L.eq (S.can space.old) (S.node space.old) self.old }
+        requires none { NonePassed (S.can space.old) (S.node space.old) (S.wanted space.old)
+            self.old }
         ensures same { space.new ≡ space.old }
         ensures few { OnOk result (length self.new.paths ≤ most) }
         ensures under { OnOk result (IsUnder L.eq (S.can space.old) (S.node space.old) self.new) }
-        ensures on { IfOk result (λ whole. whole ≡ true → self.new.looked ≡ self.old.looked + 1) }
-        ensures cut { IfOk result (λ whole. whole ≡ false → length self.new.paths ≡ most) }
-        ensures left_out { IfOk result (λ whole. whole ≡ false
+        ensures none { OnOk result (NonePassed (S.can space.old) (S.node space.old)
+            (S.wanted space.old) self.new) }
+        ensures on { IfOk result (λ l. l ≡ Look.Whole → self.new.looked ≡ self.old.looked + 1) }
+        ensures cut { IfOk result (λ l. l ≡ Look.Cut → length self.new.paths ≡ most) }
+        ensures left_out { IfOk result (λ l. l ≡ Look.Cut
             → LeavesOut (S.can space.old) (S.node space.old) self.new.paths self.new.looked) }
+        ensures wanted { IfOk result (λ l. l ≡ Look.Wanted → (g : List L)
+            → IsPath (S.can space.old) g → IsNext (S.node space.old) self.new g
+            → S.wanted space.old g) }
+        ensures stays { IfOk result (λ l. l ≡ Look.Wanted → self.new ≡ self.old) }
     {
         let place = self.looked();
+        let words = self.states.words(place);
         found.clear();
-        space.steps(self.states.words(place), found)?;
+        space.steps(words, found)?;
+        if space.is_wanted(words, found)? {
+            return Ok(Look::Wanted);
+        }
         let Ok(count) = u32::try_from(found.len()) else {
             return Err(NoMemory);
         };
         note(&mut self.firsts, place as u32, found)?;
         if !self.states.put_all(alloc, place as u32, found, most)? {
-            return Ok(false);
+            return Ok(Look::Cut);
         }
         self.counts.push(count)?;
-        Ok(true)
+        Ok(Look::Whole)
     }
 }

@@ -5,12 +5,13 @@ use Rattle.irq_model.specs.Legal.{IsLegalPast}
 use Rattle.line_futures.specs.Canon.{canon}
 use Rattle.line_scripts.specs.Rows.{RowSeen}
 use Rattle.line_state.specs.Seen.{LineStateSeen}
+use Rattle.line_words.proofs.Whole.{if_ok}
 use Rattle.line_words.specs.Node.{node}
 use Rattle.line_words.specs.Scripts.{AreScripts}
 use Rattle.line_words.specs.Tables.{HasTables}
 use Rattle.line_words.specs.Told.{places_told, state_told}
 use Rattle.line_space.proofs.Again.{is_of_again}
-use Rattle.line_space.proofs.Adding.{DueAt, MadeAt, always, none_added, can, moves_may, made_at, few_after, are_after, tables_after, words_after, one_added}
+use Rattle.line_space.proofs.Adding.{DueAt, MadeAt, none_added, can, moves_may, made_at, few_after, are_after, tables_after, words_after, one_added}
 use Rattle.line_space.proofs.ReadAt.{read_at}
 use Rattle.line_space.specs.Reading.{IsKept}
 use Rattle.line_space.specs.declared.scratch.Scratch.{Scratch}
@@ -67,19 +68,15 @@ kept c left state_is scripts_are =
       scripts = subst R (sym scripts_are) (are_after m);
     }
 
-pub returns-in_err-add-clause-kept : goal.returns-in_err-add-clause-kept
-returns-in_err-add-clause-kept c =
-    kept (goal.at.returns-in_err-add-clause-kept c).After-advance c.add.new.self c.add.ensures.state c.add.ensures.scripts
-
-pub read-requires-clause-kept : goal.read-requires-clause-kept
-read-requires-clause-kept c =
-    kept (goal.at.read-requires-clause-kept c).After-advance c.add.new.self c.add.ensures.state c.add.ensures.scripts
+pub returns-clause-kept : goal.returns-clause-kept
+returns-clause-kept c =
+    kept (goal.at.returns-clause-kept c).After-advance c.add.new.self c.add.ensures.state c.add.ensures.scripts
 
 pub returns-clause-found : goal.returns-clause-found
 returns-clause-found c =
-    always c.read.result (λ past legal same few.
+    if_ok c.add.result (λ added past legal same few.
     let m = made (goal.at.returns-clause-found c).After-advance past legal same few in
     one_added m c.args.found.now c.add.new.found
     (state_told c.args.def.now (canon c.make-entry.new.self.state) (places_told c.advance.new.scripts c.args.drivers.now))
-    c.in_ok-add.ensures.found
-    (words_after m c.make-entry.new.self.state c.make-entry.ensures.state c.args.drivers.now c.requires.drivers))
+    added
+    (words_after m c.make-entry.new.self.state c.make-entry.ensures.state c.args.drivers.now c.requires.drivers)) c.add.ensures.found

@@ -1,4 +1,5 @@
-use Rattle.std.proofs.Common.{◌≡◌, List, Option, ap, sym, subst, ◌∙◌}
+use Rattle.std.proofs.Common.{◌≡◌, ℕ, List, ◌++◌, Option, ap, sym, subst, ◌∙◌}
+use Rattle.irq_base.specs.declared.entries.Actor.{Actor}
 use Rattle.irq_base.specs.declared.entries.Entry.{Entry}
 use Rattle.irq_base.specs.declared.lines.LineDef.{LineDef}
 use Rattle.irq_base.specs.declared.numbers.CpuNo.{CpuNo}
@@ -9,8 +10,10 @@ use Rattle.line_state.specs.Seen.{taker_of}
 use Rattle.line_words.proofs.Whole.{if_ok}
 use Rattle.line_words.specs.Node.{node}
 use Rattle.line_space.proofs.Again.{flow_same, taker_same}
+use Rattle.line_space.proofs.Adding.{due_only}
 use Rattle.line_space.proofs.Firsts.{reached_is, steps_all}
-use Rattle.line_space.specs.Stepping.{actors_by}
+use Rattle.line_space.proofs.ReadAt.{read_at}
+use Rattle.line_space.specs.Stepping.{actors_by, all_steps}
 use Rattle.state_search.specs.Paths.{IsPath, AreSteps, IsReached as IsReachedBy}
 use Rattle.line_space.proofs.space.LineSpaceSpaceEntry.steps.Goals as goal
 
@@ -36,12 +39,16 @@ returns-clause-steps c =
     let drivers = c.as_slice-drivers.ensures.value ∙ c.self.invariant.drivers in
     if_ok c.add_all.result (λ added. subst S c.self.view_is
     (steps_all def valid ws (reached_is def ws (subst R (sym c.self.view_is) c.requires.reached))
-    c.self.inside.scratch.scripts c.self.invariant.scratch.scripts c.args.found.now new c.as_slice.result.now c.requires.empty
+    c.self.inside.scratch.scripts c.self.invariant.scratch.scripts c.args.found.now new c.as_slice-asked.result.now c.requires.empty
     (λ past legal same.
     let again = c.in_ok-read.ensures.read.state past legal same in
-    c.as_slice.ensures.value ∙ (c.in_ok-push_actors.ensures
+    c.as_slice-asked.ensures.value ∙ (c.in_ok-push_actors.ensures
     ∙ (ap (λ (o : Option CpuNo). actors_by def o (taker_of t) c.as_slice-drivers.result.now) (flow_same def past t again)
     ∙ (ap (λ (o : Option CpuNo). actors_by def (state_of def past).desc.flow o c.as_slice-drivers.result.now) (taker_same def past t again)
     ∙ ap (λ (rs : List DriverNo). actors_by def (state_of def past).desc.flow (taker_of (state_of def past)) rs) drivers))))
-    added))
+    (λ past legal same few.
+    let read = read_at valid c.in_ok-read.ensures.read legal same few in
+    let due = c.as_slice-due.ensures.value ∙ c.in_ok-push_due.ensures in
+    added past legal same few ∙ ap (λ (x : List (Entry × List ℕ)). c.args.found.now ++ x)
+    (ap (λ (x : List Actor). all_steps def past x) due ∙ due_only read c.as_slice-asked.result.now))))
     c.add_all.ensures.found

@@ -1,53 +1,7 @@
-use Rattle.std.proofs.Common.{◌≡◌, ◌<◌, ◌+◌, ℕ, Vec, Global, length, ap, sym, subst, arith}
-use Rattle.irq_model.specs.Valid.{IsValid}
-use Rattle.line_survey.proofs.Growing.{row_small, rows_stay, rows_count}
-use Rattle.line_survey.proofs.Surveys.{rests_are}
-use Rattle.line_survey.specs.Growing.{AreRestsTo}
-use Rattle.line_survey.specs.Kept.{IsOfLine}
+use Rattle.std.proofs.Common.{subst}
+use Rattle.line_survey.specs.Kept.{IsReader}
 use Rattle.line_survey.specs.Seen.{LineSearchSeen}
-use Rattle.line_survey.specs.declared.survey.RestRow.{RestRow}
 use Rattle.line_survey.proofs.searching.LineSearch.rests.Goals as goal
-use Rattle.line_survey.proofs.searching.LineSearch.rests.Goals.{then-is_at_rest+in_ok-left_at+in_ok-note, else-is_at_rest}
 
-pub note-requires : goal.note-requires
-note-requires c = record {
-  few = λ k r is.
-      let v : LineSearchSeen = c.args.self.now in
-      let line : IsOfLine v.def v.searched = subst (λ (x : LineSearchSeen). IsOfLine x.def x.searched) c.self.view_is c.self.invariant.line in
-      let looked = ap (λ (x : LineSearchSeen). x.searched.looked) c.self.view_is in
-      let within : c.loop-place.place < length v.searched.paths =
-      omega (arith, c.loop-place-test.true, c.looked-place-end.ensures, looked, line.searches.within) in
-      let small = row_small v.def v.searched.paths c.loop-place.place within c.loop-place.rests.items c.loop-place.invariant k r is in
-      omega (arith, small, within, line.few);
-}
-
-pub loop-place-preserved : goal.loop-place-preserved
-loop-place-preserved c =
-    let v : LineSearchSeen = c.args.self.now in
-    let paths = v.searched.paths in
-    let line : IsOfLine v.def v.searched = subst (λ (x : LineSearchSeen). IsOfLine x.def x.searched) c.self.view_is c.self.invariant.line in
-    let looked = ap (λ (x : LineSearchSeen). x.searched.looked) c.self.view_is in
-    let within : c.loop-place.place < length paths =
-    omega (arith, c.loop-place-test.true, c.looked-place-end.ensures, looked, line.searches.within) in
-    let So : Vec RestRow Global → Type 0 = λ rows. AreRestsTo v.def paths (c.loop-place.place + 1) rows.items in
-    elim c.if-is_at_rest.branch [
-      | then-is_at_rest+in_ok-left_at+in_ok-note w ↦
-          subst So (sym w.rests-is)
-          (rows_count v.def paths c.loop-place.place within line.searches.rising c.loop-place.rests.items w.note.new.rests.items
-          w.in_ok-left_at.field-0 w.depth.result (c.is_at_rest.ensures.rests w.if-is_at_rest.true) w.in_ok-left_at.ensures w.depth.ensures.depth
-          c.loop-place.invariant w.in_ok-note.ensures)
-      | else-is_at_rest w ↦
-          subst So (sym w.rests-is)
-          (rows_stay v.def paths c.loop-place.place within c.loop-place.rests.items (c.is_at_rest.ensures.moves w.if-is_at_rest.false) c.loop-place.invariant)
-    ]
-
-pub returns : goal.returns
-returns c =
-    let v : LineSearchSeen = c.args.self.now in
-    let valid : IsValid v.def = subst (λ (x : LineSearchSeen). IsValid x.def) c.self.view_is c.self.invariant.valid in
-    let line : IsOfLine v.def v.searched = subst (λ (x : LineSearchSeen). IsOfLine x.def x.searched) c.self.view_is c.self.invariant.line in
-    let looked = ap (λ (x : LineSearchSeen). x.searched.looked) c.self.view_is in
-    let end : c.loop-place.place ≡ v.searched.looked =
-    omega (arith, c.loop-place-test.false, c.loop-place.auto.place-end, c.looked-place-end.ensures, looked) in
-    rests_are v.def valid v.searched line c.loop-place.rests.items
-    (subst (λ (n : ℕ). AreRestsTo v.def v.searched.paths n c.loop-place.rests.items) end c.loop-place.invariant)
+pub rests_by-requires : goal.rests_by-requires
+rests_by-requires c = subst (λ (v : LineSearchSeen). IsReader v.def c.in_ok-reader.reader) c.self.view_is c.in_ok-reader.ensures

@@ -1,5 +1,0 @@
-use Rattle.line_survey.specs.Growing.{AreRestsTo}
-use Rattle.line_survey.proofs.searching.LineSearch.rests.Given as goal
-
-abbrev pub invariant-loop-place : goal.invariant-loop-place
-invariant-loop-place l = AreRestsTo l.self.def l.self.searched.paths l.place l.rests.items
