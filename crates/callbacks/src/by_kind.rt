@@ -1,20 +1,41 @@
 //! Handlers that know nothing but the kind of their device.
-use crate::handler::Handler;
-use irq_base::{Answer, DeviceDef, Kind, Part};
+ghost use Rattle.std.specs.Prelude.{◌≡◌};
+ghost use Rattle.callbacks.specs.Seen.{answer_to};
+
+use crate::handler::{Handler, SharedHandler};
+use irq_base::{Answer, Kind, Part, Run};
 
 /// Each device's handler answers by the kind of the device alone: for a program without drivers of
 /// its own.
 #[derive(Clone, Copy)]
 pub struct ByKind;
 
+/// What the run's device answers.
+fn answer_by_kind(run: Run) -> Answer
+    ensures { result ≡ answer_to run }
+{
+    match (run.def.kind, run.part) {
+        (Kind::Null, Part::Primary) => Answer::Wake,
+        (Kind::Check, Part::Primary) if run.unserved > 0 => Answer::Wake,
+        (Kind::Direct, Part::Primary) | (Kind::Check | Kind::Null, Part::Thread)
+            if run.unserved > 0 => { Answer::Handled }
+        _ => Answer::Nothing,
+    }
+}
+
 impl Handler for ByKind {
-    fn answer(&self, def: DeviceDef, part: Part, unserved: u32) -> Answer {
-        match (def.kind, part) {
-            (Kind::Null, Part::Primary) => Answer::Wake,
-            (Kind::Check, Part::Primary) if unserved > 0 => Answer::Wake,
-            (Kind::Direct, Part::Primary) | (Kind::Check | Kind::Null, Part::Thread)
-                if unserved > 0 => { Answer::Handled }
-            _ => Answer::Nothing,
-        }
+    // a call leaves no trace
+    ghost hears = { λ old run new. Unit {0} };
+
+    fn answer(&mut self, run: Run) -> Answer {
+        answer_by_kind(run)
+    }
+}
+
+impl SharedHandler for ByKind {
+    ghost gave = { λ handlers run answer. Unit {0} };
+
+    fn answer(&self, run: Run) -> Answer {
+        answer_by_kind(run)
     }
 }

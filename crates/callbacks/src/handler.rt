@@ -1,41 +1,32 @@
-//! The kept handlers.
+//! Handlers.
 ghost use Rattle.std.specs.Prelude.{◌≡◌};
-ghost use Rattle.irq_base.specs.Handlers.{answer_of};
+ghost use Rattle.irq_base.specs.declared.devices.Answer.{Answer};
+ghost use Rattle.irq_base.specs.declared.devices.Run.{Run};
+ghost use Rattle.callbacks.specs.Seen.{answer_to};
 
-use crate::said::Said;
-use irq_base::{Answer, DeviceDef, Part, Run};
+use irq_base::{Answer, Run};
 
 /// The handlers of all devices, primary and threaded (`irq_handler_t` of
 /// `include/linux/interrupt.h`).
 pub trait Handler {
-    /// Calls this part of the device's handler; `unserved` of the device's asks are unserved. It
-    /// answers as the device does.
-    fn answer(&self, def: DeviceDef, part: Part, unserved: u32) -> Answer
-        ensures { result ≡ answer_of def.kind part unserved };
+    /// One call for a run: from what the handlers were to what they are.
+    ghost hears: { Self → Run → Self → Type 0 };
+
+    /// Calls the handler of this run (`action->handler`, `__handle_irq_event_percpu` of
+    /// `kernel/irq/handle.c`; `action->thread_fn`, `irq_thread_fn` of `kernel/irq/manage.c`), and
+    /// has its answer, which is its device's.
+    fn answer(&mut self, run: Run) -> Answer
+        ensures by_kind { result ≡ answer_to run }
+        ensures heard { hears self.old run self.new };
 }
 
-/// Handlers that are kept. Only a `Said` says what one of them answered.
-#[derive(Drop)]
-pub struct Callbacks<H: Handler> {
-    handler: H,
-}
+/// The handlers of all devices, which threads share.
+pub trait SharedHandler {
+    /// Evidence that these handlers gave this answer in a call for this run.
+    ghost gave: { Self → Run → Answer → Type 0 };
 
-impl<H: Handler> Callbacks<H> {
-    /// Keeps the handlers.
-    pub fn new(handler: H) -> Callbacks<H> {
-        Callbacks { handler }
-    }
-
-    /// Runs the handler (`action->handler`, `__handle_irq_event_percpu` of `kernel/irq/handle.c`;
-    /// `action->thread_fn`, `irq_thread_fn` of `kernel/irq/manage.c`), and has its answer. It takes
-    /// no memory.
-    pub fn call(&self, run: Run) -> Said
-        ensures { result ≡ record {
-          run = run;
-          answer = answer_of run.def.kind run.part run.unserved;
-        } }
-    {
-        let answer = self.handler.answer(run.def, run.part, run.unserved);
-        Said::new(run, answer)
-    }
+    /// Calls the handler of this run, and has its answer, which is its device's.
+    fn answer(&self, run: Run) -> Answer
+        ensures by_kind { result ≡ answer_to run }
+        ensures gave { gave self.now run result };
 }

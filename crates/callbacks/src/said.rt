@@ -1,7 +1,8 @@
 //! What a handler said.
-ghost use Rattle.std.specs.Prelude.{◌≡◌, IsTrue};
-ghost use Rattle.irq_base.specs.Handlers.{answer_of};
+ghost use Rattle.std.specs.Prelude.{◌≡◌, ◌↔◌, IsTrue};
+ghost use Rattle.callbacks.specs.Seen.{answer_to};
 
+use crate::handler::SharedHandler;
 use irq_base::{Answer, Part, Run};
 use std::marker::Model;
 
@@ -15,21 +16,22 @@ pub struct Said {
 
 impl Model for Said {
     ghost use Rattle.std.specs.Prelude.{◌≡◌};
-    ghost use Rattle.irq_base.specs.Handlers.{answer_of};
-    ghost use Rattle.callbacks.specs.Seen.{SaidSeen};
+    ghost use Rattle.callbacks.specs.Seen.{SaidSeen, answer_to};
 
     ghost Value = { SaidSeen };
 
     ghost view = { λ s. record { run = s.run; answer = s.answer } };
 
-    ghost invariant = { λ s. s.answer ≡ answer_of s.run.def.kind s.run.part s.run.unserved };
+    ghost invariant = { λ s. s.answer ≡ answer_to s.run };
 }
 
 impl Said {
-    pub(crate) fn new(run: Run, answer: Answer) -> Said
-        requires { answer ≡ answer_of run.def.kind run.part run.unserved }
-        ensures { result ≡ record { run = run; answer = answer } }
+    /// Has the handler of this run called, and keeps what it answers. It takes no memory.
+    pub fn of<G: SharedHandler>(handlers: &G, run: Run) -> Said
+        ensures said { result ≡ record { run = run; answer = answer_to run } }
+        ensures gave { G.gave handlers.now run result.answer }
     {
+        let answer = handlers.answer(run);
         Said { run, answer }
     }
 
@@ -50,8 +52,7 @@ impl Said {
     /// What the handler answered, which is what its device answers.
     pub fn answer(&self) -> Answer
         ensures answer { result ≡ self.now.answer }
-        ensures by_kind { result ≡ answer_of self.now.run.def.kind self.now.run.part
-            self.now.run.unserved }
+        ensures by_kind { result ≡ answer_to self.now.run }
     {
         self.answer
     }
