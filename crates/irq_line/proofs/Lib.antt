@@ -1,3 +1,2 @@
-pub mod AddsDue
 pub mod OneAnswer
 pub mod Waits

@@ -1,27 +1,28 @@
--- What a step answers and leaves, with the handlers of the line's devices at hand.
-use Rattle.std.specs.Prelude.{◌≡◌, ◌+◌, ◌<◌, ◌≤◌, Option, Some, None, Result, Ok, Err, [], ◌∷◌}
-use Rattle.std.specs.Prelude.{◌++◌, length}
-use Rattle.irq_base.specs.Who.{actor_of}
+-- What a step makes of those who have the answers.
+use Rattle.std.specs.Prelude.{◌≡◌, Some, Result, Ok, List, [], reverse}
+use Rattle.irq_base.specs.declared.devices.Run.{Run}
 use Rattle.irq_base.specs.declared.entries.Actor.{Actor}
-use Rattle.irq_base.specs.declared.entries.Entry.{Entry}
-use Rattle.irq_model.specs.Next.{next}
-use Rattle.irq_line.specs.Answers.{IsFull}
+use Rattle.callbacks.specs.Heard.{one_run}
+use Rattle.irq_line.specs.Runs.{run_ended, run_of}
 use Rattle.irq_line.specs.Seen.{LineSeen}
 use Rattle.irq_line.specs.declared.answers.StepRefused.{StepRefused}
-use Rattle.irq_line.specs.declared.answers.StepRefused.TheVariants as refusals
+use Rattle.irq_line.specs.declared.answers.Stepped.{Stepped}
+use Rattle.irq_line.specs.declared.answers.Stepped.TheVariants as stepped
 
--- The entry that is due of the actor stands at the history's end, which had room for it. At most
--- one of the free places is gone.
-pub record Adds (old : LineSeen) (who : Actor) (entry : Entry) (new : LineSeen) : Type 0 where
-  pub due : next old.def old.entries who ≡ Some entry
-  pub actor : actor_of entry ≡ who
-  pub below : length old.entries < old.def.log
-  pub def : new.def ≡ old.def
-  pub entries : new.entries ≡ old.entries ++ entry ∷ []
-  pub spare : old.spare ≤ new.spare + 1
+-- the run that the step ended: that of the entry that it added, if that entry ends one
+abbrev pub runs_by : {L : Type 0} → LineSeen → Result (Stepped L) StepRefused → List Run
+runs_by old (Ok (stepped.Added entry)) =
+    one_run (run_ended old.def (reverse old.entries) entry)
+runs_by old _ = []
 
-abbrev pub Heard : LineSeen → Actor → Result (Option Entry) StepRefused → LineSeen → Type 0
-Heard old who (Ok (Some entry)) new = Adds old who entry new
-Heard old who (Ok None) new = (next old.def old.entries who ≡ None) × (new ≡ old)
-Heard old who (Err (refusals.Full len)) new = IsFull old who len × (new ≡ old)
-Heard old who (Err refusals.NoMemory) new = new ≡ old
+-- the answer that wasn't at hand is that of the run that ends with the entry that is due
+pub record IsLacking {E L : Type 0} (lacks : E → Run → L → Type 0) (old : LineSeen) (who : Actor)
+    (ears : E) (lack : L) : Type 0 where
+  pub run : Run
+  pub due : run_of old.def old.entries who ≡ Some run
+  pub lacks_it : lacks ears run lack
+
+abbrev pub Lacks : {E L : Type 0} → (lacks : E → Run → L → Type 0) → LineSeen → Actor → E
+    → Result (Stepped L) StepRefused → Type 0
+Lacks lacks old who ears (Ok (stepped.Lacks lack)) = IsLacking lacks old who ears lack
+Lacks lacks old who ears _ = Unit {0}

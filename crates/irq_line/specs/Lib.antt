@@ -1,6 +1,6 @@
 pub mod Seen
 pub mod Runs
 pub mod Answers
-pub mod Heard
+pub mod Hearing
 pub mod Memory
 pub mod Queries

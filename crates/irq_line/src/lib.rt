@@ -4,7 +4,7 @@
 //! history, or one that keeps marks.
 #![tactic(auto)]
 
-ghost use Rattle.std.specs.Prelude.{◌≡◌, ◌↔◌, ℕ, IsTrue, Option, Some, None, Result, Err, reverse};
+ghost use Rattle.std.specs.Prelude.{◌≡◌, ◌↔◌, ℕ, IsTrue, Some, None, Result, Err, reverse};
 ghost use Rattle.irq_base.specs.declared.calls.Call.{Call};
 ghost use Rattle.irq_base.specs.declared.entries.Actor.{Actor};
 ghost use Rattle.irq_base.specs.declared.entries.Actor.TheVariants as actors;
@@ -12,8 +12,9 @@ ghost use Rattle.irq_base.specs.declared.numbers.DriverNo.{DriverNo};
 ghost use Rattle.irq_model.specs.Due.{due_call};
 ghost use Rattle.irq_model.specs.Next.{next};
 ghost use Rattle.irq_laws.specs.Blocks.{block_of};
-ghost use Rattle.callbacks.specs.Seen.{SaidSeen};
+ghost use Rattle.callbacks.specs.Heard.{Heard};
 ghost use Rattle.irq_line.specs.Answers.{Answers};
+ghost use Rattle.irq_line.specs.Hearing.{Lacks, runs_by};
 ghost use Rattle.irq_line.specs.Queries.{blocks_of, is_blocked};
 ghost use Rattle.irq_line.specs.Seen.{LineSeen, IsSound};
 ghost use Rattle.irq_line.specs.declared.answers.StepRefused.{StepRefused};
@@ -21,22 +22,25 @@ ghost use Rattle.irq_line.specs.declared.answers.StepRefused.TheVariants as refu
 ghost use Rattle.irq_line.specs.declared.answers.Stepped.{Stepped};
 
 pub mod answers;
-pub mod heard;
 pub mod line;
 pub mod makes;
 
+use callbacks::Hears;
+
 pub use answers::{StepRefused, Stepped};
-pub use heard::step_heard;
 pub use irq_base::Blocks;
 pub use line::IrqLine;
 pub use makes::MakesLine;
 
 /// But for `NoMemory` a step has one answer: the conditions of the others exclude one another.
 #[tactic(auto, using(crate::proofs::OneAnswer::one_answer))]
-pub fn step_has_one_answer()
-    ensures law { (old : LineSeen) (who : Actor) (said : Option SaidSeen)
-        (a b : Result Stepped StepRefused) (new other : LineSeen)
-        → Answers old who said a new → Answers old who said b other
+pub fn step_has_one_answer<E: Hears>()
+    ensures law { (old : LineSeen) (who : Actor) (ears ears_a ears_b : E)
+        (a b : Result (Stepped E.Lack) StepRefused) (new other : LineSeen)
+        → Answers old who a new → Heard E.hears (runs_by old a) ears ears_a
+        → Lacks E.lacks old who ears a
+        → Answers old who b other → Heard E.hears (runs_by old b) ears ears_b
+        → Lacks E.lacks old who ears b
         → (a ≡ Err refusals.NoMemory → ⊥) → (b ≡ Err refusals.NoMemory → ⊥) → a ≡ b }
 {}
 

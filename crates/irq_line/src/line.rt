@@ -1,13 +1,15 @@
 //! The trait.
-ghost use Rattle.std.specs.Prelude.{◌≡◌, ◌≤◌, ◌↔◌, IsTrue, Option, None, OnOk, OnErr};
+ghost use Rattle.std.specs.Prelude.{◌≡◌, ◌≤◌, ◌↔◌, IsTrue, Option, OnOk, OnErr};
 ghost use Rattle.irq_base.specs.declared.entries.Entry.{Entry};
-ghost use Rattle.irq_line.specs.Answers.{Answers, as_stepped};
+ghost use Rattle.callbacks.specs.Heard.{Heard};
+ghost use Rattle.irq_line.specs.Answers.{Answers};
+ghost use Rattle.irq_line.specs.Hearing.{Lacks, runs_by};
 ghost use Rattle.irq_line.specs.Memory.{WantsMemory};
 ghost use Rattle.irq_line.specs.Queries.{IsPresented, IsTaker, IsLowestThread, flow_of, blocks_of};
 ghost use Rattle.irq_line.specs.Seen.{LineSeen, IsSound};
 
 use crate::answers::{StepRefused, Stepped};
-use callbacks::{Callbacks, Handler, Said};
+use callbacks::Hears;
 use irq_base::{Actor, Blocks, CpuNo, DevNo, Entry, History, LineDef, NoMemory};
 
 /// An interrupt line (`struct irq_desc`, `include/linux/irqdesc.h`). Contracts see what `seen`
@@ -21,37 +23,23 @@ pub trait IrqLine: Drop {
     ghost may_want: { Option Entry → Type 0 };
 
     /// Adds the entry that is due of the actor, if there is one: one hold of the line's lock. If
-    /// the entry ends a run of a handler, the answer of that run has to be handed in; an answer of
-    /// another run, or one that isn't needed, is dropped.
+    /// the entry ends a run of a handler, it says the answer that `ears` have for this run; they
+    /// are asked once there is room for the entry, and for nothing else.
     ///
     /// # Errors
     ///
     /// `Full` if an entry is due and the history has the greatest length that the definition
     /// allows. `NoMemory` if memory was refused: a step needs none if the history has room, unless
-    /// the line may want some for what is due. Nothing has changed then.
-    fn step(&mut self, actor: Actor, said: Option<Said>) -> Result<Stepped, StepRefused>
-        ensures def { (seen self.new).def ≡ (seen self.old).def }
-        ensures answer { Answers (seen self.old) actor said result (seen self.new) }
-        ensures memory { WantsMemory may_want (seen self.old) actor result };
-
-    /// Adds the entry that is due of the actor, if there is one, and answers it: `step` with the
-    /// answer of the run that the entry ends, whose handler is called. `said`, which is empty,
-    /// becomes that answer. Nothing comes between the call and the step, so nothing is decided a
-    /// second time.
-    ///
-    /// # Errors
-    ///
-    /// Those of `step`. Nothing of the line has changed then.
-    fn step_heard<H: Handler>(
+    /// the line may want some for what is due. Nothing has changed then, and no handler was called.
+    fn step<E: Hears>(
         &mut self,
         actor: Actor,
-        handlers: &Callbacks<H>,
-        said: &mut Option<Said>,
-    ) -> Result<Option<Entry>, StepRefused>
-        requires { said.old ≡ None }
+        ears: &mut E,
+    ) -> Result<Stepped<E::Lack>, StepRefused>
         ensures def { (seen self.new).def ≡ (seen self.old).def }
-        ensures answer { Answers (seen self.old) actor said.new (as_stepped result)
-            (seen self.new) }
+        ensures answer { Answers (seen self.old) actor result (seen self.new) }
+        ensures heard { Heard E.hears (runs_by (seen self.old) result) ears.old ears.new }
+        ensures lacking { Lacks E.lacks (seen self.old) actor ears.old result }
         ensures memory { WantsMemory may_want (seen self.old) actor result };
 
     /// Makes room for one more entry. With room to spare it isn't refused; if it is refused, all is
