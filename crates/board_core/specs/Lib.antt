@@ -15,3 +15,4 @@ pub mod Firsts
 pub mod Playing
 pub mod Making
 pub mod Placing
+pub mod Runs

@@ -9,8 +9,8 @@ use Rattle.irq_base.specs.declared.entries.Entry.{Entry}
 use Rattle.irq_base.specs.declared.numbers.LineNo.{LineNo}
 use Rattle.irq_model.specs.Next.{next}
 use Rattle.callbacks.specs.Heard.{Heard, one_run}
-use Rattle.irq_line.specs.Runs.{run_ended, run_of, run_of_entry}
-use Rattle.irq_line.specs.Answers.{Answers, Adds, WantsAnswer, IsFull, IsDueOf}
+use Rattle.irq_line.specs.Runs.{run_ended, run_of_entry}
+use Rattle.irq_line.specs.Answers.{Answers, Adds, IsFull, IsDueOf}
 use Rattle.irq_line.specs.Hearing.{IsLacking, Lacks, runs_by}
 use Rattle.irq_line.specs.Seen.{LineSeen}
 use Rattle.irq_line.specs.declared.answers.StepRefused.{StepRefused}

@@ -25,9 +25,8 @@ pub mod answers;
 pub mod line;
 pub mod makes;
 
-use callbacks::Hears;
-
 pub use answers::{StepRefused, Stepped};
+use callbacks::Hears;
 pub use irq_base::Blocks;
 pub use line::IrqLine;
 pub use makes::MakesLine;
