@@ -4,3 +4,4 @@ pub mod Answers
 pub mod Hearing
 pub mod Memory
 pub mod Queries
+pub mod Given
