@@ -16,6 +16,7 @@ pub mod boxed;
 pub mod by_kind;
 pub mod handler;
 pub mod hears;
+pub mod lent;
 pub mod said;
 
 pub use before::Before;
@@ -23,4 +24,5 @@ pub use boxed::{Boxed, Handling};
 pub use by_kind::ByKind;
 pub use handler::{Handler, SharedHandler};
 pub use hears::Hears;
+pub use lent::Lent;
 pub use said::Said;

@@ -18,15 +18,9 @@ use Rattle.irq_laws.proofs.ServedLaws.{has_target}
 use Rattle.irq_model.specs.Due.{due_call}
 use Rattle.irq_model.specs.Next.{next, next_of_call}
 use Rattle.irq_model.specs.Signal.{target}
-use Rattle.callbacks.specs.Seen.{SaidSeen}
-use Rattle.irq_line.specs.Answers.{AddsEntry, WantsRun, IsSaidFor}
-use Rattle.irq_line.specs.Heard.{Adds}
-use Rattle.irq_line.specs.Memory.{WantsMemory}
+use Rattle.irq_line.specs.Answers.{Adds}
 use Rattle.irq_line.specs.Runs.{run_of, run_of_entry, run_ended}
 use Rattle.irq_line.specs.Seen.{LineSeen}
-use Rattle.irq_line.specs.declared.answers.StepRefused.{StepRefused}
-use Rattle.irq_line.specs.declared.answers.StepRefused.TheVariants as refusals
-use Rattle.irq_line.specs.declared.answers.Stepped.{Stepped}
 use Rattle.line_marks.proofs.DueIs.{due_on}
 use Rattle.line_marks.specs.Aim.{number_of}
 use Rattle.line_marks.specs.DriversDue.{driver_due}
@@ -43,7 +37,6 @@ use Rattle.line_state.specs.declared.due.ThreadStep.TheVariants as threads
 use Rattle.line_state.specs.declared.due.DueStep.TheVariants as steps
 use Rattle.line_state.specs.declared.due.DueStep.{DueStep}
 use Rattle.line_core.specs.Entries.{entry_at}
-use Rattle.line_core.specs.Room.{links_next}
 use Rattle.line_core.specs.Running.{run_by}
 
 -- ---- the chips
@@ -69,12 +62,7 @@ aimed_at line b n same =
 abbrev pub IsDueStep : LineSeen → Actor → DueStep → Type 0
 IsDueStep line who step = next line.def line.entries who ≡ Some (entry_at line step)
 
-pub due_told : (line : LineSeen) (b : Beside line.def line.entries) (a : Actor) (o : Option DueStep)
-    → option_map (entry_by line.def b.state) o ≡ due_by line.def b.state b.scripts a → option_map (entry_at line) o ≡ next line.def line.entries a
-due_told line b a o told =
-    ap (λ (x : StateSeen). option_map (entry_by line.def x) o) (sym b.is.state) ∙ (told ∙ sym (due_on line.def line.entries b.state b.scripts a b.is))
-
--- the same for the steps of one kind of actor
+-- what the state has due of an actor is what is due of it
 pub kind_told : {S : Type 0} (of : S → DueStep) (line : LineSeen) (b : Beside line.def line.entries) (a : Actor) (o : Option S)
     → option_map (λ (x : S). entry_by line.def b.state (of x)) o ≡ due_by line.def b.state b.scripts a
     → option_map (λ (x : S). entry_at line (of x)) o ≡ next line.def line.entries a
@@ -113,7 +101,7 @@ module _ (line : LineSeen) (b : Beside line.def line.entries) (who : Actor) (ste
   made_here e made = made ∙ ap (λ (x : StateSeen). entry_by line.def x step) b.is.state
 
   -- the run that the due step ends
-  ends : run_ended line.def (reverse line.entries) (entry_at line step) ≡ run_by line.def b.state step
+  pub ends : run_ended line.def (reverse line.entries) (entry_at line step) ≡ run_by line.def b.state step
   ends =
       run_is line.def (reverse line.entries) b.is.valid b.is.legal step
       (due_past line.def line.entries b.state b.scripts b.scripts (entry_at line step) b.is who due)
@@ -122,26 +110,6 @@ module _ (line : LineSeen) (b : Beside line.def line.entries) (who : Actor) (ste
   pub run_told : run_of line.def line.entries who ≡ run_by line.def b.state step
   run_told = ap (run_of_entry line.def (reverse line.entries)) due ∙ ends
 
-  pub heard_of : (said : Option SaidSeen) → IfSome (run_by line.def b.state step) (IsSaidFor said) → IfSome (run_of line.def line.entries who) (IsSaidFor said)
-  heard_of said heard = subst (λ (o : Option Run). IfSome o (IsSaidFor said)) (sym run_told) heard
-
-  pub wants : (said : Option SaidSeen) (run : Run) → (run_by line.def b.state step ≡ Some run) × (IsSaidFor said run → ⊥)
-      → length line.entries < line.def.log → WantsRun line who said run
-  wants said run found below = record { due = run_told ∙ found.0; unheard = found.1; below = below }
-
-  pub adds : (said : Option SaidSeen) (e : Entry) (new : LineSeen) → IfSome (run_by line.def b.state step) (IsSaidFor said)
-      → IsAdded line step e new → AddsEntry line who said e new
-  adds said e new heard added = record {
-    due = due ∙ ap Some (sym added.made);
-    actor = due_is_own line.def line.entries who e (due ∙ ap Some (sym added.made));
-    heard = heard_of said heard;
-    below = added.below;
-    def = added.def;
-    entries = added.entries;
-    spare = added.spare;
-  }
-
-  -- the same, whatever was said
   pub adds_due : (e : Entry) (new : LineSeen) → IsAdded line step e new → Adds line who e new
   adds_due e new added = record {
     due = due ∙ ap Some (sym added.made);
@@ -152,32 +120,9 @@ module _ (line : LineSeen) (b : Beside line.def line.entries) (who : Actor) (ste
     spare = added.spare;
   }
 
--- ---- a step that ends no run needs no answer
-
-pub unheard_of_cpu : (def : LineDef) (s : StateSeen) (c : CpuNo) (step : CpuStep) (said : Option SaidSeen)
-    → ((d : DevNo) → step ≡ cpus.Return d → ⊥) → IfSome (run_by def s (steps.Cpu c step)) (IsSaidFor said)
-unheard_of_cpu def s c (cpus.Take way) said other = tt
-unheard_of_cpu def s c (cpus.Begin d) said other = tt
-unheard_of_cpu def s c (cpus.Return d) said other = absurd (other d refl)
-unheard_of_cpu def s c cpus.End said other = tt
-
-pub unheard_of_thread : (def : LineDef) (s : StateSeen) (d : DevNo) (step : ThreadStep) (said : Option SaidSeen)
-    → (step ≡ threads.Return → ⊥) → IfSome (run_by def s (steps.Thread d step)) (IsSaidFor said)
-unheard_of_thread def s d threads.Begin said other = tt
-unheard_of_thread def s d threads.Return said other = absurd (other refl)
-unheard_of_thread def s d threads.Finish said other = tt
-unheard_of_thread def s d threads.Done said other = tt
-
 -- ---- a step that was refused memory
 
 -- what isn't refused without cause has the cause
 pub wanted : {A E : Type 0} {e : E} (b : Bool) (r : Result A E) → r ≡ Err e → (b ≡ false → IsOk r) → b ≡ true
 wanted true r refused h = refl
 wanted false r refused h = absurd (false≢true (sym (ap is_ok refused) ∙ h refl))
-
-pub wants_memory : (old : LineSeen) (who : Actor) (r : Result Stepped StepRefused)
-    → (1 ≤ old.spare → links_next (next old.def old.entries who) ≡ true)
-    → WantsMemory (λ due. links_next due ≡ true) old who r
-wants_memory old who (Err refusals.NoMemory) h = h
-wants_memory old who (Err (refusals.Full len)) h = tt
-wants_memory old who (Ok stepped) h = tt

@@ -4,3 +4,4 @@ pub mod Running
 pub mod Blocking
 pub mod Room
 pub mod Entries
+pub mod Steps

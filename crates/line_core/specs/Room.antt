@@ -1,14 +1,9 @@
--- Which entries need memory though there is room for one more, and what room is made beforehand.
-use Rattle.std.specs.Prelude.{◌≡◌, ◌<◌, ◌≤◌, Bool, true, false, Option, Some, None, IfSome, Result}
-use Rattle.std.specs.Prelude.{Ok, Err, length}
-use Rattle.irq_base.specs.declared.devices.Run.{Run}
-use Rattle.irq_base.specs.declared.entries.Actor.{Actor}
+-- Room for one more entry, and which entries need memory besides.
+use Rattle.std.specs.Prelude.{◌≡◌, ◌<◌, ◌≤◌, Bool, false, ℕ, Option, Some, None, Result, Ok, Err}
+use Rattle.std.specs.Prelude.{length}
 use Rattle.irq_base.specs.declared.entries.Entry.{Entry}
+use Rattle.irq_base.specs.declared.numbers.LineNo.{LineNo}
 use Rattle.irq_model.specs.Kinds.{is_linked_request}
-use Rattle.irq_model.specs.Next.{next}
-use Rattle.callbacks.specs.Seen.{SaidSeen}
-use Rattle.irq_line.specs.Answers.{IsSaidFor, IsDueOf, IsFull}
-use Rattle.irq_line.specs.Runs.{run_of}
 use Rattle.irq_line.specs.Seen.{LineSeen}
 use Rattle.irq_line.specs.declared.answers.StepRefused.{StepRefused}
 use Rattle.irq_line.specs.declared.answers.StepRefused.TheVariants as refusals
@@ -18,46 +13,30 @@ pub record HasRoom (line : LineSeen) : Type 0 where
   pub below : length line.entries < line.def.log
   pub spare : 1 ≤ line.spare
 
--- the entry that is due of the actor, if there is one, fits, once what it needs besides is at hand;
--- a line that adds none is as it was
-pub record IsReady (old : LineSeen) (who : Actor) (said : Option SaidSeen) (new : LineSeen)
-    : Type 0 where
-  pub below : IsDueOf old who → length old.entries < old.def.log
-  pub room : IsDueOf old who → IfSome (run_of old.def old.entries who) (IsSaidFor said)
-      → 1 ≤ new.spare
+-- room was made for one more entry; a line that had some is as it was
+pub record MakesRoom (old new : LineSeen) : Type 0 where
+  pub below : length old.entries < old.def.log
+  pub def : new.def ≡ old.def
+  pub entries : new.entries ≡ old.entries
+  pub room : 1 ≤ new.spare
   pub spare : old.spare ≤ new.spare
-  pub idle : next old.def old.entries who ≡ None → new ≡ old
-  pub unheard : (run : Run) → run_of old.def old.entries who ≡ Some run
-      → (IsSaidFor said run → ⊥) → new ≡ old
+  pub kept : 1 ≤ old.spare → new ≡ old
 
--- the entry that is due of the actor, if there is one, may be added; a line that adds none is as it
--- was
-pub record FitsDue (old : LineSeen) (who : Actor) (new : LineSeen) : Type 0 where
-  pub room : IsDueOf old who → HasRoom new
-  pub spare : old.spare ≤ new.spare
-  pub idle : next old.def old.entries who ≡ None → new ≡ old
+-- the history has the greatest length that the definition allows; the line and the length are told
+pub record IsAtLimit (line : LineSeen) (no : LineNo) (len : ℕ) : Type 0 where
+  pub line_is : no ≡ line.def.line
+  pub told : len ≡ length line.entries
+  pub log : length line.entries ≡ line.def.log
 
--- an entry of the actor is to be added, and may be
-pub record IsWanted (line : LineSeen) (who : Actor) (said : Option SaidSeen) : Type 0 where
-  pub due : IsDueOf line who
-  pub heard : IfSome (run_of line.def line.entries who) (IsSaidFor said)
-  pub below : length line.entries < line.def.log
+abbrev pub IsFullOf : LineSeen → StepRefused → Type 0
+IsFullOf line (refusals.Full no len) = IsAtLimit line no len
+IsFullOf line refusals.NoMemory = ⊥
 
--- a step of the actor will add an entry, or it won't and is ready, or why it can't
-abbrev pub WillAdd : LineSeen → Actor → Option SaidSeen → Result Bool StepRefused → Type 0
-WillAdd line who said (Ok true) = IsWanted line who said
-WillAdd line who said (Ok false) = IsReady line who said line
-WillAdd line who said (Err (refusals.Full len)) = IsFull line who len
-WillAdd line who said (Err refusals.NoMemory) = ⊥
-
--- why no room was made
-abbrev pub IsRefusal : LineSeen → Actor → StepRefused → LineSeen → Type 0
-IsRefusal old who (refusals.Full len) new = IsFull old who len × (new ≡ old)
-IsRefusal old who refusals.NoMemory new = (old.spare ≡ 0) × (new ≡ old)
-
-abbrev pub IsRefused : {A : Type 0} → LineSeen → Actor → Result A StepRefused → LineSeen → Type 0
-IsRefused old who (Ok done) new = Unit {0}
-IsRefused old who (Err refusal) new = IsRefusal old who refusal new
+-- room was made, or why not
+abbrev pub RoomFor : {A : Type 0} → LineSeen → Result A StepRefused → LineSeen → Type 0
+RoomFor old (Ok made) new = MakesRoom old new
+RoomFor old (Err (refusals.Full no len)) new = IsAtLimit old no len × (new ≡ old)
+RoomFor old (Err refusals.NoMemory) new = (old.spare ≡ 0) × (new ≡ old)
 
 -- the entry that is due links an action
 abbrev pub links_next : Option Entry → Bool

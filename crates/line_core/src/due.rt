@@ -1,24 +1,24 @@
-//! The step that is due of an actor. Nothing changes here.
+//! The step that is due of an actor, for those who have a state and no history. Nothing changes
+//! here.
 ghost use Rattle.std.specs.Prelude.{◌≡◌, option_map};
 ghost use Rattle.irq_base.specs.declared.lines.LineDef.{LineDef};
 ghost use Rattle.line_marks.specs.DriversDue.{driver_due};
 ghost use Rattle.line_marks.specs.Next.{due_by, due_call_in};
 ghost use Rattle.line_state.specs.Entries.{entry_by, call_entry};
 
-use irq_base::{Actor, Chip, DriverNo, LineDef};
+use irq_base::{Actor, Chip, DriverNo};
 use line_scripts::Scripts;
 use line_state::{CallStep, DueStep, LineState};
 
 /// The step that is due by the state, and for a driver by its place in its script.
 #[inline(always)]
 pub fn due_by<C: Chip>(
-    _def: &LineDef,
     state: &LineState<C>,
     scripts: &Scripts,
     actor: Actor,
 ) -> Option<DueStep>
-    ensures { option_map (entry_by _def.now state.now.state) result
-        ≡ due_by _def.now state.now.state scripts.now actor }
+    ensures { (def : LineDef) → option_map (entry_by def state.now.state) result
+        ≡ due_by def state.now.state scripts.now actor }
 {
     match actor {
         Actor::Thread(dev) => {

@@ -1,10 +1,11 @@
 //! An interrupt line that keeps marks: its history beside the state that it comes to, so that a
 //! step looks at a few rows of tables and at no history.
 //!
-//! `Line` is a line over any chips. A step decides what is due of an actor, makes it, and adds the
-//! entry that it came to; the queries after it read the state. Memory is taken when a line is made,
-//! for the history's room and for an action that is linked, and nowhere else. A step of a processor
-//! or of a thread looks for room before it decides, and makes room only if an entry will be added.
+//! `Line` is a line over any chips. There is one road of a step, in a file for each kind of actor
+//! (`processors`, `threads`, `drivers`): what is due of the actor, room for its entry, then what the
+//! step does, and its entry at the history's end. A return has the answer of its run from whoever
+//! hears, once there is room. The queries after a step read the state. Memory is taken when a line
+//! is made, for the history's room and for an action that is linked, and nowhere else.
 //!
 //! An entry, or a run to be answered, doesn't fit a register, and goes through memory at a call. So
 //! the parts of a step are `#[inline(always)]`, here and in the crates below and above: a step of a
@@ -12,13 +13,14 @@
 //! takes in no more than the toolchain inlines.
 #![tactic(auto)]
 
+mod drivers;
 pub mod due;
 mod line;
 mod making;
 pub mod moving;
-mod putting;
+mod processors;
 mod room;
-mod running;
+mod threads;
 
 pub use due::due_by;
 pub use line::Line;

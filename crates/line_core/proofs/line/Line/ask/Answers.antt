@@ -3,10 +3,10 @@ use Rattle.irq_base.specs.declared.calls.Call.TheVariants as calls
 use Rattle.irq_base.specs.declared.calls.Call.{Call}
 use Rattle.irq_base.specs.declared.entries.Actor.TheVariants as actors
 use Rattle.irq_model.specs.Due.{due_call}
-use Rattle.irq_line.specs.Answers.{AddsEntry}
+use Rattle.irq_line.specs.Answers.{Adds}
 use Rattle.irq_line.specs.Seen.{LineSeen}
 use Rattle.line_core.proofs.More.{Beside, ask_due, call_there}
-use Rattle.line_core.proofs.Stepping.{line_of, IsDueStep, IsAdded, adds}
+use Rattle.line_core.proofs.Stepping.{line_of, IsDueStep, IsAdded, adds_due}
 use Rattle.line_core.specs.Room.{HasRoom}
 use Rattle.line_core.specs.Seen.{WiredSeen}
 use Rattle.line_scripts.specs.Rows.{call_of}
@@ -25,7 +25,7 @@ put_ask-requires-clause-call g c =
     there
 
 pub returns-clause-adds : goal.returns-clause-adds
-returns-clause-adds g c said =
+returns-clause-adds g c =
     let line : LineSeen = line_of c.self.inside.def c.self.inside.history in
     let b : Beside line.def line.entries = record { state = c.self.inside.state.state; scripts = c.self.inside.scripts; is = c.self.invariant } in
     let there : call_of c.self.inside.scripts c.args.driver ≡ Some (calls.Ask c.args.dev)
@@ -45,4 +45,4 @@ returns-clause-adds g c said =
       entries = c.put_ask.ensures.entries;
       spare = c.put_ask.ensures.spare;
     } in
-    subst (λ (w : WiredSeen). AddsEntry w.line who said e new) c.self.view_is (adds line b who step due said e new tt added)
+    subst (λ (w : WiredSeen). Adds w.line who e new) c.self.view_is (adds_due line b who step due e new added)
