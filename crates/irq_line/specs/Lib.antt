@@ -5,3 +5,4 @@ pub mod Hearing
 pub mod Memory
 pub mod Queries
 pub mod Given
+pub mod Room

@@ -46,7 +46,7 @@ impl<C: Chip> LineState<C> {
 
     /// The device's handler is called.
     #[inline(always)]
-    pub fn begin(&mut self, cpu: CpuNo, dev: DevNo) -> Entry
+    pub(crate) fn begin(&mut self, cpu: CpuNo, dev: DevNo) -> Entry
         ensures entry { result ≡ by.Cpu cpu (cpus.Begin dev) }
         ensures state { (def : LineDef)
             → self.new.state ≡ state_after def result self.old.state }
@@ -95,15 +95,13 @@ impl<C: Chip> LineState<C> {
         }
     }
 
-    /// The handler of this run returns with this answer, which is its device's: what it met is
-    /// served if it serves, and its thread is woken if the answer says so
-    /// (`__handle_irq_event_percpu`, `kernel/irq/handle.c`). What the run says of its device isn't
-    /// looked up again.
+    /// The handler of this run returns: what it met is served if it serves, and its thread is woken
+    /// if it says so (`__handle_irq_event_percpu`, `kernel/irq/handle.c`). What the run says of its
+    /// device isn't looked up again.
     #[inline(always)]
-    pub fn returned(&mut self, def: &LineDef, cpu: CpuNo, run: Run, answer: Answer) -> Entry
+    pub fn returned(&mut self, def: &LineDef, cpu: CpuNo, run: Run) -> Entry
         requires is_of { IsOf def.now self.old.state }
         requires run { run ≡ handler_run self.old.state run.def.line run.def.dev }
-        requires answer { answer ≡ answer_of run.def.kind parts.Primary run.unserved }
         ensures entry { result ≡ return_by self.old.state cpu run.def.dev
             (met_by (at self.old.state.asks run.def.dev)) }
         ensures state { self.new.state ≡ state_after def.now result self.old.state }
@@ -111,6 +109,7 @@ impl<C: Chip> LineState<C> {
     {
         let DeviceDef { dev, kind, .. } = run.def;
         self.asks.served(dev, is_direct(kind));
+        let answer = answer(kind, run.unserved);
         let served = served(kind, run.unserved);
         self.lower(def, served);
         if answer == Answer::Wake {
@@ -141,7 +140,7 @@ impl<C: Chip> LineState<C> {
 
     /// The device's thread begins a run (`irq_wait_for_interrupt`, `kernel/irq/manage.c`).
     #[inline(always)]
-    pub fn thread_begin(&mut self, dev: DevNo) -> Entry
+    pub(crate) fn thread_begin(&mut self, dev: DevNo) -> Entry
         ensures entry { result ≡ by.Thread dev threads.Begin }
         ensures state { (def : LineDef)
             → self.new.state ≡ state_after def result self.old.state }
@@ -181,7 +180,7 @@ impl<C: Chip> LineState<C> {
     /// its bit up, and no thread holds the line then, its mask opens (`unmask_threaded_irq`,
     /// `kernel/irq/chip.c`).
     #[inline(always)]
-    pub fn finish(&mut self, dev: DevNo) -> Entry
+    pub(crate) fn finish(&mut self, dev: DevNo) -> Entry
         ensures entry { result ≡ finish_by self.old.state dev }
         ensures state { (def : LineDef)
             → self.new.state ≡ state_after def result self.old.state }
@@ -206,7 +205,7 @@ impl<C: Chip> LineState<C> {
 
     /// Its run is over (`wake_threads_waitq`, `kernel/irq/manage.c`).
     #[inline(always)]
-    pub fn done(&mut self, dev: DevNo) -> Entry
+    pub(crate) fn done(&mut self, dev: DevNo) -> Entry
         ensures entry { result ≡ by.Thread dev threads.Done }
         ensures state { (def : LineDef)
             → self.new.state ≡ state_after def result self.old.state }
@@ -233,7 +232,7 @@ fn is_threaded(kind: Kind) -> bool
 }
 
 /// What the device's handler answers if `unserved` of its asks are unserved.
-pub(crate) fn answer(kind: Kind, unserved: u32) -> Answer
+fn answer(kind: Kind, unserved: u32) -> Answer
     ensures { result ≡ answer_of kind parts.Primary unserved }
 {
     match kind {
