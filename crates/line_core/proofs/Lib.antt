@@ -6,3 +6,4 @@ pub mod Blocked
 pub mod Asked
 pub mod Stepping
 pub mod Steps
+pub mod Threaded

@@ -9,9 +9,11 @@ use Rattle.irq_base.specs.declared.entries.Entry.{Entry}
 use Rattle.irq_base.specs.declared.lines.LineDef.{LineDef}
 use Rattle.irq_model.specs.Next.{next}
 use Rattle.callbacks.specs.Heard.{Heard, one_run}
-use Rattle.irq_line.specs.Answers.{Adds, Answers, IsDueOf, WantsAnswer}
-use Rattle.irq_line.specs.Hearing.{IsLacking, Lacks}
-use Rattle.irq_line.specs.Runs.{run_ended, run_of}
+use Rattle.irq_line.proofs.Rooms.{same_run, same_ended, below_mid, added_old, wants_old}
+use Rattle.irq_line.specs.Answers.{IsDueOf}
+use Rattle.irq_line.specs.Hearing.{Lacks}
+use Rattle.irq_line.specs.Room.{MakesRoom}
+use Rattle.irq_line.specs.Runs.{run_ended}
 use Rattle.irq_line.specs.Seen.{LineSeen}
 use Rattle.irq_line.specs.declared.answers.StepRefused.{StepRefused}
 use Rattle.irq_line.specs.declared.answers.StepRefused.TheVariants as refusals
@@ -22,34 +24,25 @@ use Rattle.line_state.specs.Entries.{entry_by}
 use Rattle.line_state.specs.declared.due.DueStep.{DueStep}
 use Rattle.line_core.proofs.More.{Beside}
 use Rattle.line_core.proofs.Stepping.{line_of, IsDueStep, IsAdded, made_here, ends, run_told, adds_due}
-use Rattle.line_core.specs.Room.{HasRoom, MakesRoom, IsFullOf, RoomFor, links_next}
+use Rattle.line_core.specs.Room.{HasRoom, IsFullOf, RoomFor, links_next}
 use Rattle.line_core.specs.Running.{run_by}
 use Rattle.line_core.specs.Steps.{Acts, IsStep, IsStepAlone}
 
 -- ---- room
 
 module _ (old mid : LineSeen) (room : MakesRoom old mid) where
-  same_next : (who : Actor) → next mid.def mid.entries who ≡ next old.def old.entries who
-  same_next who = ap (λ (d : LineDef). next d mid.entries who) room.def ∙ ap (λ (h : List Entry). next old.def h who) room.entries
-
-  same_run : (who : Actor) → run_of mid.def mid.entries who ≡ run_of old.def old.entries who
-  same_run who = ap (λ (d : LineDef). run_of d mid.entries who) room.def ∙ ap (λ (h : List Entry). run_of old.def h who) room.entries
-
-  same_ended : (e : Entry) → run_ended mid.def (reverse mid.entries) e ≡ run_ended old.def (reverse old.entries) e
-  same_ended e = ap (λ (d : LineDef). run_ended d (reverse mid.entries) e) room.def
-      ∙ ap (λ (h : List Entry). run_ended old.def (reverse h) e) room.entries
-
   pub due_mid : (who : Actor) (step : DueStep) → IsDueStep old who step → IsDueStep mid who step
   due_mid who step due =
       subst (λ (d : LineDef). next d mid.entries who ≡ Some (entry_by d (state_of d (reverse mid.entries)) step)) (sym room.def)
       (subst (λ (h : List Entry). next old.def h who ≡ Some (entry_by old.def (state_of old.def (reverse h)) step)) (sym room.entries) due)
 
   pub has_room : HasRoom mid
-  has_room = record {
-    below = subst (λ (d : LineDef). length mid.entries < d.log) (sym room.def)
-        (subst (λ (h : List Entry). length h < old.def.log) (sym room.entries) room.below);
-    spare = room.room;
-  }
+  has_room = record { below = below_mid old mid room; spare = room.room }
+
+-- the history is as long as it may be
+pub limit_told : (A : Type 0) (line : LineSeen) (r : StepRefused) → IsFullOf line r → RoomFor {A = A} line (Err r) line
+limit_told A line (refusals.Full number len) full = (full, refl)
+limit_told A line refusals.NoMemory full = absurd full
 
 -- ---- a step
 
@@ -57,16 +50,16 @@ module _ {E L : Type 0} (hears : E → Run → E → Type 0) (lacks : E → Run 
   pub rests : (line : LineSeen) → next line.def line.entries who ≡ None → IsStep hears lacks line who ears (Ok stepped.NotYet) line ears
   rests line none = record { def = refl; answer = (none, refl); heard = refl; lacking = tt; memory = tt }
 
-  pub refused : {A : Type 0} (old new : LineSeen) (r : StepRefused) → IsDueOf old who → RoomFor {A = A} old (Err r) new
+  pub refused : (A : Type 0) (old new : LineSeen) (r : StepRefused) → IsDueOf old who → RoomFor {A = A} old (Err r) new
       → IsStep hears lacks old who ears (Err r) new ears
-  refused old new (refusals.Full no len) due room = record {
+  refused A old new (refusals.Full number len) due room = record {
     def = ap (λ (l : LineSeen). l.def) room.1;
     answer = (record { due = due; line_is = room.0.line_is; told = room.0.told; log = room.0.log }, room.1);
     heard = refl;
     lacking = tt;
     memory = tt;
   }
-  refused old new refusals.NoMemory due room = record {
+  refused A old new refusals.NoMemory due room = record {
     def = ap (λ (l : LineSeen). l.def) room.1;
     answer = room.1;
     heard = refl;
@@ -76,37 +69,11 @@ module _ {E L : Type 0} (hears : E → Run → E → Type 0) (lacks : E → Run 
 
   -- what was done once there was room
   module _ (old mid : LineSeen) (room : MakesRoom old mid) where
-    added_old : (e : Entry) (new : LineSeen) → Adds mid who e new → Adds old who e new
-    added_old e new a =
-        let more = room.spare in
-        let less = a.spare in
-        record {
-          due = sym (same_next old mid room who) ∙ a.due;
-          actor = a.actor;
-          below = room.below;
-          def = a.def ∙ room.def;
-          entries = a.entries ∙ ap (λ (h : List Entry). h ++ e ∷ []) room.entries;
-          spare = omega (arith, more, less);
-        }
-
-    wants_old : (new : LineSeen) → WantsAnswer mid who new → WantsAnswer old who new
-    wants_old new a =
-        let more = room.spare in
-        let less = a.spare in
-        record {
-          due = subst (λ (o : Option Run). is_some o ≡ true) (same_run old mid room who) a.due;
-          below = room.below;
-          def = a.def ∙ room.def;
-          entries = a.entries ∙ room.entries;
-          spare = omega (arith, more, less);
-          kept = λ some. a.kept room.room ∙ room.kept some;
-        }
-
     pub after_room : (e : Entry) → next mid.def mid.entries who ≡ Some e → (s : Stepped L) (new : LineSeen) (after : E)
         → IsStep hears lacks mid who ears (Ok s) new after → IsStep hears lacks old who ears (Ok s) new after
     after_room _ due (stepped.Added e) new after h = record {
       def = h.def ∙ room.def;
-      answer = added_old e new h.answer;
+      answer = added_old old mid room who e new h.answer;
       heard = subst (λ (o : Option Run). Heard hears (one_run o) ears after) (same_ended old mid room e) h.heard;
       lacking = tt;
       memory = tt;
@@ -114,7 +81,7 @@ module _ {E L : Type 0} (hears : E → Run → E → Type 0) (lacks : E → Run 
     after_room e due stepped.NotYet new after h = absurd (none-some e (sym h.answer.0 ∙ due))
     after_room _ due (stepped.Lacks lack) new after h = record {
       def = h.def ∙ room.def;
-      answer = wants_old new h.answer;
+      answer = wants_old old mid room who new h.answer;
       heard = h.heard;
       lacking = record { run = h.lacking.run; due = sym (same_run old mid room who) ∙ h.lacking.due; lacks_it = h.lacking.lacks_it };
       memory = tt;
@@ -182,7 +149,7 @@ module _ {L : Type 0} (who : Actor) where
   rests_alone line none = record { def = refl; answer = (none, refl); unheard = refl; lacks_none = λ lack same. cc; memory = tt }
 
   pub full_alone : (line : LineSeen) (r : StepRefused) → IsDueOf line who → IsFullOf line r → IsStepAlone {L = L} line who (Err r) line
-  full_alone line (refusals.Full no len) due full = record {
+  full_alone line (refusals.Full number len) due full = record {
     def = refl;
     answer = (record { due = due; line_is = full.line_is; told = full.told; log = full.log }, refl);
     unheard = refl;

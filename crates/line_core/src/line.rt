@@ -128,10 +128,10 @@ impl<C: Chip> Line<C> {
         if len >= self.def.log as usize {
             return Err(self.full(len));
         }
-        match make_place(&mut self.history) {
-            Ok(()) => Ok(()),
-            Err(_refused) => Err(StepRefused::NoMemory),
+        if let Err(_refused) = make_place(&mut self.history) {
+            return Err(StepRefused::NoMemory);
         }
+        Ok(())
     }
 
     /// The history, of this length, is as long as it may be.

@@ -37,7 +37,9 @@ impl<C: Chip> Line<C> {
         let Some(step) = self.due_of_cpu(cpu) else {
             return Ok(Stepped::NotYet);
         };
-        self.make_room()?;
+        if let Err(refusal) = self.make_room() {
+            return Err(refusal);
+        }
         Ok(self.act_of_cpu(cpu, step, ears))
     }
 
@@ -139,15 +141,13 @@ fn act<C: Chip, E: Hears>(
     ensures wiring { state.new.wiring ≡ state.old.wiring }
 {
     match step {
-        CpuStep::Take { way } => Ok(state.take(def, cpu, way)),
-        CpuStep::Begin { dev } => Ok(state.begin(cpu, dev)),
         CpuStep::Return { dev } => {
             let run = state.handler_run(def.line, dev);
             match ears.hear(run) {
-                Ok(answer) => Ok(state.returned(def, cpu, run, answer)),
+                Ok(_answer) => Ok(state.returned(def, cpu, run)),
                 Err(lack) => Err(lack),
             }
         }
-        CpuStep::End => Ok(state.end(def, cpu)),
+        _ => Ok(state.make_of_cpu(def, cpu, step)),
     }
 }

@@ -37,6 +37,7 @@ pub(crate) fn make_place(history: &mut History) -> Result<(), NoMemory>
     ensures grows { history.old.spare ≤ history.new.spare }
     ensures needed { OnErr result (history.old.spare ≡ 0) }
     ensures refused { OnErr result (history.new ≡ history.old) }
+    ensures kept { 1 ≤ history.old.spare → history.new ≡ history.old }
 {
     if history.spare() == 0 {
         history.reserve(1)?;

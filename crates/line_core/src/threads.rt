@@ -1,15 +1,19 @@
 //! What a device's thread does, from its wake to the end of its run.
 ghost use Rattle.std.specs.Prelude.{◌≡◌, ◌<◌, ◌≤◌, IfErr, IfOk, List, Ok, OnErr, Some, length};
-ghost use Rattle.std.specs.Prelude.{option_map};
+ghost use Rattle.std.specs.Prelude.{option_map, true};
+ghost use Rattle.irq_base.specs.Handlers.{has_thread};
 ghost use Rattle.irq_base.specs.declared.entries.Actor.TheVariants as actors;
 ghost use Rattle.irq_base.specs.declared.numbers.DriverNo.{DriverNo};
+ghost use Rattle.irq_model.specs.Kinds.{is_handled};
 ghost use Rattle.irq_model.specs.Next.{next};
 ghost use Rattle.callbacks.specs.Heard.{Heard, one_run};
 ghost use Rattle.line_scripts.specs.Rows.{RowSeen};
+ghost use Rattle.line_marks.specs.Kinds.{kind_at};
 ghost use Rattle.line_marks.specs.Line.{IsLine};
 ghost use Rattle.line_marks.specs.State.{state_after, IsOf};
 ghost use Rattle.line_state.specs.Entries.{CanMakeOfThread, thread_entry};
 ghost use Rattle.line_state.specs.declared.due.DueStep.TheVariants as steps;
+ghost use Rattle.line_state.specs.declared.due.ThreadStep.TheVariants as threads;
 ghost use Rattle.line_core.specs.Entries.{entry_at};
 ghost use Rattle.line_core.specs.Room.{HasRoom};
 ghost use Rattle.line_core.specs.Running.{run_by};
@@ -17,7 +21,7 @@ ghost use Rattle.line_core.specs.Steps.{Acts, IsStep, LacksAnswer};
 
 use crate::line::Line;
 use callbacks::Hears;
-use irq_base::{Chip, DevNo, Entry, History, LineDef};
+use irq_base::{Answer, Chip, DevNo, Entry, History, LineDef};
 use irq_line::{StepRefused, Stepped};
 use line_state::{ThreadStep, LineState};
 
@@ -37,7 +41,9 @@ impl<C: Chip> Line<C> {
         let Some(step) = self.due_of_thread(dev) else {
             return Ok(Stepped::NotYet);
         };
-        self.make_room()?;
+        if let Err(refusal) = self.make_room() {
+            return Err(refusal);
+        }
         Ok(self.act_of_thread(dev, step, ears))
     }
 
@@ -126,6 +132,8 @@ fn act<C: Chip, E: Hears>(
 ) -> Result<Entry, E::Lack>
     requires is_of { IsOf def.now state.old.state }
     requires can { CanMakeOfThread step state.old.state }
+    requires threaded { step ≡ threads.Return
+        → has_thread (kind_at state.old.state.kinds dev) ≡ true }
     ensures entry { IfOk result (λ e. e ≡ thread_entry state.old.state dev step) }
     ensures state { IfOk result
         (λ e. state.new.state ≡ state_after def.now e state.old.state) }
@@ -137,7 +145,6 @@ fn act<C: Chip, E: Hears>(
     ensures wiring { state.new.wiring ≡ state.old.wiring }
 {
     match step {
-        ThreadStep::Begin => Ok(state.thread_begin(dev)),
         ThreadStep::Return => {
             let run = state.thread_run(def.line, dev);
             match ears.hear(run) {
@@ -145,7 +152,13 @@ fn act<C: Chip, E: Hears>(
                 Err(lack) => Err(lack),
             }
         }
-        ThreadStep::Finish => Ok(state.finish(dev)),
-        ThreadStep::Done => Ok(state.done(dev)),
+        _ => Ok(state.make_of_thread(def, dev, step)),
     }
+}
+
+/// Whether the handler served (`IRQ_HANDLED`).
+fn is_handled(answer: Answer) -> bool
+    ensures { result ≡ is_handled answer }
+{
+    matches!(answer, Answer::Handled)
 }
