@@ -4,13 +4,17 @@ use Rattle.std.proofs.Common.{refl, sym, ap, subst, ◌∙◌, arith}
 use Rattle.std.proofs.lemmas.Option.{none-some}
 use Rattle.irq_base.specs.Seen.{HistorySeen}
 use Rattle.irq_base.specs.declared.devices.Run.{Run}
+use Rattle.irq_base.specs.Who.{actor_of}
 use Rattle.irq_base.specs.declared.entries.Actor.{Actor}
+use Rattle.irq_base.specs.declared.entries.Actor.TheVariants as actors
 use Rattle.irq_base.specs.declared.entries.Entry.{Entry}
+use Rattle.irq_base.specs.declared.entries.Entry.TheVariants as by
 use Rattle.irq_base.specs.declared.lines.LineDef.{LineDef}
+use Rattle.irq_base.specs.declared.numbers.DriverNo.{DriverNo}
 use Rattle.irq_model.specs.Next.{next}
 use Rattle.callbacks.specs.Heard.{Heard, one_run}
 use Rattle.irq_line.proofs.Rooms.{same_run, same_ended, below_mid, added_old, wants_old}
-use Rattle.irq_line.specs.Answers.{IsDueOf}
+use Rattle.irq_line.specs.Answers.{Adds, IsDueOf}
 use Rattle.irq_line.specs.Hearing.{Lacks}
 use Rattle.irq_line.specs.Room.{MakesRoom}
 use Rattle.irq_line.specs.Runs.{run_ended}
@@ -168,12 +172,21 @@ module _ {L : Type 0} (who : Actor) where
     memory = wants;
   }
 
-  pub adds_alone : (line : LineSeen) (b : Beside line.def line.entries) (step : DueStep) → IsDueStep line who step → run_by line.def b.state step ≡ None
-      → (e : Entry) (new : LineSeen) → IsAdded line step e new → IsStepAlone {L = L} line who (Ok (stepped.Added e)) new
-  adds_alone line b step due none e new added = record {
-    def = added.def;
-    answer = adds_due line b who step due e new added;
-    unheard = ap one_run (ap (run_ended line.def (reverse line.entries)) added.made ∙ (ends line b who step due ∙ none));
-    lacks_none = λ lack is. cc;
-    memory = tt;
-  }
+-- an entry of a driver ends no run
+ends_none : (def : LineDef) (past : List Entry) (r : DriverNo) (e : Entry) → actor_of e ≡ actors.Driver r → run_ended def past e ≡ None
+ends_none def past r (by.Cpu c x) same = cc
+ends_none def past r (by.Thread d x) same = cc
+ends_none def past r (by.Driver s x) same = refl
+ends_none def past r (by.CpuCall c x) same = refl
+ends_none def past r (by.ThreadCall d x) same = refl
+ends_none def past r (by.DriverCall s x) same = refl
+
+pub adds_alone : {L : Type 0} (line new : LineSeen) (r : DriverNo) (e : Entry) → Adds line (actors.Driver r) e new
+    → IsStepAlone {L = L} line (actors.Driver r) (Ok (stepped.Added e)) new
+adds_alone line new r e a = record {
+  def = a.def;
+  answer = a;
+  unheard = ap one_run (ends_none line.def (reverse line.entries) r e a.actor);
+  lacks_none = λ lack is. cc;
+  memory = tt;
+}

@@ -2,13 +2,14 @@ use Rattle.std.proofs.Common.{◌≡◌, ◌+◌, ◌<◌, ◌≤◌, ◌∙◌,
 use Rattle.std.proofs.Common.{refl, sym, ap, subst, arith}
 use Rattle.irq_base.specs.declared.calls.Call.{Call}
 use Rattle.irq_base.specs.declared.entries.Actor.TheVariants as actors
-use Rattle.irq_line.specs.Answers.{AddsEntry, IsFull}
+use Rattle.irq_line.specs.Answers.{Adds}
 use Rattle.irq_line.specs.Seen.{LineSeen}
 use Rattle.irq_model.specs.Due.{due_call}
 use Rattle.irq_model.specs.Kinds.{is_linked_request}
 use Rattle.irq_model.specs.Next.{next}
 use Rattle.line_core.proofs.More.{Beside}
-use Rattle.line_core.proofs.Stepping.{line_of, IsDueStep, IsAdded, adds, call_told, wanted}
+use Rattle.line_core.proofs.Stepping.{line_of, IsDueStep, IsAdded, adds_due, call_told, wanted}
+use Rattle.line_core.proofs.Steps.{adds_alone, full_alone, no_memory_alone, rests_alone}
 use Rattle.line_core.specs.Room.{links_next}
 use Rattle.line_core.specs.Entries.{entry_at}
 use Rattle.line_core.specs.Seen.{WiredSeen}
@@ -34,8 +35,8 @@ add-requires-clause-due g c =
 pub add-requires-clause-call : goal.add-requires-clause-call
 add-requires-clause-call g c = ap (option_map (λ (x : Call × ℕ). x.0)) c.requires.call
 
-pub returns-in_default-clause-answer : goal.returns-in_default-clause-answer
-returns-in_default-clause-answer g c said =
+pub returns-in_default-clause-step : goal.returns-in_default-clause-step
+returns-in_default-clause-step g c =
     let line : LineSeen = line_of c.self.inside.def c.self.inside.history in
     let b : Beside line.def line.entries = record { state = c.self.inside.state.state; scripts = c.self.inside.scripts; is = c.self.invariant } in
     let told : option_map (λ (x : CallStep). entry_at line (steps.Call c.args.driver x)) c.due_of_call.result
@@ -43,12 +44,13 @@ returns-in_default-clause-answer g c said =
     = call_told line b c.args.driver c.args.call c.args.within c.due_of_call.result
     (subst (λ (w : WiredSeen). due_call w.line.def c.args.driver (reverse w.line.entries) ≡ Some (c.args.call, c.args.within))
     (sym c.self.view_is) c.requires.call) (c.due_of_call.ensures line.def) in
-    let none : next line.def line.entries (actors.Driver c.args.driver) ≡ None
+    let who = actors.Driver c.args.driver in
+    let none : next line.def line.entries who ≡ None
     = sym told ∙ ap (option_map (λ (x : CallStep). entry_at line (steps.Call c.args.driver x))) c.in_default.is in
-    (subst (λ (w : WiredSeen). next w.line.def w.line.entries (actors.Driver c.args.driver) ≡ None) c.self.view_is none, refl)
+    rests_alone who c.args.self.now.line (subst (λ (w : WiredSeen). next w.line.def w.line.entries who ≡ None) c.self.view_is none)
 
-pub returns-then-len-self-clause-answer : goal.returns-then-len-self-clause-answer
-returns-then-len-self-clause-answer g c said =
+pub returns-then-len-self-clause-step : goal.returns-then-len-self-clause-step
+returns-then-len-self-clause-step g c =
     let line : LineSeen = line_of c.self.inside.def c.self.inside.history in
     let b : Beside line.def line.entries = record { state = c.self.inside.state.state; scripts = c.self.inside.scripts; is = c.self.invariant } in
     let told : option_map (λ (x : CallStep). entry_at line (steps.Call c.args.driver x)) c.due_of_call.result
@@ -61,15 +63,10 @@ returns-then-len-self-clause-answer g c said =
     let due : IsDueStep line who step
     = sym told ∙ ap (option_map (λ (x : CallStep). entry_at line (steps.Call c.args.driver x))) c.in-Some.is in
     let due_seen : IsDueStep c.args.self.now.line who step = subst (λ (w : WiredSeen). IsDueStep w.line who step) c.self.view_is due in
-    let full : IsFull c.args.self.now.line who _ = record {
-      due = ap is_some due_seen;
-      told = search (rules, arith);
-      log = search (rules, arith);
-    } in
-    (full, refl)
+    full_alone who c.args.self.now.line c.full.result (ap is_some due_seen) c.full.ensures
 
-pub returns-in-Ok-clause-answer : goal.returns-in-Ok-clause-answer
-returns-in-Ok-clause-answer g c said =
+pub returns-in-Ok-clause-step : goal.returns-in-Ok-clause-step
+returns-in-Ok-clause-step g c =
     let line : LineSeen = line_of c.self.inside.def c.self.inside.history in
     let b : Beside line.def line.entries = record { state = c.self.inside.state.state; scripts = c.self.inside.scripts; is = c.self.invariant } in
     let told : option_map (λ (x : CallStep). entry_at line (steps.Call c.args.driver x)) c.due_of_call.result
@@ -91,13 +88,11 @@ returns-in-Ok-clause-answer g c said =
       entries = c.in-Ok.ensures.entries ∙ ap (λ (w : WiredSeen). w.line.entries ++ e ∷ []) (sym c.self.view_is);
       spare = subst (λ (w : WiredSeen). w.line.spare ≤ new.spare + 1) (sym c.self.view_is) c.in-Ok.ensures.spare;
     } in
-    subst (λ (w : WiredSeen). AddsEntry w.line who said e new) c.self.view_is (adds line b who step due said e new tt added)
+    adds_alone c.args.self.now.line new c.args.driver e
+    (subst (λ (w : WiredSeen). Adds w.line who e new) c.self.view_is (adds_due line b who step due e new added))
 
-pub returns-in-Err-clause-answer : goal.returns-in-Err-clause-answer
-returns-in-Err-clause-answer g c said = ap (λ (w : WiredSeen). w.line) c.in-Err.ensures.refused
-
-pub returns-in-Err-clause-memory : goal.returns-in-Err-clause-memory
-returns-in-Err-clause-memory g c room =
+pub returns-in-Err-clause-step : goal.returns-in-Err-clause-step
+returns-in-Err-clause-step g c =
     let line : LineSeen = line_of c.self.inside.def c.self.inside.history in
     let b : Beside line.def line.entries = record { state = c.self.inside.state.state; scripts = c.self.inside.scripts; is = c.self.invariant } in
     let told : option_map (λ (x : CallStep). entry_at line (steps.Call c.args.driver x)) c.due_of_call.result
@@ -110,5 +105,6 @@ returns-in-Err-clause-memory g c room =
     let due : IsDueStep line who step
     = sym told ∙ ap (option_map (λ (x : CallStep). entry_at line (steps.Call c.args.driver x))) c.in-Some.is in
     let due_seen : IsDueStep c.args.self.now.line who step = subst (λ (w : WiredSeen). IsDueStep w.line who step) c.self.view_is due in
-    ap links_next due_seen ∙ wanted (is_linked_request (entry_at c.args.self.now.line step)) c.add.result c.in-Err.is
-    (λ f. c.add.ensures.needless f room)
+    no_memory_alone who c.args.self.now.line c.add.new.self.line (ap (λ (w : WiredSeen). w.line) c.in-Err.ensures.refused)
+    (λ room. ap links_next due_seen ∙ wanted (is_linked_request (entry_at c.args.self.now.line step)) c.add.result c.in-Err.is
+    (λ f. c.add.ensures.needless f room))

@@ -6,17 +6,18 @@ use Rattle.irq_model.specs.Due.{due_call}
 use Rattle.irq_model.specs.Next.{next}
 use Rattle.line_core.proofs.More.{Beside, due_call_is}
 use Rattle.line_core.proofs.Stepping.{line_of, no_call_told}
+use Rattle.line_core.proofs.Steps.{adds_alone, rests_alone}
 use Rattle.line_core.specs.Seen.{WiredSeen}
 use Rattle.line_core.proofs.line.Line.step_of_driver.Goals.{in-Ask+else-has_room, in_default-call}
 use Rattle.line_core.proofs.line.Line.step_of_driver.Goals as goal
 
-pub returns-in_default-clause-answer : goal.returns-in_default-clause-answer
-returns-in_default-clause-answer g c said =
+pub returns-in_default-clause-step : goal.returns-in_default-clause-step
+returns-in_default-clause-step g c =
     let line : LineSeen = line_of c.self.inside.def c.self.inside.history in
     let b : Beside line.def line.entries = record { state = c.self.inside.state.state; scripts = c.self.inside.scripts; is = c.self.invariant } in
-    let none : next line.def line.entries (actors.Driver c.args.driver) ≡ None
-    = no_call_told line b c.args.driver (sym c.due.ensures ∙ c.in_default.is) in
-    (subst (λ (w : WiredSeen). next w.line.def w.line.entries (actors.Driver c.args.driver) ≡ None) c.self.view_is none, refl)
+    let who = actors.Driver c.args.driver in
+    let none : next line.def line.entries who ≡ None = no_call_told line b c.args.driver (sym c.due.ensures ∙ c.in_default.is) in
+    rests_alone who c.args.self.now.line (subst (λ (w : WiredSeen). next w.line.def w.line.entries who ≡ None) c.self.view_is none)
 
 pub ask-requires-clause-call : goal.ask-requires-clause-call
 ask-requires-clause-call g c =
@@ -27,8 +28,8 @@ ask-requires-clause-call g c =
     subst (λ (w : WiredSeen). option_map (λ (x : Call × ℕ). x.0) (due_call w.line.def c.args.driver (reverse w.line.entries)) ≡ Some c.in-Some.call)
     c.self.view_is (ap (option_map (λ (x : Call × ℕ). x.0)) told) ∙ ap Some c.in-Ask.is
 
-pub step_call-requires : goal.step_call-requires
-step_call-requires g c =
+pub step_of_call-requires : goal.step_of_call-requires
+step_of_call-requires g c =
     let line : LineSeen = line_of c.self.inside.def c.self.inside.history in
     let b : Beside line.def line.entries = record { state = c.self.inside.state.state; scripts = c.self.inside.scripts; is = c.self.invariant } in
     let told : due_call line.def c.args.driver (reverse line.entries) ≡ Some (c.in-Some.call, c.in-Some.within)
@@ -42,8 +43,5 @@ step_call-requires g c =
           c.self.view_is told ∙ ap (λ (x : Call). Some (x, c.in-Some.within)) (sym same);
     }
 
-pub returns-then-has_room-clause-answer : goal.returns-then-has_room-clause-answer
-returns-then-has_room-clause-answer g c said = c.ask.ensures.adds said
-
-pub returns-then-has_room-clause-def : goal.returns-then-has_room-clause-def
-returns-then-has_room-clause-def g c = (c.ask.ensures.adds None).def
+pub returns-then-has_room-clause-step : goal.returns-then-has_room-clause-step
+returns-then-has_room-clause-step g c = adds_alone c.args.self.now.line c.ask.new.self.line c.args.driver c.ask.result c.ask.ensures.adds
