@@ -141,13 +141,15 @@ fn act<C: Chip, E: Hears>(
     ensures wiring { state.new.wiring ≡ state.old.wiring }
 {
     match step {
+        CpuStep::Take { way } => Ok(state.take(def, cpu, way)),
+        CpuStep::Begin { dev } => Ok(state.begin(cpu, dev)),
         CpuStep::Return { dev } => {
             let run = state.handler_run(def.line, dev);
             match ears.hear(run) {
-                Ok(_answer) => Ok(state.returned(def, cpu, run)),
+                Ok(answer) => Ok(state.returned(def, cpu, run, answer)),
                 Err(lack) => Err(lack),
             }
         }
-        _ => Ok(state.make_of_cpu(def, cpu, step)),
+        CpuStep::End => Ok(state.end(def, cpu)),
     }
 }

@@ -145,14 +145,16 @@ fn act<C: Chip, E: Hears>(
     ensures wiring { state.new.wiring ≡ state.old.wiring }
 {
     match step {
+        ThreadStep::Begin => Ok(state.thread_begin(dev)),
         ThreadStep::Return => {
             let run = state.thread_run(def.line, dev);
             match ears.hear(run) {
-                Ok(_answer) => Ok(state.thread_returned(def, run)),
+                Ok(answer) => Ok(state.thread_returned(def, run, is_handled(answer))),
                 Err(lack) => Err(lack),
             }
         }
-        _ => Ok(state.make_of_thread(def, dev, step)),
+        ThreadStep::Finish => Ok(state.finish(dev)),
+        ThreadStep::Done => Ok(state.done(dev)),
     }
 }
 

@@ -37,7 +37,7 @@ pub(crate) fn add_due(
         → words.now ≡ node def.now past → length past < 100000000
         → found.new ≡ found.old ++ steps_of def.now past actor) }
 {
-    let Some(step) = due_by(def, &scratch.state, &scratch.scripts, actor) else {
+    let Some(step) = due_by(&scratch.state, &scratch.scripts, actor) else {
         return Ok(());
     };
     let entry = scratch.state.make(def, step);

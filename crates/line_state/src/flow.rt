@@ -21,7 +21,7 @@ use irq_base::{Chip, CpuEntry, CpuNo, Entry, FlowKind, LineDef, Note, TakeAnswer
 impl<C: Chip> LineState<C> {
     /// A take, by the line's flow. Whatever its answer, a waiting mask is put in force.
     #[inline(always)]
-    pub(crate) fn take(&mut self, def: &LineDef, cpu: CpuNo, way: Way) -> Entry
+    pub fn take(&mut self, def: &LineDef, cpu: CpuNo, way: Way) -> Entry
         requires valid { IsValid def.now }
         requires few { self.old.state.aim.cpus ≤ 32 }
         requires rounds { HasRounds self.old.state }
@@ -114,7 +114,7 @@ impl<C: Chip> LineState<C> {
     /// The end of a round: the note on spurious interrupts, the kill that it may make, and then
     /// what the flow handler does after its last handler.
     #[inline(always)]
-    pub(crate) fn end(&mut self, def: &LineDef, cpu: CpuNo) -> Entry
+    pub fn end(&mut self, def: &LineDef, cpu: CpuNo) -> Entry
         requires valid { IsValid def.now }
         requires rounds { HasRounds self.old.state }
         requires depth { HasDepth self.old.state }

@@ -6,8 +6,10 @@ ghost use Rattle.line_state.specs.Entries.{entry_by, cpu_entry, thread_entry, ca
 ghost use Rattle.line_state.specs.Entries.{links_by, links_by_call, CanMake, CanMakeOfCpu};
 ghost use Rattle.line_state.specs.Entries.{CanMakeOfThread, CanMakeOfCall};
 ghost use Rattle.line_state.specs.Seen.{IsAimOf};
+ghost use Rattle.line_state.specs.declared.due.CpuStep.TheVariants as cpus;
 
 use crate::due::{CallStep, CpuStep, DueStep, ThreadStep};
+use crate::runs::answer;
 use crate::state::LineState;
 use irq_base::{CallEntry, Chip, CpuNo, DevNo, DriverNo, Entry, LineDef, LinkAnswer};
 
@@ -60,9 +62,22 @@ impl<C: Chip> LineState<C> {
         match step {
             CpuStep::Take { way } => self.take(def, cpu, way),
             CpuStep::Begin { dev } => self.begin(cpu, dev),
-            CpuStep::Return { dev } => self.returned(def, cpu, self.handler_run(def.line, dev)),
+            CpuStep::Return { dev } => self.returned_by_kind(def, cpu, dev),
             CpuStep::End => self.end(def, cpu),
         }
+    }
+
+    /// The device's handler returns, and answers as its kind says: nobody is called.
+    #[inline(always)]
+    fn returned_by_kind(&mut self, def: &LineDef, cpu: CpuNo, dev: DevNo) -> Entry
+        requires is_of { IsOf def.now self.old.state }
+        ensures entry { result ≡ cpu_entry def.now self.old.state cpu (cpus.Return dev) }
+        ensures state { self.new.state ≡ state_after def.now result self.old.state }
+        ensures wiring { self.new.wiring ≡ self.old.wiring }
+    {
+        let run = self.handler_run(def.line, dev);
+        let answer = answer(run.def.kind, run.unserved);
+        self.returned(def, cpu, run, answer)
     }
 
     /// Makes the step of a device's thread.
@@ -76,7 +91,10 @@ impl<C: Chip> LineState<C> {
     {
         match step {
             ThreadStep::Begin => self.thread_begin(dev),
-            ThreadStep::Return => self.thread_returned(def, self.thread_run(def.line, dev)),
+            ThreadStep::Return => {
+                let run = self.thread_run(def.line, dev);
+                self.thread_returned(def, run, run.unserved > 0)
+            }
             ThreadStep::Finish => self.finish(dev),
             ThreadStep::Done => self.done(dev),
         }

@@ -1,5 +1,5 @@
 //! Asks, and the runs of handlers and threads.
-ghost use Rattle.std.specs.Prelude.{◌≡◌, ◌-◌, ◌<◌, ◌^◌, true};
+ghost use Rattle.std.specs.Prelude.{◌≡◌, ◌-◌, ◌<◌, ◌^◌, nat_lt, true};
 ghost use Rattle.irq_base.specs.Handlers.{answer_of};
 ghost use Rattle.irq_base.specs.declared.devices.Part.TheVariants as parts;
 ghost use Rattle.irq_base.specs.declared.entries.Entry.TheVariants as by;
@@ -46,7 +46,7 @@ impl<C: Chip> LineState<C> {
 
     /// The device's handler is called.
     #[inline(always)]
-    pub(crate) fn begin(&mut self, cpu: CpuNo, dev: DevNo) -> Entry
+    pub fn begin(&mut self, cpu: CpuNo, dev: DevNo) -> Entry
         ensures entry { result ≡ by.Cpu cpu (cpus.Begin dev) }
         ensures state { (def : LineDef)
             → self.new.state ≡ state_after def result self.old.state }
@@ -95,13 +95,15 @@ impl<C: Chip> LineState<C> {
         }
     }
 
-    /// The handler of this run returns: what it met is served if it serves, and its thread is woken
-    /// if it says so (`__handle_irq_event_percpu`, `kernel/irq/handle.c`). What the run says of its
-    /// device isn't looked up again.
+    /// The handler of this run returns with this answer, which is its device's: what it met is
+    /// served if it serves, and its thread is woken if the answer says so
+    /// (`__handle_irq_event_percpu`, `kernel/irq/handle.c`). What the run says of its device isn't
+    /// looked up again.
     #[inline(always)]
-    pub fn returned(&mut self, def: &LineDef, cpu: CpuNo, run: Run) -> Entry
+    pub fn returned(&mut self, def: &LineDef, cpu: CpuNo, run: Run, answer: Answer) -> Entry
         requires is_of { IsOf def.now self.old.state }
         requires run { run ≡ handler_run self.old.state run.def.line run.def.dev }
+        requires answer { answer ≡ answer_of run.def.kind parts.Primary run.unserved }
         ensures entry { result ≡ return_by self.old.state cpu run.def.dev
             (met_by (at self.old.state.asks run.def.dev)) }
         ensures state { self.new.state ≡ state_after def.now result self.old.state }
@@ -109,7 +111,6 @@ impl<C: Chip> LineState<C> {
     {
         let DeviceDef { dev, kind, .. } = run.def;
         self.asks.served(dev, is_direct(kind));
-        let answer = answer(kind, run.unserved);
         let served = served(kind, run.unserved);
         self.lower(def, served);
         if answer == Answer::Wake {
@@ -140,7 +141,7 @@ impl<C: Chip> LineState<C> {
 
     /// The device's thread begins a run (`irq_wait_for_interrupt`, `kernel/irq/manage.c`).
     #[inline(always)]
-    pub(crate) fn thread_begin(&mut self, dev: DevNo) -> Entry
+    pub fn thread_begin(&mut self, dev: DevNo) -> Entry
         ensures entry { result ≡ by.Thread dev threads.Begin }
         ensures state { (def : LineDef)
             → self.new.state ≡ state_after def result self.old.state }
@@ -152,13 +153,15 @@ impl<C: Chip> LineState<C> {
         Entry::Thread(dev, ThreadEntry::Begin)
     }
 
-    /// The handler of this run returns: what the run met is served (`irq_thread_fn`,
-    /// `kernel/irq/manage.c`). What the run says of its device isn't looked up again.
+    /// The handler of this run returns, and says whether it served: what the run met is served
+    /// (`irq_thread_fn`, `kernel/irq/manage.c`). What the run says of its device isn't looked up
+    /// again.
     #[inline(always)]
-    pub fn thread_returned(&mut self, def: &LineDef, run: Run) -> Entry
+    pub fn thread_returned(&mut self, def: &LineDef, run: Run, handled: bool) -> Entry
         requires is_of { IsOf def.now self.old.state }
         requires room { self.old.state.counts.counts.threads_handled < 2 ^ 32 - 1 }
         requires run { run ≡ thread_run self.old.state run.def.line run.def.dev }
+        requires handled { handled ≡ nat_lt 0 run.unserved }
         ensures entry { result
             ≡ thread_return run.def.dev (met_in (at self.old.state.asks run.def.dev)) }
         ensures state { self.new.state ≡ state_after def.now result self.old.state }
@@ -169,7 +172,6 @@ impl<C: Chip> LineState<C> {
         self.threads.returned(dev);
         self.asks.served(dev, is_threaded(kind));
         self.lower(def, served);
-        let handled = served > 0;
         if handled {
             self.counts.thread_handled();
         }
@@ -180,7 +182,7 @@ impl<C: Chip> LineState<C> {
     /// its bit up, and no thread holds the line then, its mask opens (`unmask_threaded_irq`,
     /// `kernel/irq/chip.c`).
     #[inline(always)]
-    pub(crate) fn finish(&mut self, dev: DevNo) -> Entry
+    pub fn finish(&mut self, dev: DevNo) -> Entry
         ensures entry { result ≡ finish_by self.old.state dev }
         ensures state { (def : LineDef)
             → self.new.state ≡ state_after def result self.old.state }
@@ -205,7 +207,7 @@ impl<C: Chip> LineState<C> {
 
     /// Its run is over (`wake_threads_waitq`, `kernel/irq/manage.c`).
     #[inline(always)]
-    pub(crate) fn done(&mut self, dev: DevNo) -> Entry
+    pub fn done(&mut self, dev: DevNo) -> Entry
         ensures entry { result ≡ by.Thread dev threads.Done }
         ensures state { (def : LineDef)
             → self.new.state ≡ state_after def result self.old.state }
@@ -232,7 +234,7 @@ fn is_threaded(kind: Kind) -> bool
 }
 
 /// What the device's handler answers if `unserved` of its asks are unserved.
-fn answer(kind: Kind, unserved: u32) -> Answer
+pub(crate) fn answer(kind: Kind, unserved: u32) -> Answer
     ensures { result ≡ answer_of kind parts.Primary unserved }
 {
     match kind {

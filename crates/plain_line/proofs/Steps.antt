@@ -1,7 +1,7 @@
 -- One more entry on a plain line.
 use Rattle.std.proofs.Common.{◌≡◌, ◌+◌, ◌<◌, ◌≤◌, List, [], ◌∷◌, ◌++◌, Option, Some, length, reverse, sym, ap, subst, ◌∙◌, arith}
-use Rattle.std.specs.Prelude.{IfSome}
 use Rattle.std.proofs.lemmas.List.{length-reverse, reverse-append, length-append}
+use Rattle.irq_base.specs.declared.devices.Run.{Run}
 use Rattle.irq_base.specs.declared.entries.Actor.{Actor}
 use Rattle.irq_base.specs.declared.entries.Entry.{Entry}
 use Rattle.irq_base.specs.declared.lines.LineDef.{LineDef}
@@ -9,9 +9,9 @@ use Rattle.irq_model.specs.Legal.{IsLegal, IsLegalPast, IsDue}
 use Rattle.irq_model.specs.Next.{next, next_past}
 use Rattle.irq_model.specs.Valid.{IsValid}
 use Rattle.irq_laws.proofs.OwnLaws.{due_is_own, due_is_own_past}
-use Rattle.callbacks.specs.Seen.{SaidSeen}
-use Rattle.irq_line.specs.Answers.{AddsEntry, IsSaidFor}
-use Rattle.irq_line.specs.Runs.{run_of_entry, run_ended}
+use Rattle.callbacks.specs.Heard.{Heard, one_run}
+use Rattle.irq_line.specs.Answers.{Adds}
+use Rattle.irq_line.specs.Runs.{run_of, run_of_entry, run_ended}
 use Rattle.irq_line.specs.Seen.{LineSeen}
 use Rattle.plain_line.specs.Line.{IsPlain}
 use Rattle.plain_line.specs.Looked.{IsLooked}
@@ -21,16 +21,14 @@ use Rattle.plain_line.specs.declared.looking.Looked.{Looked}
 pub due_there : (def : LineDef) (past : List Entry) (a : Actor) (e : Entry) → next_past def past a ≡ Some e → IsDue def e past
 due_there def past a e due = ap (next_past def past) (due_is_own_past def past a e due) ∙ due
 
-pub adds : (old new : LineSeen) (who : Actor) (said : Option SaidSeen) (entry : Entry)
+pub adds : (old new : LineSeen) (who : Actor) (entry : Entry)
     → next old.def old.entries who ≡ Some entry
-    → IfSome (run_ended old.def (reverse old.entries) entry) (IsSaidFor said)
     → length old.entries < old.def.log
     → new.def ≡ old.def → new.entries ≡ old.entries ++ entry ∷ [] → old.spare ≤ new.spare + 1
-    → AddsEntry old who said entry new
-adds old new who said entry due heard below def entries spare = record {
+    → Adds old who entry new
+adds old new who entry due below def entries spare = record {
   due = due;
   actor = due_is_own old.def old.entries who entry due;
-  heard = subst (λ (o : Option Entry). IfSome (run_of_entry old.def (reverse old.entries) o) (IsSaidFor said)) (sym due) heard;
   below = below;
   def = def;
   entries = entries;
@@ -70,6 +68,18 @@ pub due_on : (line : LineSeen) (past : List Entry) (o : Option Entry) (a : Actor
     → past ≡ reverse line.entries → o ≡ next_past line.def past a → o ≡ Some e → next line.def line.entries a ≡ Some e
 due_on line past o a e is looked there = sym (looked ∙ ap (λ (p : List Entry). next_past line.def p a) is) ∙ there
 
-pub heard_on : (line : LineSeen) (past : List Entry) (said : Option SaidSeen) (e : Entry)
-    → past ≡ reverse line.entries → IfSome (run_ended line.def past e) (IsSaidFor said) → IfSome (run_ended line.def (reverse line.entries) e) (IsSaidFor said)
-heard_on line past said e is heard = subst (λ (p : List Entry). IfSome (run_ended line.def p e) (IsSaidFor said)) is heard
+-- the run that ends on the line is the one that was looked up in its past
+pub ended_on : (line : LineSeen) (past : List Entry) (e : Entry) → past ≡ reverse line.entries
+    → run_ended line.def past e ≡ run_ended line.def (reverse line.entries) e
+ended_on line past e is = ap (λ (p : List Entry). run_ended line.def p e) is
+
+module _ {E : Type 0} (hears : E → Run → E → Type 0) where
+  pub heard_on : (line : LineSeen) (past : List Entry) (e : Entry) (ears after : E) → past ≡ reverse line.entries
+      → Heard hears (one_run (run_ended line.def past e)) ears after
+      → Heard hears (one_run (run_ended line.def (reverse line.entries) e)) ears after
+  heard_on line past e ears after is h = subst (λ (o : Option Run). Heard hears (one_run o) ears after) (ended_on line past e is) h
+
+-- the run of the entry that is due of the actor
+pub run_on : (line : LineSeen) (a : Actor) (e : Entry) (run : Run) → next line.def line.entries a ≡ Some e
+    → run_ended line.def (reverse line.entries) e ≡ Some run → run_of line.def line.entries a ≡ Some run
+run_on line a e run due ends = ap (run_of_entry line.def (reverse line.entries)) due ∙ ends

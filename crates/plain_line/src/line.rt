@@ -3,11 +3,13 @@ ghost use Rattle.std.specs.Prelude.{◌≡◌, ◌+◌, ◌<◌, ◌≤◌, [], 
 ghost use Rattle.std.specs.Prelude.{IsTrue, Some, reverse};
 ghost use Rattle.irq_model.specs.Legal.{IsDue};
 ghost use Rattle.irq_model.specs.Valid.{IsValid};
+ghost use Rattle.irq_line.specs.Room.{MakesRoom};
 ghost use Rattle.plain_line.specs.Line.{IsPlain};
+ghost use Rattle.plain_line.specs.Looked.{IsLooked};
 
 use crate::looking::{Looked, look};
-use crate::running::{hear, unanswered};
-use callbacks::{Callbacks, Handler, Said};
+use crate::running::hear;
+use callbacks::Hears;
 use irq_base::{Actor, Blocks, CpuNo, DevNo, Entry, History, LineDef, NoMemory};
 use irq_line::{IrqLine, StepRefused, Stepped};
 use plain_next::{newest_first, next_past};
@@ -57,15 +59,15 @@ impl PlainLine {
         })
     }
 
-    /// Adds the entry, which is due, and looks up what holds after it.
-    #[tactic(auto, using(crate::proofs::Steps::legal_more, crate::proofs::Steps::few_more, crate::proofs::Steps::plain_more))]
-    fn add(&mut self, past: &[Entry], entry: Entry) -> Result<(), NoMemory>
+    /// Makes room for the entry, which is due, and looks up what will hold after it. All memory
+    /// that a step wants is taken here.
+    #[tactic(auto, using(crate::proofs::Steps::legal_more, crate::proofs::Steps::few_more))]
+    fn look_after(&mut self, past: &[Entry], entry: Entry) -> Result<Looked, NoMemory>
         requires past { past.now ≡ reverse self.old.entries }
         requires due { IsDue self.old.def entry past.now }
         requires below { length self.old.entries < self.old.def.log }
-        ensures def { self.new.def ≡ self.old.def }
-        ensures entries { OnOk result (self.new.entries ≡ self.old.entries ++ entry ∷ []) }
-        ensures spare { OnOk result (self.old.spare ≤ self.new.spare + 1) }
+        ensures looked { IfOk result (IsLooked self.old.def (entry ∷ past.now)) }
+        ensures room { OnOk result (MakesRoom self.old self.new) }
         ensures refused { OnErr result (self.new ≡ self.old) }
     {
         let more = with_newest(self.alloc, past, entry)?;
@@ -73,9 +75,22 @@ impl PlainLine {
         if self.history.spare() == 0 {
             self.history.reserve(1)?;
         }
+        Ok(looked)
+    }
+
+    /// Adds the entry, which is due, where there is room; `looked` is what holds after it.
+    #[tactic(auto, using(crate::proofs::Steps::plain_more))]
+    fn add(&mut self, entry: Entry, looked: Looked)
+        requires due { IsDue self.old.def entry (reverse self.old.entries) }
+        requires below { length self.old.entries < self.old.def.log }
+        requires room { 1 ≤ self.old.spare }
+        requires looked { IsLooked self.old.def (entry ∷ reverse self.old.entries) looked }
+        ensures def { self.new.def ≡ self.old.def }
+        ensures entries { self.new.entries ≡ self.old.entries ++ entry ∷ [] }
+        ensures spare { self.old.spare ≤ self.new.spare + 1 }
+    {
         self.history.push(entry);
         self.looked = looked;
-        Ok(())
     }
 }
 
@@ -106,41 +121,28 @@ impl IrqLine for PlainLine {
     ghost may_want = { λ due. Unit {0} };
 
     #[tactic(auto, using(crate::proofs::Steps::due_there, crate::proofs::Steps::adds))]
-    fn step(&mut self, actor: Actor, said: Option<Said>) -> Result<Stepped, StepRefused> {
+    fn step<E: Hears>(
+        &mut self,
+        actor: Actor,
+        ears: &mut E,
+    ) -> Result<Stepped<E::Lack>, StepRefused> {
         let past = newest_first(self.alloc, &self.history)?;
         let Some(entry) = next_past(self.alloc, &self.def, &past, actor)? else {
             return Ok(Stepped::NotYet);
         };
         let len = self.history.len();
         if len >= self.def.log as usize {
-            return Err(StepRefused::Full { len: len as u32 });
-        }
-        if let Some(run) = unanswered(&self.def, &past, entry, &said) {
-            return Ok(Stepped::Run(run));
-        }
-        self.add(&past, entry)?;
-        Ok(Stepped::Added(entry))
-    }
-
-    #[tactic(auto, using(crate::proofs::Steps::due_there, crate::proofs::Steps::adds))]
-    fn step_heard<H: Handler>(
-        &mut self,
-        actor: Actor,
-        handlers: &Callbacks<H>,
-        said: &mut Option<Said>,
-    ) -> Result<Option<Entry>, StepRefused> {
-        let past = newest_first(self.alloc, &self.history)?;
-        let Some(entry) = next_past(self.alloc, &self.def, &past, actor)? else {
-            return Ok(None);
-        };
-        if self.history.len() >= self.def.log as usize {
             return Err(StepRefused::Full {
-                len: self.history.len() as u32,
+                line: self.def.line,
+                len: len as u32,
             });
         }
-        *said = hear(&self.def, &past, entry, handlers);
-        self.add(&past, entry)?;
-        Ok(Some(entry))
+        let looked = self.look_after(&past, entry)?;
+        if let Err(lack) = hear(&self.def, &past, entry, ears) {
+            return Ok(Stepped::Lacks(lack));
+        }
+        self.add(entry, looked);
+        Ok(Stepped::Added(entry))
     }
 
     fn reserve(&mut self) -> Result<(), NoMemory> {

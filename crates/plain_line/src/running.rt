@@ -1,54 +1,39 @@
 //! The run of a handler that an entry ends.
-ghost use Rattle.std.specs.Prelude.{◌≡◌, ◌≤◌, length, ◌↔◌, IsTrue, IfSome, Some, None};
+ghost use Rattle.std.specs.Prelude.{◌≡◌, ◌≤◌, length, IfErr, OnErr, OnOk, Some};
+ghost use Rattle.irq_base.specs.declared.devices.Run.{Run};
 ghost use Rattle.irq_base.specs.declared.numbers.CpuNo.{CpuNo};
-ghost use Rattle.irq_line.specs.Answers.{IsSaidFor};
+ghost use Rattle.callbacks.specs.Heard.{Heard, one_run};
 ghost use Rattle.irq_line.specs.Runs.{device_of, run_ended};
 
-use callbacks::{Callbacks, Handler, Said};
+use callbacks::Hears;
 use irq_base::{CpuEntry, DevNo, DeviceDef, Entry, LineDef, Part, Run, ThreadEntry};
 use plain_next::{asks_of_handler, asks_of_thread, kind_of};
 
-/// Whether the answer that was handed in is this run's answer.
-fn is_answered(run: Run, said: &Option<Said>) -> bool
-    ensures { IsTrue result ↔ IsSaidFor said.now run }
-{
-    match said {
-        Some(said) => said.is_for(run),
-        None => false,
-    }
-}
-
-/// The run that the entry ends, unless the run's answer was handed in.
-pub(crate) fn unanswered(
+/// Has the answer of the run that the entry ends, if it ends one.
+///
+/// # Errors
+///
+/// The answer isn't at hand. Nothing has changed then.
+pub(crate) fn hear<E: Hears>(
     def: &LineDef,
     past: &[Entry],
     entry: Entry,
-    said: &Option<Said>,
-) -> Option<Run>
+    ears: &mut E,
+) -> Result<(), E::Lack>
     requires { length past.now ≤ 100000000 }
-    ensures some { IfSome result (λ run. (run_ended def.now past.now entry ≡ Some run)
-        × (IsSaidFor said.now run → ⊥)) }
-    ensures none { result ≡ None → IfSome (run_ended def.now past.now entry) (IsSaidFor said.now) }
+    ensures heard { OnOk result (Heard E.hears (one_run (run_ended def.now past.now entry)) ears.old
+        ears.new) }
+    ensures lacking { IfErr result (λ lack. (run : Run)
+        × (run_ended def.now past.now entry ≡ Some run) × E.lacks ears.old run lack) }
+    ensures unheard { OnErr result (ears.new ≡ ears.old) }
 {
-    let run = run_ended(def, past, entry)?;
-    if is_answered(run, said) {
-        return None;
+    let Some(run) = run_ended(def, past, entry) else {
+        return Ok(());
+    };
+    match ears.hear(run) {
+        Ok(_answer) => Ok(()),
+        Err(lack) => Err(lack),
     }
-    Some(run)
-}
-
-/// What the handler says whose run the entry ends, if it ends one.
-pub(crate) fn hear<H: Handler>(
-    def: &LineDef,
-    past: &[Entry],
-    entry: Entry,
-    handlers: &Callbacks<H>,
-) -> Option<Said>
-    requires { length past.now ≤ 100000000 }
-    ensures { IfSome (run_ended def.now past.now entry) (IsSaidFor result) }
-{
-    let run = run_ended(def, past, entry)?;
-    Some(handlers.call(run))
 }
 
 /// The line's device with this number.

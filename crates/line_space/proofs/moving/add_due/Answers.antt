@@ -22,14 +22,14 @@ use Rattle.line_space.proofs.moving.add_due.Goals.{After-due_by, After-advance}
 due_at : (c : After-due_by) (past : List Entry) → IsLegalPast c.args.def.now past → c.args.words.now ≡ node c.args.def.now past
     → length past < 100000000
     → DueAt c.args.def.now past c.args.scratch.now.state.state c.args.scratch.now.scripts c.args.actor c.due_by.result
-due_at c past legal same few = record { read = read_at c.requires.valid c.requires.read legal same few; told = c.due_by.ensures }
+due_at c past legal same few = record { read = read_at c.requires.valid c.requires.read legal same few; told = c.due_by.ensures c.args.def.now }
 
 made : (c : After-advance) (past : List Entry) → IsLegalPast c.args.def.now past → c.args.words.now ≡ node c.args.def.now past
     → length past < 100000000
     → MadeAt c.args.def.now past c.args.scratch.now.state.state c.args.scratch.now.scripts c.args.actor c.make-entry.result c.advance.new.scripts
 made c past legal same few =
     let due : DueAt c.args.def.now past c.args.scratch.now.state.state c.args.scratch.now.scripts c.args.actor c.due_by.result
-    = record { read = read_at c.requires.valid c.requires.read legal same few; told = c.due_by.ensures } in
+    = record { read = read_at c.requires.valid c.requires.read legal same few; told = c.due_by.ensures c.args.def.now } in
     made_at due c.in-Some.is c.make-entry.ensures.entry c.advance.ensures
 
 pub returns-in_default-clause-found : goal.returns-in_default-clause-found
