@@ -1,17 +1,15 @@
 -- One step of a line.
-use Rattle.std.proofs.Common.{◌≡◌, ◌+◌, ◌<◌, ◌≤◌, Bool, false, Result, Ok, Err, [], ◌∷◌, ◌++◌, is_some, Option}
-use Rattle.std.proofs.Common.{Some, None, option_map, length, true, reverse, refl, sym, ap, subst, ◌∙◌}
+use Rattle.std.proofs.Common.{◌≡◌, ◌+◌, ◌<◌, ◌≤◌, Bool, false, Result, Err, [], ◌∷◌, ◌++◌, is_some, Option}
+use Rattle.std.proofs.Common.{Some, None, option_map, length, true, reverse, refl, sym, ap, ◌∙◌}
 use Rattle.std.proofs.lemmas.Bool.{false≢true}
-use Rattle.std.specs.Prelude.{ℕ, IfSome, IsOk, is_ok}
+use Rattle.std.specs.Prelude.{ℕ, IsOk, is_ok}
 use Rattle.irq_base.specs.Seen.{HistorySeen}
-use Rattle.irq_base.specs.declared.devices.Run.{Run}
 use Rattle.irq_base.specs.declared.calls.Call.{Call}
 use Rattle.irq_base.specs.declared.entries.Actor.{Actor}
 use Rattle.irq_base.specs.declared.entries.Actor.TheVariants as actors
 use Rattle.irq_base.specs.declared.entries.Entry.{Entry}
 use Rattle.irq_base.specs.declared.lines.LineDef.{LineDef}
 use Rattle.irq_base.specs.declared.numbers.CpuNo.{CpuNo}
-use Rattle.irq_base.specs.declared.numbers.DevNo.{DevNo}
 use Rattle.irq_base.specs.declared.numbers.DriverNo.{DriverNo}
 use Rattle.irq_laws.proofs.OwnLaws.{due_is_own}
 use Rattle.irq_laws.proofs.ServedLaws.{has_target}
@@ -30,10 +28,6 @@ use Rattle.line_core.proofs.More.{Beside, due_past, due_call_is}
 use Rattle.line_core.proofs.Runs.{run_is}
 use Rattle.line_state.specs.Entries.{entry_by, call_entry}
 use Rattle.line_state.specs.declared.due.CallStep.{CallStep}
-use Rattle.line_state.specs.declared.due.CpuStep.{CpuStep}
-use Rattle.line_state.specs.declared.due.CpuStep.TheVariants as cpus
-use Rattle.line_state.specs.declared.due.ThreadStep.{ThreadStep}
-use Rattle.line_state.specs.declared.due.ThreadStep.TheVariants as threads
 use Rattle.line_state.specs.declared.due.DueStep.TheVariants as steps
 use Rattle.line_state.specs.declared.due.DueStep.{DueStep}
 use Rattle.line_core.specs.Entries.{entry_at}

@@ -1,5 +1,5 @@
 -- A step of a line, case by case.
-use Rattle.std.proofs.Common.{◌≡◌, ◌<◌, ◌≤◌, true, is_some, Result, Ok, Err, Option, Some, None, List, [], ◌∷◌, ◌++◌, length, reverse}
+use Rattle.std.proofs.Common.{◌≡◌, ◌≤◌, true, is_some, Result, Ok, Err, Option, Some, None, List, reverse}
 use Rattle.std.proofs.Common.{refl, sym, ap, subst, ◌∙◌, arith}
 use Rattle.std.proofs.lemmas.Option.{none-some}
 use Rattle.irq_base.specs.Seen.{HistorySeen}

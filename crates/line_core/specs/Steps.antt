@@ -1,5 +1,5 @@
 -- A step of a line.
-use Rattle.std.specs.Prelude.{◌≡◌, ◌+◌, ◌≤◌, true, Option, Some, Result, Ok, List, [], ◌∷◌, ◌++◌}
+use Rattle.std.specs.Prelude.{◌≡◌, ◌+◌, ◌≤◌, true, Option, Some, Result, Ok, [], ◌∷◌, ◌++◌}
 use Rattle.irq_base.specs.Seen.{HistorySeen}
 use Rattle.irq_base.specs.declared.devices.Run.{Run}
 use Rattle.irq_base.specs.declared.entries.Actor.{Actor}

@@ -28,10 +28,7 @@ impl<C: Chip> Line<C> {
     /// A step of a driver, which ends no run. Most calls are asks: an ask is made here, with its
     /// due call at hand, if there is room for its entry.
     #[inline(never)]
-    pub(crate) fn step_of_driver<L>(
-        &mut self,
-        driver: DriverNo,
-    ) -> Result<Stepped<L>, StepRefused>
+    pub(crate) fn step_of_driver<L>(&mut self, driver: DriverNo) -> Result<Stepped<L>, StepRefused>
         ensures step { IsStepAlone self.old.line (actors.Driver driver) result self.new.line }
         ensures wiring { self.new.wiring ≡ self.old.wiring }
     {

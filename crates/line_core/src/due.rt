@@ -12,11 +12,7 @@ use line_state::{CallStep, DueStep, LineState};
 
 /// The step that is due by the state, and for a driver by its place in its script.
 #[inline(always)]
-pub fn due_by<C: Chip>(
-    state: &LineState<C>,
-    scripts: &Scripts,
-    actor: Actor,
-) -> Option<DueStep>
+pub fn due_by<C: Chip>(state: &LineState<C>, scripts: &Scripts, actor: Actor) -> Option<DueStep>
     ensures { (def : LineDef) → option_map (entry_by def state.now.state) result
         ≡ due_by def state.now.state scripts.now actor }
 {

@@ -54,12 +54,7 @@ impl<C: Chip> Line<C> {
 
     /// Does what is due of the processor, where there is room for its entry.
     #[inline(always)]
-    fn act_of_cpu<E: Hears>(
-        &mut self,
-        cpu: CpuNo,
-        step: CpuStep,
-        ears: &mut E,
-    ) -> Stepped<E::Lack>
+    fn act_of_cpu<E: Hears>(&mut self, cpu: CpuNo, step: CpuStep, ears: &mut E) -> Stepped<E::Lack>
         requires due { next self.old.line.def self.old.line.entries (actors.Cpu cpu)
             ≡ Some (entry_at self.old.line (steps.Cpu cpu step)) }
         requires room { HasRoom self.old.line }

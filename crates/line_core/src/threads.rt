@@ -23,7 +23,7 @@ use crate::line::Line;
 use callbacks::Hears;
 use irq_base::{Answer, Chip, DevNo, Entry, History, LineDef};
 use irq_line::{StepRefused, Stepped};
-use line_state::{ThreadStep, LineState};
+use line_state::{LineState, ThreadStep};
 
 impl<C: Chip> Line<C> {
     /// A step of a device's thread. It stands apart, as that of a driver, so that a step of a processor is short

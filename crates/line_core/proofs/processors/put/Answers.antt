@@ -1,7 +1,6 @@
-use Rattle.std.proofs.Common.{List, Some, refl, sym, ap, subst, ◌∙◌}
+use Rattle.std.proofs.Common.{Some, refl, sym, ap, subst, ◌∙◌}
 use Rattle.irq_base.specs.declared.entries.Actor.TheVariants as actors
 use Rattle.line_marks.specs.Line.{IsLine}
-use Rattle.line_marks.specs.State.{StateSeen}
 use Rattle.line_core.proofs.More.{line_is_of, line_can, line_after}
 use Rattle.line_state.specs.Seen.{LineStateSeen}
 use Rattle.line_state.specs.declared.due.DueStep.TheVariants as steps

@@ -1,4 +1,4 @@
-use Rattle.std.proofs.Common.{List, Some, refl, reverse, sym, ap, subst, ◌∙◌}
+use Rattle.std.proofs.Common.{Some, refl, reverse, sym, ap, subst, ◌∙◌}
 use Rattle.irq_base.specs.Handlers.{has_thread}
 use Rattle.irq_laws.proofs.ImpliesThread.{thread_return_due}
 use Rattle.irq_base.specs.declared.entries.Actor.TheVariants as actors

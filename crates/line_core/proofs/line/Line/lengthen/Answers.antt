@@ -1,4 +1,4 @@
-use Rattle.std.proofs.Common.{rules, ◌≡◌, ◌<◌, ◌∙◌, length, refl, sym, ap, subst, arith}
+use Rattle.std.proofs.Common.{rules, ◌<◌, ◌∙◌, length, refl, sym, ap, subst, arith}
 use Rattle.irq_line.specs.Room.{MakesRoom}
 use Rattle.irq_line.specs.Seen.{LineSeen}
 use Rattle.line_core.proofs.Stepping.{line_of}

@@ -1,4 +1,4 @@
-use Rattle.std.proofs.Common.{◌∙◌, Some, is_some, option_map, sym, ap}
+use Rattle.std.proofs.Common.{◌∙◌, is_some, option_map, sym, ap}
 use Rattle.irq_base.specs.declared.entries.Actor.TheVariants as actors
 use Rattle.irq_line.specs.Seen.{LineSeen}
 use Rattle.line_core.proofs.Steps.{rests, refused, due_mid, has_room, after_room}
