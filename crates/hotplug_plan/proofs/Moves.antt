@@ -20,7 +20,7 @@ use Rattle.irq_hotplug.specs.declared.rows.FleetRow.{FleetRow}
 use Rattle.irq_hotplug.specs.declared.rows.FleetRow.TheVariants as rows
 
 cpu_of : (berths : List Berth) (row : FleetRow) → IsSaidOf berths row → HasCpu row
-cpu_of berths (rows.Placed line v queue moved) is = is.1
+cpu_of berths (rows.Placed line v queues queue moved) is = is.1
 cpu_of berths (rows.Unplaced line) is = tt
 cpu_of berths (rows.Off cpu answer) is = tt
 cpu_of berths (rows.On cpu answer) is = tt
@@ -44,10 +44,10 @@ line_there b (x ∷ xs) line are has = by (x.line.0 == line.0) refl has
     by false same h rest = rest h
 
 move_ok : (b : BoardSeen) (berths : List Berth) (row : FleetRow) → AreLinesOf b berths → IsSaidOf berths row → All (IsOfALine b) (move_of row)
-move_ok b berths (rows.Placed line v queue true) are is =
+move_ok b berths (rows.Placed line v queues queue true) are is =
     all_of (IsOfALine b) (record { line = line; call = calls.Affinity (2 ^ v.cpu.0) }) []
     (record { line = line_there b berths line are is.0; no_device = refl }) (λ k d h. absurd (omega arith))
-move_ok b berths (rows.Placed line v queue false) are is = λ k d h. absurd (omega arith)
+move_ok b berths (rows.Placed line v queues queue false) are is = λ k d h. absurd (omega arith)
 move_ok b berths (rows.Unplaced line) are is = λ k d h. absurd (omega arith)
 move_ok b berths (rows.Off cpu answer) are is = λ k d h. absurd (omega arith)
 move_ok b berths (rows.On cpu answer) are is = λ k d h. absurd (omega arith)
