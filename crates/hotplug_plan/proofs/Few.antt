@@ -1,8 +1,7 @@
 -- How many moves there can be.
-use Rattle.std.proofs.Common.{◌≡◌, ℕ, zero, suc, ◌+◌, ◌*◌, ◌≤◌, Bool, true, false, Option, Some, None, List, [], ◌∷◌}
-use Rattle.std.proofs.Common.{◌++◌, length, cond, count_by, ap, ◌∙◌, sym, arith, length-append, replicate}
+use Rattle.std.proofs.Common.{◌≡◌, ℕ, ◌+◌, ◌*◌, ◌≤◌, Bool, true, false, Option, Some, None, List, [], ◌∷◌}
+use Rattle.std.proofs.Common.{◌++◌, length, cond, count_by, ap, ◌∙◌, arith, length-append, replicate}
 use Rattle.std.proofs.lemmas.List.Sums.{sum_by-cons}
-use Rattle.std.specs.List.{flat_map}
 use Rattle.std.proofs.lemmas.Grind.{flat_map-append}
 use Rattle.std.proofs.lemmas.List.{length-map}
 use Rattle.irq_base.specs.declared.lines.LineDef.{LineDef}
@@ -13,7 +12,7 @@ use Rattle.board_def.specs.Layout.{layout_of}
 use Rattle.board_def.specs.LineOf.{line_defs_of, line_of_row}
 use Rattle.board_def.specs.Seen.{BoardSeen}
 use Rattle.vector_matrix.specs.declared.view.Vector.{Vector}
-use Rattle.irq_hotplug.specs.Berths.{all_found, all_settled}
+use Rattle.irq_hotplug.specs.Berths.{all_found}
 use Rattle.irq_hotplug.specs.Fleet.{FleetSeen, after_events, after_off, after_on, after_off_by, after_on_by, berths_from}
 use Rattle.irq_hotplug.specs.Fleet.{berths_of, first_fleet, fleet_after, found_off, off_answer, on_answer, placed_fleet}
 use Rattle.irq_hotplug.specs.Fleet.{says}

@@ -1,7 +1,7 @@
 -- The moves that are said.
-use Rattle.std.proofs.Common.{◌≡◌, ℕ, zero, suc, ◌+◌, ◌*◌, ◌<◌, ◌≤◌, ◌==◌, Bool, true, false, ◌||◌, ◌^◌, List, [], ◌∷◌}
-use Rattle.std.proofs.Common.{◌++◌, length, All, refl, subst, arith, eqb-true}
-use Rattle.std.specs.List.{flat_map, list_any}
+use Rattle.std.proofs.Common.{◌≡◌, ℕ, ◌==◌, Bool, true, false, ◌||◌, ◌^◌, List, [], ◌∷◌}
+use Rattle.std.proofs.Common.{All, refl, subst, arith, eqb-true}
+use Rattle.std.specs.List.{list_any}
 use Rattle.std.proofs.lemmas.Bool.{false≢true}
 use Rattle.std.proofs.lemmas.List.Elements.{All-append, All-weaker}
 use Rattle.board_def.proofs.Rising.{head_of, tail_of, all_of}
@@ -9,10 +9,8 @@ use Rattle.board_def.specs.Rules.{has_line}
 use Rattle.board_def.specs.Seen.{BoardSeen}
 use Rattle.board_def.specs.declared.rows.LineRow.{LineRow}
 use Rattle.board_driver.specs.Longer.{IsOfALine}
-use Rattle.board_driver.specs.declared.adding.LineCall.{LineCall}
 use Rattle.irq_base.specs.declared.calls.Call.TheVariants as calls
 use Rattle.irq_base.specs.declared.numbers.LineNo.{LineNo}
-use Rattle.vector_matrix.specs.declared.view.Vector.{Vector}
 use Rattle.irq_hotplug.specs.Kept.{IsSaidOf, has_berth}
 use Rattle.hotplug_plan.specs.Planned.{AreLinesOf, HasCpu, move_of, moves_of}
 use Rattle.irq_hotplug.specs.declared.berths.Berth.{Berth}

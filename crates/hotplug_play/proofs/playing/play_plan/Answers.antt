@@ -1,4 +1,5 @@
-use Rattle.std.proofs.Common.{refl, sym, subst}
+use Rattle.std.proofs.Common.{List, refl, sym, subst}
+use Rattle.irq_base.specs.declared.devices.Run.{Run}
 use Rattle.irq_io.specs.Faults.{Counts}
 use Rattle.irq_play.specs.Ends.{is_write_fault}
 use Rattle.irq_play.specs.declared.ending.PlayedEnd.{PlayedEnd}
@@ -36,7 +37,7 @@ returns-in-Ok-clause-silent g c = c.report.ensures.silent
 pub returns-in-Err-clause-plays : goal.returns-in-Err-clause-plays
 returns-in-Err-clause-plays g c = λ b vectors es plan.
     let told = g.O.Sink.written c.args.out.now in
-    let heard = λ runs. Heard g.H.Handler.hears runs c.args.handlers.now c.play_system.new.handlers in
+    let heard : List Run → Type 0 = λ runs. Heard g.H.Handler.hears runs c.args.handlers.now c.play_system.new.handlers in
     subst (λ (e : PlayedEnd). PlaysPlan b vectors es heard c.unplayed.result.reports.reports told told e)
     (sym c.unplayed.ensures.end) (c.unplayed.ensures.reports, c.in-Err.ensures.unheard)
 
