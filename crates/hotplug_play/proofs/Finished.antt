@@ -1,6 +1,5 @@
 -- A planned board that was played, told of the board that it comes of.
-use Rattle.std.proofs.Common.{◌≡◌, ℕ, ◌++◌, inl, Option, List, [], reverse, ap, sym, ◌∙◌, subst, append_assoc}
-use Rattle.std.proofs.lemmas.List.{append-nil}
+use Rattle.std.proofs.Common.{◌≡◌, ℕ, ◌++◌, Option, List, reverse, ap, sym, ◌∙◌, subst, append_assoc}
 use Rattle.irq_base.specs.declared.devices.Run.{Run}
 use Rattle.irq_base.specs.declared.entries.Entry.{Entry}
 use Rattle.irq_base.specs.declared.numbers.LineNo.{LineNo}
@@ -22,7 +21,6 @@ use Rattle.irq_play.proofs.Finished.{cut_done, full_done, headline_done, no_room
 use Rattle.irq_play.specs.declared.ending.PlayedEnd.{PlayedEnd}
 use Rattle.irq_play.specs.declared.ending.PlayedEnd.TheVariants as ends
 use Rattle.irq_play.specs.declared.ending.WantedFor.TheVariants as wants
-use Rattle.notifiers.specs.Told.{Notice}
 use Rattle.irq_hotplug.specs.Fleet.{FleetSeen, fleet_after}
 use Rattle.irq_hotplug.specs.declared.events.Event.{Event}
 use Rattle.hotplug_plan.specs.Planned.{planned}
@@ -32,13 +30,8 @@ use Rattle.hotplug_laws.proofs.Moments.{keep_places}
 use Rattle.play_report.specs.Answers.{Answers}
 use Rattle.play_report.proofs.Handed.{Reported, answers_as, of_some}
 use Rattle.hotplug_play.specs.Played.{HandsOutPlan, HandsOutStep, HotplugCut, HotplugFull, HotplugHandsOut, HotplugHeadline, IsPlanOf, PlaysPlan}
-use Rattle.hotplug_play.specs.Played.{TellsPlacings, TellsUpTo, placings_after, planned_after}
+use Rattle.hotplug_play.specs.Played.{planned_after}
 use Rattle.hotplug_play.specs.Texts.{fleet_text, hotplug_text}
-
--- the placings at all events are those up to the last one
-pub all_up_to : (told : List Notice → Type 0) (b : BoardSeen) (vectors : ℕ) (es : List Event) → told (placings_after b vectors es)
-    → TellsUpTo told b vectors es
-all_up_to told b vectors es all = record { taken = es; left = []; parts = sym (append-nil es); placings = all }
 
 module _ (b : BoardSeen) (vectors : ℕ) (es : List Event) (f : FleetSeen) (longer : BoardSeen) (plan : IsPlanOf b vectors es f longer)
     (moves : List Move) (reports : List LineReport) where
@@ -108,12 +101,3 @@ pub handed_step : (may_want : Option Entry → Type 0) (longer : BoardSeen) (s :
 handed_step may_want longer s of_board reports keep plays.Done wants = tt
 handed_step may_want longer s of_board reports keep (plays.Full line len) wants = tt
 handed_step may_want longer s of_board reports keep plays.NoMemory wants = step_done may_want longer s of_board reports keep wants
-
--- all placings were told, however the play ended
-pub all_told : (told : List Notice → Type 0) (b : BoardSeen) (vectors : ℕ) (es : List Event) (end : PlayedEnd) → told (placings_after b vectors es)
-    → TellsPlacings told b vectors es end
-all_told told b vectors es ends.Done all = all
-all_told told b vectors es ends.WriteFault all = all
-all_told told b vectors es (ends.LogFull line len) all = all
-all_told told b vectors es (ends.NoMemory wants.Step) all = all
-all_told told b vectors es (ends.NoMemory wants.Making) all = inl (all_up_to told b vectors es all)
