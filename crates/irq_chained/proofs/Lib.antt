@@ -11,3 +11,5 @@ pub mod Playing
 pub mod NoTakes
 pub mod Turning
 pub mod SeenTurns
+pub mod Hearing
+pub mod Wanting
