@@ -13,3 +13,4 @@ pub mod Turning
 pub mod SeenTurns
 pub mod Hearing
 pub mod Wanting
+pub mod OneFlow
