@@ -1,5 +1,5 @@
 -- A step of one line, seen from all.
-use Rattle.std.proofs.Common.{arith, ◌≡◌, ℕ, ◌<◌, Option, Some, None, Result, Ok, Err, List, map, length, get_or, set, slice_get, refl, sym, ap, ◌∙◌}
+use Rattle.std.proofs.Common.{arith, ◌≡◌, ℕ, ◌<◌, Option, Some, Result, Ok, Err, List, map, length, get_or, set, slice_get, refl, sym, ap, ◌∙◌}
 use Rattle.std.specs.Option.{option_map}
 use Rattle.std.proofs.Math.ListN.{length-map}
 use Rattle.std.proofs.lemmas.List.{map-set, set-get_or}
@@ -14,7 +14,7 @@ use Rattle.irq_line.specs.declared.answers.StepRefused.TheVariants as refusals
 use Rattle.board_core.specs.Pieces.{EndsPiece}
 use Rattle.board_core.specs.Places.{SteppedAt, StepWants, WantsAt, told}
 use Rattle.board_core.specs.Runs.{run_on, runs_at}
-use Rattle.board_core.specs.Seen.{board_line, board_lines}
+use Rattle.board_core.specs.Seen.{board_line}
 use Rattle.irq_line.specs.Answers.{Answers}
 use Rattle.irq_line.specs.Hearing.{Lacks, runs_by}
 use Rattle.irq_line.specs.Memory.{WantsMemory}
@@ -31,7 +31,7 @@ module _ {X : Type 0} (f : X → LineSeen) (xs : List X) (k : ℕ) (x y : X) (wi
   seen_same h = map-set f xs k y ∙ ap (set (map f xs) k) h ∙ sym (map-set f xs k x) ∙ ap (λ z. map f (set xs k z)) at ∙ ap (map f) (set-get_or xs k x)
 
   pub stepped_at : {E L : Type 0} (ears : E) (order longer : List ℕ) (a : Actor) (r : Result (Stepped L) StepRefused)
-      → Answers (f x) a r (f y) → Lacks {E} {L} (λ k run lack. ⊥) (f x) a ears r → IsSound (f y)
+      → Answers (f x) a r (f y) → Lacks {E = E} {L = L} (λ k run lack. ⊥) (f x) a ears r → IsSound (f y)
       → longer ≡ told r order k → SteppedAt (map f xs) order k a r (map f (set xs k y)) longer
   stepped_at ears order longer a (Ok (stepped.Added e)) answers lacking sound tells =
       record { before = f x; after = f y; at = seen_at; adds = answers; sound = sound; rest = map-set f xs k y; told = tells }

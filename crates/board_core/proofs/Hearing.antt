@@ -1,5 +1,5 @@
 -- The handlers were called for the runs that the moves of a system ended.
-use Rattle.std.proofs.Common.{◌≡◌, ℕ, Option, List, [], ◌∷◌, ◌++◌, length, drop, reverse, refl, sym, ap, ◌∙◌, subst}
+use Rattle.std.proofs.Common.{◌≡◌, Option, List, [], ◌∷◌, ◌++◌, length, drop, reverse, refl, sym, ap, ◌∙◌, subst}
 use Rattle.std.proofs.Math.Seq.{drop-append_seam}
 use Rattle.std.proofs.lemmas.List.{append-nil, append_assoc, reverse-append, reverse-reverse}
 use Rattle.irq_base.specs.declared.devices.Run.{Run}
@@ -13,7 +13,7 @@ use Rattle.board_core.specs.Playing.{IsFresh, Settles, lines_after_all}
 use Rattle.board_core.specs.Runs.{runs_by_move, runs_by_turn, runs_from, runs_in, runs_of, runs_since}
 use Rattle.board_core.specs.Seen.{SystemSeen, board_lines}
 use Rattle.board_core.specs.Turned.{StepsBy}
-use Rattle.board_core.specs.Turns.{Moves, Turns, TurnsBy, move_of}
+use Rattle.board_core.specs.Turns.{Turns, TurnsBy, move_of}
 use Rattle.board_core.specs.declared.turns.Turn.{Turn}
 use Rattle.board_core.specs.declared.turns.Turn.TheVariants as turns
 
@@ -52,18 +52,18 @@ module _ (old new : SystemSeen) where
   since_same same = since_moves [] (ap (λ (s : SystemSeen). s.log) same ∙ sym (append-nil old.log))
 
 -- one turn more: its own run, if it ended one, and those before
-pub since_turned : {first old new : SystemSeen} (due : Option Move) (turn : Turn) → StepsBy old due turn new → Settles first old
+pub since_turned : (first old new : SystemSeen) (due : Option Move) (turn : Turn) → StepsBy old due turn new → Settles first old
     → runs_since first new ≡ runs_by_turn old turn ++ runs_since first old
-since_turned {first} {old} {new} due (turns.Moved line e) t s =
+since_turned first old new due (turns.Moved line e) t s =
     let m : Move = (line, e) in
     let log : new.log ≡ first.log ++ reverse (m ∷ s.moves) = t.log ∙ (ap (λ (g : List Move). g ++ m ∷ []) s.log
     ∙ (append_assoc first.log (reverse s.moves) (m ∷ []) ∙ ap (λ (g : List Move). first.log ++ g) (sym (reverse-append (m ∷ []) s.moves)))) in
     since_moves first new (m ∷ s.moves) log
     ∙ (ap (λ (ls : List BoardLine). runs_by_move ls m ++ runs_from (board_lines first.lines) s.moves) (sym s.lines)
     ∙ ap (λ (runs : List Run). runs_by_move (board_lines old.lines) m ++ runs) (sym (since_settled first old s)))
-since_turned {first} due turns.NotYet t s = ap (λ (x : SystemSeen). runs_since first x) t.1
-since_turned {first} due (turns.Full line len) t s = ap (λ (x : SystemSeen). runs_since first x) t.1
-since_turned {first} due turns.NoMemory t s = ap (λ (x : SystemSeen). runs_since first x) t
+since_turned first old new due turns.NotYet t s = ap (λ (x : SystemSeen). runs_since first x) t.1
+since_turned first old new due (turns.Full line len) t s = ap (λ (x : SystemSeen). runs_since first x) t.1
+since_turned first old new due turns.NoMemory t s = ap (λ (x : SystemSeen). runs_since first x) t
 
 -- ---- the runs of a play of a system, after a turn and after a settling
 
@@ -114,17 +114,17 @@ module _ {H : Type 0} (hears : H → Run → H → Type 0) where
   heard_fresh s f h = heard_none h (runs_in s) (ap (λ (g : List Move). runs_of s.board (reverse g)) f.log)
 
   -- the calls for the runs of a play, and those for what a turn or a settling ended after it
-  pub heard_turned : {old new : SystemSeen} (due : Option Move) (turn : Turn) → StepsBy old due turn new
+  pub heard_turned : (old new : SystemSeen) (due : Option Move) (turn : Turn) → StepsBy old due turn new
       → board_lines old.lines ≡ lines_of old.board (reverse old.log) → (h k m : H) → Heard hears (runs_in old) h k
       → Heard hears (runs_by_turn old turn) k m → Heard hears (runs_in new) h m
-  heard_turned {old} {new} due turn t lines h k m before now =
+  heard_turned old new due turn t lines h k m before now =
       subst (λ (runs : List Run). Heard hears runs h m) (sym (runs_turned old new lines due turn t))
       (heard_more hears (runs_by_turn old turn) (runs_in old) h k m before now)
 
-  pub heard_settled : {old new : SystemSeen} → new.board ≡ old.board → Settles old new
+  pub heard_settled : (old new : SystemSeen) → new.board ≡ old.board → Settles old new
       → board_lines old.lines ≡ lines_of old.board (reverse old.log) → (h k m : H) → Heard hears (runs_in old) h k
       → Heard hears (runs_since old new) k m → Heard hears (runs_in new) h m
-  heard_settled {old} {new} board s lines h k m before now =
+  heard_settled old new board s lines h k m before now =
       subst (λ (runs : List Run). Heard hears runs h m) (sym (runs_settled old new lines board s))
       (heard_more hears (runs_since old new) (runs_in old) h k m before now)
 
@@ -132,8 +132,8 @@ module _ {H : Type 0} (hears : H → Run → H → Type 0) where
   pub since_begun : (s : SystemSeen) (h : H) → Heard hears (runs_since s s) h h
   since_begun s h = heard_none h (runs_since s s) (since_same s s refl)
 
-  pub since_more : {first old new : SystemSeen} (due : Option Move) (turn : Turn) → StepsBy old due turn new → Settles first old → (h k m : H)
+  pub since_more : (first old new : SystemSeen) (due : Option Move) (turn : Turn) → StepsBy old due turn new → Settles first old → (h k m : H)
       → Heard hears (runs_since first old) h k → Heard hears (runs_by_turn old turn) k m → Heard hears (runs_since first new) h m
-  since_more {first} {old} {new} due turn t s h k m before now =
-      subst (λ (runs : List Run). Heard hears runs h m) (sym (since_turned due turn t s))
+  since_more first old new due turn t s h k m before now =
+      subst (λ (runs : List Run). Heard hears runs h m) (sym (since_turned first old new due turn t s))
       (heard_more hears (runs_by_turn old turn) (runs_since first old) h k m before now)

@@ -1,5 +1,5 @@
 -- A system as a call finds it: what stands behind that which contracts see, and what is kept of it.
-use Rattle.std.proofs.Common.{◌≡◌, ℕ, IsSomeAnd, Option, Result, List, slice_get}
+use Rattle.std.proofs.Common.{◌≡◌, ℕ, IsSomeAnd, Result, List, slice_get}
 use Rattle.irq_base.specs.declared.entries.Actor.{Actor}
 use Rattle.irq_base.specs.declared.numbers.LineNo.{LineNo}
 use Rattle.irq_line.specs.declared.answers.StepRefused.{StepRefused}
@@ -42,6 +42,10 @@ kept_system {board} {layout} {lines} {scripts} {order} {parts} {view} is_board k
       kept = kept;
       view_is = view_is;
     }
+
+-- what stands for an answer that the step lacks
+abbrev pub lack_of : {L : Type 0} → Result (Stepped L) StepRefused → Type 0
+lack_of {L} answer = L
 
 -- What an actor's step on the line of a stand left of a system, and what it answered.
 pub record Step (L : Type 0) {view : SystemSeen} (system : KeptSystem view) (actor : Actor) (stand : Stand) : Type 0 where

@@ -27,6 +27,7 @@ pub mod Room
 pub mod LowestTurns
 pub mod Wanting
 pub mod Hearing
+pub mod Given
 pub mod OwnScripts
 pub mod CutCounts
 pub mod Placed

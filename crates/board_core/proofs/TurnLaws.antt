@@ -36,7 +36,7 @@ use Rattle.board_core.specs.Places.{StepsAt, SteppedAt}
 use Rattle.line_scripts.specs.Endings.{completes}
 use Rattle.board_core.specs.Scripts.{ScriptSeen, advanced_by, advanced_at, advanced, IsScript}
 use Rattle.board_core.specs.Seen.{SystemSeen, board_line, board_lines}
-use Rattle.irq_line.specs.Heard.{Adds}
+use Rattle.irq_line.specs.Answers.{Adds}
 use Rattle.board_core.specs.Turned.{IsScriptOf, StepsBy, script_after, scripts_after, turn_of}
 use Rattle.board_core.specs.Turns.{Moves, IsFullFor}
 use Rattle.board_core.specs.declared.scripts.PlacedCall.{PlacedCall}

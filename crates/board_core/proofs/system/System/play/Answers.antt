@@ -20,7 +20,7 @@ loop-pick-preserved g c =
       board = pick_keeps_board t ∙ c.loop-pick.invariant.board;
       layout = pick_keeps_layout t ∙ c.loop-pick.invariant.layout;
       underway = pick_done t c.in_default.not-Full c.in_default.not-NoMemory;
-      heard = heard_turned g.H.Handler.hears _ c.turn.result (step_of_turn _ _ _ c.turn.result c.turn.ensures.turns)
+      heard = heard_turned g.H.Handler.hears _ _ _ c.turn.result (step_of_turn _ _ _ c.turn.result c.turn.ensures.turns)
           c.loop-pick.invariant.underway.lines _ _ _ c.loop-pick.invariant.heard c.turn.ensures.heard;
     }
 
@@ -49,13 +49,13 @@ returns-clause-memory g c =
     c.loop-pick.invariant.underway)
 
 pub returns-in-Full-clause-heard : goal.returns-in-Full-clause-heard
-returns-in-Full-clause-heard g c = heard_turned g.H.Handler.hears _ c.turn.result (step_of_turn _ _ _ c.turn.result c.turn.ensures.turns)
+returns-in-Full-clause-heard g c = heard_turned g.H.Handler.hears _ _ _ c.turn.result (step_of_turn _ _ _ c.turn.result c.turn.ensures.turns)
     c.loop-pick.invariant.underway.lines _ _ _ c.loop-pick.invariant.heard c.turn.ensures.heard
 
 pub returns-in-NoMemory-clause-heard : goal.returns-in-NoMemory-clause-heard
-returns-in-NoMemory-clause-heard g c = heard_turned g.H.Handler.hears _ c.turn.result (step_of_turn _ _ _ c.turn.result c.turn.ensures.turns)
+returns-in-NoMemory-clause-heard g c = heard_turned g.H.Handler.hears _ _ _ c.turn.result (step_of_turn _ _ _ c.turn.result c.turn.ensures.turns)
     c.loop-pick.invariant.underway.lines _ _ _ c.loop-pick.invariant.heard c.turn.ensures.heard
 
 pub returns-clause-heard : goal.returns-clause-heard
-returns-clause-heard g c = heard_settled g.H.Handler.hears c.settle.ensures.board c.settle.ensures.moves
+returns-clause-heard g c = heard_settled g.H.Handler.hears _ _ c.settle.ensures.board c.settle.ensures.moves
     c.loop-pick.invariant.underway.lines _ _ _ c.loop-pick.invariant.heard c.settle.ensures.heard

@@ -20,7 +20,7 @@ loop-line-preserved g c =
       layout = lowest_keeps_layout t ∙ c.loop-line.invariant.layout;
       underway = λ picks u. lowest_moved t (c.loop-line.invariant.underway picks u) c.in-Moved.is;
       moves = settles_moved t c.loop-line.invariant.board c.in-Moved.is c.loop-line.invariant.moves;
-      heard = since_more g.H.Handler.hears _ c.turn_lowest.result (step_of_turn_by _ _ _ c.turn_lowest.result c.turn_lowest.ensures.turns)
+      heard = since_more g.H.Handler.hears _ _ _ _ c.turn_lowest.result (step_of_turn_by _ _ _ c.turn_lowest.result c.turn_lowest.ensures.turns)
           c.loop-line.invariant.moves _ _ _ c.loop-line.invariant.heard c.turn_lowest.ensures.heard;
     }
 
@@ -69,16 +69,16 @@ returns-in-NoMemory-clause-wanted g c = λ picks u.
     (c.loop-line.invariant.underway picks u) c.in-NoMemory.is c.turn_lowest.ensures.memory
 
 pub returns-in-NotYet-clause-heard : goal.returns-in-NotYet-clause-heard
-returns-in-NotYet-clause-heard g c = since_more g.H.Handler.hears _ c.turn_lowest.result
+returns-in-NotYet-clause-heard g c = since_more g.H.Handler.hears _ _ _ _ c.turn_lowest.result
     (step_of_turn_by _ _ _ c.turn_lowest.result c.turn_lowest.ensures.turns) c.loop-line.invariant.moves _ _ _ c.loop-line.invariant.heard
     c.turn_lowest.ensures.heard
 
 pub returns-in-Full-clause-heard : goal.returns-in-Full-clause-heard
-returns-in-Full-clause-heard g c = since_more g.H.Handler.hears _ c.turn_lowest.result
+returns-in-Full-clause-heard g c = since_more g.H.Handler.hears _ _ _ _ c.turn_lowest.result
     (step_of_turn_by _ _ _ c.turn_lowest.result c.turn_lowest.ensures.turns) c.loop-line.invariant.moves _ _ _ c.loop-line.invariant.heard
     c.turn_lowest.ensures.heard
 
 pub returns-in-NoMemory-clause-heard : goal.returns-in-NoMemory-clause-heard
-returns-in-NoMemory-clause-heard g c = since_more g.H.Handler.hears _ c.turn_lowest.result
+returns-in-NoMemory-clause-heard g c = since_more g.H.Handler.hears _ _ _ _ c.turn_lowest.result
     (step_of_turn_by _ _ _ c.turn_lowest.result c.turn_lowest.ensures.turns) c.loop-line.invariant.moves _ _ _ c.loop-line.invariant.heard
     c.turn_lowest.ensures.heard

@@ -1,10 +1,9 @@
 use Rattle.std.proofs.Common.{◌<◌, IfSome, List, map, length, sym, ap, subst, arith}
 use Rattle.std.proofs.Math.ListN.{length-map}
-use Rattle.std.convert.Infallible.{Infallible}
 use Rattle.irq_base.specs.declared.devices.Run.{Run}
 use Rattle.callbacks.specs.Heard.{Heard}
 use Rattle.board_core.specs.Refreshed.{IsRefreshed}
-use Rattle.board_core.proofs.Kept.{Step, kept_system}
+use Rattle.board_core.proofs.Kept.{Step, kept_system, lack_of}
 use Rattle.board_core.proofs.InSystem.{within, few, script_within, line_within, part_within, scripts_within}
 use Rattle.board_core.proofs.InSystem.{driver_within, kept_after, runs_so, steps_so, wants_so, number_read}
 use Rattle.board_core.proofs.system.System.step_stand.Goals as goal
@@ -25,7 +24,7 @@ advance-requires g c = script_within (kept_system c.is_board.ensures.board c.sel
 
 -- the step as it was made
 abbrev step : (g : _) (c : After-deref-2 g)
-    → Step Infallible (kept_system c.is_board.ensures.board c.self.invariant c.self.view_is) c.args.actor c.args.stand
+    → Step (lack_of c.step_place-stepped.result) (kept_system c.is_board.ensures.board c.self.invariant c.self.view_is) c.args.actor c.args.stand
 step g c =
     let system = kept_system c.is_board.ensures.board c.self.invariant c.self.view_is in
     let f = g.L.IrqLine.seen in
