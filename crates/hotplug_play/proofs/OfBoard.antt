@@ -38,4 +38,5 @@ module _ (b : BoardSeen) (isb : IsBoard b) (vectors : ℕ) (es : List Event) (f 
       (few_moves b vectors es) (omega (arith, few_berths b, isb.few_lines)) (omega (arith, count_by-le-length is_off es, few)))
     where
       most : (calls moves lines offs : ℕ) → calls ≤ 12224 → moves ≤ lines * (1 + offs) → lines ≤ 64 → offs ≤ 64 → calls + moves ≤ 16384
-      most calls moves lines offs few_calls few_moves few_lines few = omega (arith, few_calls, few_moves, mul-le lines (1 + offs) 64 65 few_lines (omega (arith, few)))
+      most calls moves lines offs few_calls few_moves few_lines few =
+          omega (arith, few_calls, few_moves, mul-le lines (1 + offs) 64 65 few_lines (omega (arith, few)))

@@ -37,8 +37,8 @@ pub record HotplugHeadline (b : BoardSeen) (vectors : ℕ) (es : List Event) (mo
   pub headline : Headline (planned_after b vectors es) moves reports
   -- at each moment the lines have places of their own, on online processors
   pub places : KeepPlaces b vectors es
-  -- each placed line is aimed at last where it is placed, and each take after its last move is there;
-  -- in a play its moves come last, so none comes after them
+  -- each placed line is aimed at last where it is placed, and each take after its last move is
+  -- there; in a play its moves come last, so none comes after them
   pub aims : AimEach b (fleet_after b vectors es) (λ line. part line moves)
 
 -- the planned board was played until a line's history had the greatest length

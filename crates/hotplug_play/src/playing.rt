@@ -31,10 +31,10 @@ pub struct NotForHotplug;
 
 /// Gives each processor 1 to 64 vectors, places each line of the board, takes the events in order,
 /// and plays the board with the moves that follow by the stated order. The notifier is told of each
-/// placing, and handlers are called as they are due. Prints the layout, each placing and each event,
-/// and the play. Memory is taken before the first step, and by steps; none is taken once a row is
-/// printed. The only error is a board that has a call that moves a line, a line that moves later, 64
-/// drivers, driver 65535, or more than 12,224 calls.
+/// placing, and handlers are called as they are due. Prints the layout, each placing and each
+/// event, and the play. Memory is taken before the first step, and by steps; none is taken once a
+/// row is printed. The only error is a board that has a call that moves a line, a line that moves
+/// later, 64 drivers, driver 65535, or more than 12,224 calls.
 pub fn hotplug_and_print<O: Sink, M: MakesDomainLine, H: Handler, N: Notifier>(
     alloc: Global,
     board: Board,

@@ -32,8 +32,8 @@ module _ (text : List ℕ) (HandsOut : PlayEnd → List LineReport → Type 0) w
 
 -- What is answered of a play with some log: `text` and `HandsOut` are by the log, and so is `runs`,
 -- the runs of handlers that its moves ended, the newest first. For these handlers were called, in
--- their order, and for no other: `heard` says of runs that this is so of them. If memory was refused
--- for anything but a step, nothing was played.
+-- their order, and for no other: `heard` says of runs that this is so of them. If memory was
+-- refused for anything but a step, nothing was played.
 module _ {E : Type 0} (text : List E → List ℕ)
     (HandsOut : List E → PlayEnd → List LineReport → Type 0) (runs : List E → List Run)
     (heard : List Run → Type 0) where
