@@ -1,6 +1,6 @@
 -- A log that was found is lawful: its text is that of a log of the board, on which `check` says so.
 use Rattle.std.proofs.Common.{◌≡◌, ℕ, ◌<◌, Bool, true, false, not, ◌&&◌, cond, eqb, ltb, Some, None, List, [], ◌∷◌, ◌++◌}
-use Rattle.std.proofs.Common.{length, map, slice_get, reverse, codes, All, refl, sym, ap, subst, ◌∙◌, append_assoc, arith}
+use Rattle.std.proofs.Common.{Vec, Global, length, map, slice_get, reverse, codes, All, refl, sym, ap, subst, ◌∙◌, append_assoc, arith}
 use Rattle.std.specs.List.{AllZip, filter, join_with_byte}
 use Rattle.std.specs.Option.{option_map}
 use Rattle.std.proofs.lemmas.Bool.{and_parts, ltb-true, ne_eqb, eqb-true}
@@ -36,7 +36,7 @@ use Rattle.log_text.specs.EntryWords.{IsPrintable}
 use Rattle.log_text.specs.Formed.{HasSmallNumbers, IsSmall, IsWritable}
 use Rattle.log_text.specs.Rows.{entry_text, history_text}
 use Rattle.explore_words.proofs.Dashes.{begins_so}
-use Rattle.irq_explore.specs.Answered.{Answered, AnsweredLine, IsLawful}
+use Rattle.irq_explore.specs.Answered.{Answered, AnsweredLine, AnsweredRefused, IsLawful}
 use Rattle.irq_explore.specs.Printing.{HasSmallAnswer, IsPrintableAnswer}
 
 -- ---- the entries can be written
@@ -139,11 +139,16 @@ line_no n = record { 0 = n }
 
 -- ---- the verdict
 
+-- of a line that the layout refuses nothing but the empty history is found
+none_found : (wanted : Wanted) (v : Vec Entry Global) → AnsweredRefused wanted (answers.Found v) → v.items ≡ []
+none_found (wants.Row e) v says = let no : answers.Found v ≡ answers.Never = says in cc
+none_found (wants.Rest left) v says = says.1
+
 on_own : (states : ℕ) (b : BoardSeen) (row : LineRow) (placement : Placement) (wanted : Wanted) (answer : Answer) (es : List Entry) → IsFound answer es
     → AnsweredLine states b row placement wanted answer → JudgedLine b row placement es None
 on_own states b row (placements.Mapped virq path) wanted (answers.Found v) es found says =
     subst (IsLegal (line_of_row b row)) found (legal_of (line_of_row b row) wanted (reverse v.items) says.meets)
-on_own states b row (placements.Refused why) wanted (answers.Found v) es found says = let no : answers.Found v ≡ answers.Never = says in cc
+on_own states b row (placements.Refused why) wanted (answers.Found v) es found says = sym found ∙ none_found wanted v says
 on_own states b row placement wanted answers.Never es found says = absurd found
 on_own states b row placement wanted (answers.NotWithin n) es found says = absurd found
 
