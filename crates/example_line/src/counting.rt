@@ -1,5 +1,5 @@
 //! A handler of one's own.
-ghost use Rattle.std.specs.Prelude.{◌≡◌, ◌+◌};
+ghost use Rattle.std.specs.Prelude.{◌≡◌, ◌+◌, ◌-◌, ◌^◌, min};
 
 use callbacks::{ByKind, Handler};
 use irq_base::{Answer, Run};
@@ -12,11 +12,11 @@ pub struct Counting {
 }
 
 impl Handler for Counting {
-    // one call more
-    ghost hears = { λ old run new. new.calls ≡ old.calls + 1 };
+    // a call is one more, as far as a `u64` counts
+    ghost hears = { λ old run new. new.calls ≡ min (old.calls + 1) (2 ^ 64 - 1) };
 
     fn answer(&mut self, run: Run) -> Answer {
-        self.calls += 1;
-        ByKind.answer(run)
+        self.calls = self.calls.saturating_add(1);
+        Handler::answer(&mut ByKind, run)
     }
 }

@@ -52,5 +52,6 @@ pub fn count_ten_steps<L: IrqLine>(line: &mut L) -> ([&'static str; 10], u64)
 {
     let mut counting = Counting { calls: 0 };
     let rows = ten_steps(line, &mut counting);
+    line.is_sound();
     (rows, counting.calls)
 }

@@ -11,7 +11,10 @@ use Rattle.board_play.specs.Lines.{Move, part}
 use Rattle.board_play.specs.Play.{End, Plays}
 use Rattle.board_core.specs.Runs.{runs_of}
 use Rattle.irq_play.specs.Report.{moves_text}
+use Rattle.log_check.specs.Verdicts.{ChecksLog}
+use Rattle.log_check.specs.declared.verdict.Verdict.TheVariants as verdicts
 use Rattle.explore_picks.specs.Rows.{picks_text}
+use Rattle.explore_picks.specs.Stated.{AreStated}
 use Rattle.explore_picks.specs.declared.making.PlayToEnd.{PlayToEnd}
 use Rattle.explore_picks.specs.declared.making.PlayToEnd.TheVariants as ends
 use Rattle.explore_play.specs.Made.{ArePicked, IsHeardPlay}
@@ -23,16 +26,18 @@ BeginPlays b picks g = (more : List Actor) (h : List Move) (end : End)
     → Plays b (picks ++ more) (reverse h) end → (k : List Move) × (h ≡ g ++ k)
 
 -- These moves are a play of the board so far, each made by the pick at its place, and the line's
--- part of them is this history. All oldest first.
+-- part of them is this history. A board's reader takes the rows of the picks as these picks. All
+-- oldest first.
 pub record IsPlayTo (b : BoardSeen) (line : LineNo) (es : List Entry) (picks : List Actor)
     (g : List Move) : Type 0 where
   pub picked : ArePicked b (reverse picks) (reverse g)
   pub begin : BeginPlays b picks g
   pub part : part line (reverse g) ≡ reverse es
   pub few : length picks ≤ 65536
+  pub stated : AreStated picks
 
--- such a play's moves and its picks are printed, or a beginning of them, and the runs that the
--- moves ended were heard
+-- such a play's moves and its picks are printed, or a beginning of them; `check` says of all of it,
+-- behind the board, that it is lawful; and the runs that the moves ended were heard
 pub record PrintsPlayTo (b : BoardSeen) (line : LineNo) (es : List Entry)
     (heard : List Run → Type 0) (old new : Option (List ℕ)) (end : writes.the_data)
     : Type 0 where
@@ -40,6 +45,7 @@ pub record PrintsPlayTo (b : BoardSeen) (line : LineNo) (es : List Entry)
   pub picks : List Actor
   pub play : IsPlayTo b line es picks moves
   pub runs : heard (runs_of b (reverse moves))
+  pub lawful : ChecksLog b (moves_text moves ++ picks_text picks) verdicts.Lawful
   pub printed : WritesAll old new (moves_text moves ++ picks_text picks) end
 
 -- the runs of some play of the board so far were heard

@@ -13,6 +13,7 @@ ghost use Rattle.irq_play.specs.Printing.{HasRow};
 ghost use Rattle.irq_play.specs.Report.{moves_text};
 
 use crate::picks::print_picks;
+use crate::small::are_small;
 use board_core::System;
 use board_def::Board;
 use board_layout::lay;
@@ -96,8 +97,9 @@ fn print_made<L: IrqLine, O: Sink>(play: &PlayTo<'_, L>, out: &mut O) -> WriteEn
 
 /// Makes a play of the board to which the line's history `wanted` comes, and prints its moves and
 /// its picks. One is found if no other line takes part and there is room for the history; else that
-/// isn't promised. The handlers are called for the runs that the play ends, and for no other; where
-/// none is found, for those of the play that was tried.
+/// isn't promised. What is printed is lawful, and a board's reader takes the rows of picks as these
+/// picks. The handlers are called for the runs that the play ends, and for no other; where none is
+/// found, for those of the play that was tried.
 pub fn play_to_and_print<M: MakesDomainLine, H: Handler, O: Sink>(
     alloc: Global,
     board: &Board,
@@ -116,11 +118,15 @@ pub fn play_to_and_print<M: MakesDomainLine, H: Handler, O: Sink>(
     ensures refused { result ≡ PlayToEnd.NoMemory → out.new ≡ out.old }
     ensures alone { IsAlone board.now line wanted.now → result ≡ PlayToEnd.NoneFound → ⊥ }
 {
+    board.is_board();
     match make(alloc, board, line, wanted, maker, handlers) {
-        Ok(Some(play)) => match print_made(&play, out) {
-            WriteEnd::Done => PlayToEnd::Done,
-            WriteEnd::Failed => PlayToEnd::WriteFault,
-        },
+        Ok(Some(play)) => {
+            are_small(&mut play.system.moves());
+            match print_made(&play, out) {
+                WriteEnd::Done => PlayToEnd::Done,
+                WriteEnd::Failed => PlayToEnd::WriteFault,
+            }
+        }
         Ok(None) => PlayToEnd::NoneFound,
         Err(NoMemory) => PlayToEnd::NoMemory,
     }

@@ -35,7 +35,7 @@ use Rattle.log_text.proofs.Splitting.{are_above, row_within, row_words}
 use Rattle.log_text.specs.EntryWords.{IsPrintable}
 use Rattle.log_text.specs.Formed.{HasSmallNumbers, IsSmall, IsWritable}
 use Rattle.log_text.specs.Rows.{entry_text, history_text}
-use Rattle.explore_words.proofs.Dashes.{begins_so}
+use Rattle.explore_picks.proofs.Lawful.{no_hash, row_first}
 use Rattle.irq_explore.specs.Answered.{Answered, AnsweredLine, AnsweredRefused, IsLawful}
 use Rattle.irq_explore.specs.Printing.{HasSmallAnswer, IsPrintableAnswer}
 
@@ -60,15 +60,6 @@ all_writable (e ∷ es) p s =
 
 -- ---- the rows of the text
 
-row_first : (xs rest : List ℕ) → are_above 10 xs ≡ true → rows_of (xs ++ 10 ∷ rest) ≡ (xs ++ 10 ∷ []) ∷ rows_of rest
-row_first [] rest above = refl
-row_first (b ∷ bs) rest above =
-    let both = and_parts (ltb 10 b) (are_above 10 bs) above in
-    let more = ltb-true 10 b both.0 in
-    let no : is_feed b ≡ false = ne_eqb b 10 (λ same. omega (arith, more, same)) in
-    ap (λ t. cond t ((b ∷ []) ∷ rows_of (bs ++ 10 ∷ rest)) (onto_first b (rows_of (bs ++ 10 ∷ rest)))) no
-    ∙ ap (onto_first b) (row_first bs rest both.1)
-
 module _ (line : LineNo) (number : IsSmall line.0) where
   abbrev words : Entry → List ℕ
   words e = join_with_byte 32 (row_words line e)
@@ -80,15 +71,8 @@ module _ (line : LineNo) (number : IsSmall line.0) where
       ∙ (row_first (words e) (history_text line es) (row_within line e number (All-head IsWritable e es w))
       ∙ ap (λ rows. entry_text line e ∷ rows) (text_rows es (All-tail IsWritable e es w)))
 
-  no_hash : (e : Entry) → IsWritable e → begins_with_hash (entry_text line e) ≡ false
-  no_hash e w =
-      let so = begins_so (words e) line (wants.Row e) (record { text = refl; number = number; has_row = w }) in
-      let above = ltb-true 45 so.0 so.3 in
-      let other : eqb so.0 35 ≡ false = ne_eqb so.0 35 (λ same. omega (arith, above, same)) in
-      ap (λ (xs : List ℕ). begins_with_hash (xs ++ codes "\n")) so.2 ∙ other
-
   unpassed : (e : Entry) → IsWritable e → is_passed_over (entry_text line e) ≡ false
-  unpassed e w = ap (λ t. t && is_whole (entry_text line e)) (no_hash e w)
+  unpassed e w = ap (λ t. t && is_whole (entry_text line e)) (no_hash line e number)
 
   all_say : (es : List Entry) → All IsWritable es → saying (map (entry_text line) es) ≡ map (entry_text line) es
   all_say [] w = refl
