@@ -1,14 +1,14 @@
 -- The runs of handlers that moves ended.
-use Rattle.std.specs.Prelude.{Option, Some, None, Result, List, [], ◌∷◌, ◌++◌, drop, length, reverse}
+use Rattle.std.specs.Prelude.{Option, Some, None, Result, Ok, List, [], ◌∷◌, ◌++◌, drop, length, reverse}
 use Rattle.std.specs.Prelude.{ℕ, slice_get}
 use Rattle.irq_base.specs.declared.devices.Run.{Run}
 use Rattle.irq_base.specs.declared.entries.Entry.{Entry}
 use Rattle.callbacks.specs.Heard.{one_run}
-use Rattle.irq_line.specs.Hearing.{runs_by}
 use Rattle.irq_line.specs.Runs.{run_ended}
 use Rattle.irq_line.specs.Seen.{LineSeen}
 use Rattle.irq_line.specs.declared.answers.StepRefused.{StepRefused}
 use Rattle.irq_line.specs.declared.answers.Stepped.{Stepped}
+use Rattle.irq_line.specs.declared.answers.Stepped.TheVariants as stepped
 use Rattle.board_def.specs.Seen.{BoardSeen}
 use Rattle.board_play.specs.Lines.{BoardLine, Move, find_line, lines_of}
 use Rattle.board_core.specs.Playing.{lines_after_all}
@@ -30,6 +30,10 @@ abbrev pub runs_of : BoardSeen → List Move → List Run
 runs_of b [] = []
 runs_of b (m ∷ g) = runs_by_move (lines_of b g) m ++ runs_of b g
 
+-- those of a system's log
+abbrev pub runs_in : SystemSeen → List Run
+runs_in s = runs_of s.board (reverse s.log)
+
 -- the same of moves that were made on lines as they stood
 abbrev pub runs_from : List BoardLine → List Move → List Run
 runs_from lines [] = []
@@ -45,10 +49,8 @@ abbrev pub runs_since : (old new : SystemSeen) → List Run
 runs_since old new =
     runs_from (board_lines old.lines) (reverse (drop (length old.log) new.log))
 
-abbrev pub runs_on : {L : Type 0} → Option LineSeen → Result (Stepped L) StepRefused → List Run
-runs_on None stepped = []
-runs_on (Some x) stepped = runs_by x stepped
-
--- the run that the step of the line at this place ended
+-- the run that the step of the line at this place ended: that of the entry that it added
 abbrev pub runs_at : {L : Type 0} → List LineSeen → ℕ → Result (Stepped L) StepRefused → List Run
-runs_at lines k stepped = runs_on (slice_get lines k) stepped
+runs_at lines k (Ok (stepped.Added entry)) =
+    one_run (run_on (slice_get (board_lines lines) k) entry)
+runs_at lines k _ = []

@@ -15,7 +15,7 @@ ghost use Rattle.board_core.specs.Firsts.{IsFirstOf, call_on, is_take_due, numbe
 ghost use Rattle.board_core.specs.Making.{AreNew, MakesAll};
 ghost use Rattle.board_core.specs.Playing.{IsFresh, IsUnderway, IsPlay, Ends, Settles};
 ghost use Rattle.board_core.specs.ReadyFor.{has_thread_up_to};
-ghost use Rattle.board_core.specs.Runs.{runs_by_turn, runs_of, runs_since};
+ghost use Rattle.board_core.specs.Runs.{runs_by_turn, runs_in, runs_since};
 ghost use Rattle.board_core.specs.Seen.{board_lines};
 ghost use Rattle.board_core.specs.Stands.{CanStepAt, IsAt, IsCurrentOn, IsStand, IsLowestStand};
 ghost use Rattle.board_core.specs.Stands.{IsScriptPlace, IsStandOn};
@@ -517,8 +517,7 @@ impl<'b, L: IrqLine> System<'b, L> {
         ensures board { self.new.board ≡ self.old.board }
         ensures layout { self.new.layout ≡ self.old.layout }
         ensures play { IsPlay self.new picks.now result }
-        ensures heard { Heard H.hears (runs_of self.new.board (reverse self.new.log)) handlers.old
-            handlers.new }
+        ensures heard { Heard H.hears (runs_in self.new) handlers.old handlers.new }
         ensures memory { PlayWants L.may_want self.new picks.now result }
         ensures lines { board_lines self.new.lines
             ≡ lines_of self.new.board (reverse self.new.log) }
