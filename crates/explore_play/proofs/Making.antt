@@ -3,6 +3,7 @@ use Rattle.std.proofs.Common.{◌≡◌, ℕ, zero, suc, ◌+◌, ◌<◌, Bool,
 use Rattle.std.proofs.Common.{reverse, take, slice_get, add-one, refl, sym, ap, ◌∙◌, subst}
 use Rattle.std.proofs.lemmas.Option.{none-some}
 use Rattle.std.proofs.lemmas.List.{append_assoc, reverse-append}
+use Rattle.irq_base.specs.declared.devices.Run.{Run}
 use Rattle.irq_base.specs.declared.entries.Actor.{Actor}
 use Rattle.irq_base.specs.declared.entries.Entry.{Entry}
 use Rattle.irq_base.specs.declared.numbers.LineNo.{LineNo}
@@ -14,9 +15,14 @@ use Rattle.board_play.specs.Play.{IsChosen, choice, with_picks, or_choice}
 use Rattle.board_play.proofs.Moving.{lines_more}
 use Rattle.board_core.specs.Playing.{IsFresh}
 use Rattle.board_core.specs.Seen.{SystemSeen, board_lines}
-use Rattle.board_core.specs.Turns.{move_of, Moves}
+use Rattle.board_core.specs.Turns.{move_of, Moves, Turns}
+use Rattle.board_core.specs.Runs.{runs_by_move, runs_by_turn, runs_of}
+use Rattle.board_core.specs.declared.turns.Turn.{Turn}
+use Rattle.board_core.specs.declared.turns.Turn.TheVariants as turns
 use Rattle.board_core.proofs.Underway.{part_in}
-use Rattle.explore_play.specs.Made.{ArePicked, IsMade}
+use Rattle.callbacks.proofs.Calls.{heard_more}
+use Rattle.callbacks.specs.Heard.{Heard}
+use Rattle.explore_play.specs.Made.{ArePicked, IsHeardPlay, IsMade}
 
 -- the entry at a place follows those before it
 one_suc : (es : List Entry) (i : ℕ) (e : Entry) → slice_get es i ≡ Some e → take (suc i) es ≡ take i es ++ e ∷ []
@@ -39,51 +45,88 @@ none_made s picks line f none =
       part = ap (λ (g : List Move). part line g) empty;
     }
 
-module _ (old new : SystemSeen) (picks after : List Actor) (a : Actor) (line : LineNo) (es : List Entry) (of : LineNo) (e : Entry)
-    (made : IsMade old picks line es) (moves : Moves old (move_of old a) (of, e) new) (pushed : after ≡ picks ++ a ∷ []) where
-  abbrev g : List Move
-  g = reverse old.log
-
+module _ (old new : SystemSeen) (picks : List Actor) (a : Actor) (line : LineNo) (es : List Entry) (of : LineNo) (e : Entry)
+    (made : IsMade old picks line es) (moves : Moves old (move_of old a) (of, e) new) where
   log : reverse new.log ≡ (of, e) ∷ reverse old.log
   log = ap (λ (h : List Move). reverse h) moves.log ∙ reverse-append old.log ((of, e) ∷ [])
-
-  back : reverse after ≡ a ∷ reverse picks
-  back = ap (λ (ps : List Actor). reverse ps) pushed ∙ reverse-append picks (a ∷ [])
 
   lines : board_lines new.lines ≡ lines_of new.board (reverse new.log)
   lines =
       moves.lines ∙ (ap (λ (ls : List BoardLine). lines_after (of, e) ls) made.lines ∙ sym (lines_more (defs_of old.board) (of, e) (reverse old.log)))
       ∙ (ap (λ (h : List Move). lines_of old.board h) (sym log) ∙ ap (λ (b : BoardSeen). lines_of b (reverse new.log)) (sym moves.board))
 
-  picked : ArePicked new.board (reverse after) (reverse new.log)
-  picked =
+  -- its pick is one more
+  picked_more : ArePicked new.board (a ∷ reverse picks) (reverse new.log)
+  picked_more =
       let due : due_move old.board (lines_of old.board (reverse old.log)) a ≡ Some (of, e)
       = ap (λ (ls : List BoardLine). due_move old.board ls a) (sym made.lines) ∙ moves.is in
       let room : length (part of (reverse old.log)) < old.board.log = part_in old of (λ past. length past < old.board.log) made.lines moves.room in
       let all : ArePicked old.board (a ∷ reverse picks) ((of, e) ∷ reverse old.log) = (made.picked, due, room) in
-      subst (λ (b : BoardSeen). ArePicked b (reverse after) (reverse new.log)) (sym moves.board)
-      (subst (λ (ps : List Actor). ArePicked old.board ps (reverse new.log)) (sym back)
-      (subst (λ (h : List Move). ArePicked old.board (a ∷ reverse picks) h) (sym log) all))
+      subst (λ (b : BoardSeen). ArePicked b (a ∷ reverse picks) (reverse new.log)) (sym moves.board)
+      (subst (λ (h : List Move). ArePicked old.board (a ∷ reverse picks) h) (sym log) all)
 
-  -- a move on another line
-  pub made_elsewhere : same_line line of ≡ false → IsMade new after line es
-  made_elsewhere other = record {
-    lines = lines;
-    picked = picked;
-    part = ap (λ (h : List Move). part line h) log
-        ∙ (ap (λ (b : Bool). cond b (e ∷ part line (reverse old.log)) (part line (reverse old.log))) other ∙ made.part);
-  }
+  -- the run that it ends is one more
+  runs_more : runs_of new.board (reverse new.log) ≡ runs_by_move (board_lines old.lines) (of, e) ++ runs_of old.board (reverse old.log)
+  runs_more =
+      ap (λ (b : BoardSeen). runs_of b (reverse new.log)) moves.board
+      ∙ (ap (λ (h : List Move). runs_of old.board h) log
+      ∙ ap (λ (ls : List BoardLine). runs_by_move ls (of, e) ++ runs_of old.board (reverse old.log)) (sym made.lines))
 
-  -- the next entry of the line
-  pub made_here : same_line line of ≡ true → (more : List Entry) → more ≡ es ++ e ∷ [] → IsMade new after line more
-  made_here same more is = record {
-    lines = lines;
-    picked = picked;
-    part = ap (λ (h : List Move). part line h) log
-        ∙ (ap (λ (b : Bool). cond b (e ∷ part line (reverse old.log)) (part line (reverse old.log))) same
-        ∙ (ap (λ (xs : List Entry). e ∷ xs) made.part
-        ∙ sym (ap (λ (xs : List Entry). reverse xs) is ∙ reverse-append es (e ∷ []))));
-  }
+  module _ (after : List Actor) (pushed : after ≡ picks ++ a ∷ []) where
+    picked : ArePicked new.board (reverse after) (reverse new.log)
+    picked =
+        let back : reverse after ≡ a ∷ reverse picks = ap (λ (ps : List Actor). reverse ps) pushed ∙ reverse-append picks (a ∷ []) in
+        subst (λ (ps : List Actor). ArePicked new.board ps (reverse new.log)) (sym back) picked_more
+
+    -- a move on another line
+    pub made_elsewhere : same_line line of ≡ false → IsMade new after line es
+    made_elsewhere other = record {
+      lines = lines;
+      picked = picked;
+      part = ap (λ (h : List Move). part line h) log
+          ∙ (ap (λ (b : Bool). cond b (e ∷ part line (reverse old.log)) (part line (reverse old.log))) other ∙ made.part);
+    }
+
+    -- the next entry of the line
+    pub made_here : same_line line of ≡ true → (more : List Entry) → more ≡ es ++ e ∷ [] → IsMade new after line more
+    made_here same more is = record {
+      lines = lines;
+      picked = picked;
+      part = ap (λ (h : List Move). part line h) log
+          ∙ (ap (λ (b : Bool). cond b (e ∷ part line (reverse old.log)) (part line (reverse old.log))) same
+          ∙ (ap (λ (xs : List Entry). e ∷ xs) made.part
+          ∙ sym (ap (λ (xs : List Entry). reverse xs) is ∙ reverse-append es (e ∷ []))));
+    }
+
+-- ---- the runs that the moves ended were heard
+
+-- nothing has moved, and nothing was heard
+pub none_heard : {H : Type 0} (hears : H → Run → H → Type 0) (s : SystemSeen) (h : H) → IsFresh s
+    → Heard hears (runs_of s.board (reverse s.log)) h h
+none_heard hears s h fresh = subst (λ (g : List Move). Heard hears (runs_of s.board (reverse g)) h h) (sym fresh.log) refl
+
+module _ {H : Type 0} (hears : H → Run → H → Type 0) (first before : H) (old : SystemSeen) (picks : List Actor) (line : LineNo) (es : List Entry)
+    (made : IsMade old picks line es) (so_far : Heard hears (runs_of old.board (reverse old.log)) first before) where
+  pub heard_now : IsHeardPlay old.board (λ (runs : List Run). Heard hears runs first before) (reverse old.log)
+  heard_now = record { picks = reverse picks; picked = made.picked; runs = so_far }
+
+  module _ (after : H) (new : SystemSeen) where
+    abbrev IsHeardNow : SystemSeen → H → Type 0
+    IsHeardNow s h = IsHeardPlay s.board (λ (runs : List Run). Heard hears runs first h) (reverse s.log)
+
+    still : new ≡ old → before ≡ after → IsHeardNow new after
+    still same none = subst (λ (s : SystemSeen). IsHeardNow s after) (sym same) (subst (λ (h : H). IsHeardNow old h) none heard_now)
+
+    pub heard_after : (a : Actor) (t : Turn) → Turns old a t new → Heard hears (runs_by_turn old t) before after → IsHeardNow new after
+    heard_after a (turns.Moved of e) moves heard = record {
+      picks = a ∷ reverse picks;
+      picked = picked_more old new picks a line es of e made moves;
+      runs = subst (λ (runs : List Run). Heard hears runs first after) (sym (runs_more old new picks a line es of e made moves))
+          (heard_more hears (runs_by_move (board_lines old.lines) (of, e)) (runs_of old.board (reverse old.log)) first before after so_far heard);
+    }
+    heard_after a turns.NotYet turn heard = still turn.1 heard
+    heard_after a (turns.Full of len) turn heard = still turn.1 heard
+    heard_after a turns.NoMemory turn heard = still turn.1 heard
 
 -- ---- put in place of the board's picks, they make each play begin with these moves
 
