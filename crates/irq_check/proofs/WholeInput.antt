@@ -82,7 +82,7 @@ content asked (Some bytes) now text answer read is =
 pub refused : (asked : Bool) (before now : Option (List ℕ)) (text : List ℕ) (fault : BoardFault)
     → TakesUpTo (longest_input + 1) before now text → length text ≤ longest_input + 1 → checked text ≡ Err fault
     → ReadsInput asked before now (Err (refusals.Fault fault))
-refused asked None now text fault read few states = (text, few, states)
+refused asked None now text fault read few states = record { input = text; within = few; fails = states }
 refused asked (Some bytes) now text fault read few states = (of_all bytes text (Err fault) read.0 states, read.1)
 
 pub said : (asked : Bool) (before now : Option (List ℕ)) (text : List ℕ) (answer : Answer)

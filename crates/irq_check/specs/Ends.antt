@@ -29,20 +29,21 @@ abbrev pub is_read_fault : Result Answer InputRefused → Bool
 is_read_fault (Err refusals.ReadFault) = true
 is_read_fault _ = false
 
--- some input, of at most one byte past the longest, has this fault
-abbrev pub HasSomeFault : BoardFault → Type 0
-HasSomeFault fault =
-    (input : List ℕ) × (length input ≤ longest_input + 1) × (checked input ≡ Err fault)
+-- bytes, at most one more than the longest input has, with this first fault
+pub record HasFault (fault : BoardFault) : Type 0 where
+  pub input : List ℕ
+  pub within : length input ≤ longest_input + 1
+  pub fails : checked input ≡ Err fault
 
 -- if the source tells what is left: the bytes were read to their end, and the answer is their
 -- judgement; or they were read to their end or one byte past the longest input, and the answer is
--- their fault. A source that tells nothing had some bytes with that fault.
+-- their fault. If it doesn't tell, a fault is still that of some bytes that can have been read.
 abbrev pub ReadsInput : (asked : Bool) → Option (List ℕ) → Option (List ℕ)
     → Result Answer InputRefused → Type 0
 ReadsInput asked (Some bytes) now (Ok answer) = IsChecked asked bytes answer × (now ≡ Some [])
 ReadsInput asked (Some bytes) now (Err (refusals.Fault fault)) =
     (checked bytes ≡ Err fault) × (now ≡ Some (left_after bytes))
-ReadsInput asked None now (Err (refusals.Fault fault)) = HasSomeFault fault
+ReadsInput asked None now (Err (refusals.Fault fault)) = HasFault fault
 ReadsInput asked _ _ _ = Unit {0}
 
 -- what the whole call read, by how it ended
@@ -53,7 +54,7 @@ Reads asked (Some bytes) now ends.WriteFault =
     ((answer : Answer) × IsChecked asked bytes answer) × (now ≡ Some [])
 Reads asked (Some bytes) now (ends.Fault fault) =
     (checked bytes ≡ Err fault) × (now ≡ Some (left_after bytes))
-Reads asked None now (ends.Fault fault) = HasSomeFault fault
+Reads asked None now (ends.Fault fault) = HasFault fault
 Reads asked _ _ _ = Unit {0}
 
 -- the output gained the rows with the judgement of the input; after a fault of the output a

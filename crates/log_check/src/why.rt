@@ -11,11 +11,11 @@ ghost use Rattle.log_check.specs.Judging.{HasRoom, MakesEach, Stands, part_at};
 ghost use Rattle.log_check.specs.Why.{Explains, Finds, GrowsByOne, IsNew, IsPrintableDue, Tries};
 ghost use Rattle.log_read.specs.LogOf.{IsRowOn, LineEntry, is_passed_over, rows_of, saying};
 
+use crate::judging::step;
 use crate::making::make_line;
 use board_def::{Board, Layout};
-use callbacks::ByKind;
 use irq_base::{Entry, LineNo, NoMemory};
-use irq_line::{IrqLine, MakesLine, StepRefused, Stepped};
+use irq_line::{IrqLine, MakesLine};
 use line_obstacles::{Obstacle, TellsObstacles};
 use log_read::{cut_row, place_of, read_row};
 use std::alloc::Global;
@@ -155,11 +155,9 @@ fn due_then<L: TellsObstacles>(line: &mut L, entry: Entry) -> Result<Option<DueT
 {
     line.is_sound();
     let actor = entry.actor();
-    match line.step(actor, &mut ByKind) {
-        Ok(Stepped::Added(due)) if due == entry => Ok(None),
-        Ok(Stepped::Added(due)) => Ok(Some(DueThen::Entry(due))),
-        Ok(Stepped::NotYet) => Ok(Some(DueThen::Nothing(line.obstacle(actor)))),
-        Err(StepRefused::NoMemory) => Err(NoMemory),
-        Err(StepRefused::Full { .. }) => unreachable!(),
+    match step(line, actor)? {
+        Some(due) if due == entry => Ok(None),
+        Some(due) => Ok(Some(DueThen::Entry(due))),
+        None => Ok(Some(DueThen::Nothing(line.obstacle(actor)))),
     }
 }
