@@ -21,7 +21,7 @@ module _ (told left : Option (List ℕ)) (reports : List LineReport) (before now
   not_usage : (done : Command) → Does done told left reports before now endings.Usage → ⊥
   not_usage (commands.Run summary) does = does.done
   not_usage (commands.Play summary) does = does.done
-  not_usage commands.Check does = does
+  not_usage (commands.Check why) does = does
   not_usage (commands.Gen n) does = does
   not_usage commands.Chained does = does.done
   not_usage (commands.Hotplug vectors events) does = does.done

@@ -18,7 +18,9 @@ use Rattle.hotplug_play.specs.Played.{HotplugsBoard}
 use Rattle.irq_chained.specs.Fits.{is_for_chain}
 use Rattle.irq_hotplug.specs.declared.events.Event.{Event}
 use Rattle.irq_check.specs.Ends.{Reads, SaysOrNot}
+use Rattle.log_check.specs.declared.verdict.Verdict.{Verdict}
 use Rattle.log_check.specs.declared.verdict.Verdict.TheVariants as verdicts
+use Rattle.irq_check.specs.declared.answers.Answer.{Answer}
 use Rattle.irq_check.specs.declared.printing.CheckEnd.{CheckEnd}
 use Rattle.irq_check.specs.declared.printing.CheckEnd.TheVariants as checks
 use Rattle.irq_play.specs.Played.{PlaysBoard, TellsStep}
@@ -150,31 +152,39 @@ RunsAs summary b reports before now (endings.LogFull line len) =
 RunsAs summary b reports before now (endings.NoMemory wants.Making) = reports ≡ []
 RunsAs summary b reports before now _ = ⊥
 
--- the input was checked, with this end, and no history is handed out
-pub record ChecksInput (told left : Option (List ℕ)) (reports : List LineReport)
+-- the input was checked, with this end, and no history is handed out; `why`: with the reason of a
+-- log that is unlawful
+pub record ChecksInput (why : Bool) (told left : Option (List ℕ)) (reports : List LineReport)
     (before now : Option (List ℕ)) (end : CheckEnd) : Type 0 where
-  pub reads : Reads told left end
-  pub says : SaysOrNot told before now end
+  pub reads : Reads why told left end
+  pub says : SaysOrNot why told before now end
   pub reports_are : reports ≡ []
+
+-- the log of the input has this verdict
+abbrev pub Answers : (why : Bool) → Option (List ℕ) → Option (List ℕ) → List LineReport
+    → Option (List ℕ) → Option (List ℕ) → Verdict → Type 0
+Answers why told left reports before now verdict =
+    (answer : Answer) × (answer.verdict ≡ verdict)
+    × ChecksInput why told left reports before now (checks.Answered answer)
 
 -- `check`: the log of the input is lawful; or unlawful, or malformed, as the ending says; or the
 -- input is refused
-abbrev pub Checks : Option (List ℕ) → Option (List ℕ) → List LineReport → Option (List ℕ)
-    → Option (List ℕ) → Ending → Type 0
-Checks told left reports before now endings.Done =
-    ChecksInput told left reports before now (checks.Answered verdicts.Lawful)
-Checks told left reports before now (endings.Unlawful line entry) =
-    ChecksInput told left reports before now (checks.Answered (verdicts.Unlawful line entry))
-Checks told left reports before now (endings.Malformed row) =
-    ChecksInput told left reports before now (checks.Answered (verdicts.Malformed row))
-Checks told left reports before now endings.WriteFault =
-    ChecksInput told left reports before now checks.WriteFault
-Checks told left reports before now (endings.Board fault) =
-    ChecksInput told left reports before now (checks.Fault fault)
-Checks told left reports before now endings.ReadFault =
-    ChecksInput told left reports before now checks.ReadFault
-Checks told left reports before now (endings.NoMemory wants.Making) = reports ≡ []
-Checks told left reports before now _ = ⊥
+abbrev pub Checks : (why : Bool) → Option (List ℕ) → Option (List ℕ) → List LineReport
+    → Option (List ℕ) → Option (List ℕ) → Ending → Type 0
+Checks why told left reports before now endings.Done =
+    Answers why told left reports before now verdicts.Lawful
+Checks why told left reports before now (endings.Unlawful line entry) =
+    Answers why told left reports before now (verdicts.Unlawful line entry)
+Checks why told left reports before now (endings.Malformed row) =
+    Answers why told left reports before now (verdicts.Malformed row)
+Checks why told left reports before now endings.WriteFault =
+    ChecksInput why told left reports before now checks.WriteFault
+Checks why told left reports before now (endings.Board fault) =
+    ChecksInput why told left reports before now (checks.Fault fault)
+Checks why told left reports before now endings.ReadFault =
+    ChecksInput why told left reports before now checks.ReadFault
+Checks why told left reports before now (endings.NoMemory wants.Making) = reports ≡ []
+Checks why told left reports before now _ = ⊥
 
 -- what each command does. `run`, `play`, `chained`, `hotplug` and `sleep` take a board, and run it,
 -- play it, or play it behind one demultiplexer, with processors that go offline, or with a sleep;
@@ -185,7 +195,8 @@ Does (commands.Run summary) told left reports before now ending =
     TakesBoard (RunsAs summary) told left reports before now ending
 Does (commands.Play summary) told left reports before now ending =
     TakesBoard (PlaysAs summary) told left reports before now ending
-Does commands.Check told left reports before now ending = Checks told left reports before now ending
+Does (commands.Check why) told left reports before now ending =
+    Checks why told left reports before now ending
 Does (commands.Gen n) told left reports before now ending =
     PlaysAs true (generated n) reports before now ending
 Does commands.Chained told left reports before now ending =
@@ -222,7 +233,7 @@ TellsWanted may_want asked told reports ending = Unit {0}
 abbrev pub reads : Command → Bool
 reads (commands.Run summary) = true
 reads (commands.Play summary) = true
-reads commands.Check = true
+reads (commands.Check why) = true
 reads (commands.Gen n) = false
 reads commands.Chained = true
 reads (commands.Hotplug vectors events) = true

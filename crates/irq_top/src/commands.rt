@@ -69,7 +69,7 @@ where
         Command::Play { summary } => {
             take_board(alloc, Play { summary }, src, out, handlers, maker)
         }
-        Command::Check => check(alloc, src, out, maker),
+        Command::Check { why } => check(alloc, why, src, out, maker),
         Command::Gen { n } => play_generated(alloc, n, out, handlers, maker),
         Command::Chained => take_board(alloc, Chain, src, out, handlers, maker),
         Command::Hotplug { vectors, events } => {
@@ -184,11 +184,12 @@ fn play_generated<O: Sink, H: Handler, M: MakesDomainLine>(
 /// `check`: reads a board and a log of it, judges the log, and prints the judgement.
 fn check<S: Source, O: Sink, M: MakesDomainLine>(
     alloc: Global,
+    why: bool,
     src: &mut S,
     out: &mut O,
     maker: &M,
 ) -> Outcome
-    ensures checks { Checks (S.left src.old) (S.left src.new) result.reports.reports
+    ensures checks { Checks why (S.left src.old) (S.left src.new) result.reports.reports
         (O.written out.old) (O.written out.new) result.ending }
     ensures read_fault { Counts (S.faults src.old) (S.faults src.new)
         (is_read_fault_end result.ending) }
@@ -197,6 +198,6 @@ fn check<S: Source, O: Sink, M: MakesDomainLine>(
         (is_write_fault_end result.ending) }
     ensures silent { is_printing result.ending ≡ false → out.new ≡ out.old }
 {
-    let end = check_and_print(alloc, src, out, maker);
+    let end = check_and_print(alloc, why, src, out, maker);
     Outcome::without_reports(alloc, Ending::from(end))
 }
