@@ -8,7 +8,7 @@ use Rattle.log_check.specs.declared.verdict.Verdict.TheVariants as verdicts
 use Rattle.log_read.specs.LogOf.{entries_of, rows_of}
 use Rattle.log_read.proofs.Telling.{as_many}
 use Rattle.irq_check.specs.Checked.{IsChecked, checked}
-use Rattle.irq_check.specs.declared.answers.Answer.{Answer}
+use Rattle.irq_check.specs.declared.answers.Judgement.{Judgement}
 use Rattle.irq_check.proofs.OneLog.{not_malformed, one_history, one_row}
 use Rattle.irq_check.proofs.OneVerdict.{one_verdict}
 
@@ -35,7 +35,7 @@ module _ (b : BoardSeen) (log : List ℕ) where
 same_ok : (p q : BoardSeen × List ℕ) → ◌≡◌ {A = Result (BoardSeen × List ℕ) BoardFault} (Ok p) (Ok q) → p ≡ q
 same_ok p q is = cc
 
-pub one_input : (why also : Bool) (input : List ℕ) (one other : Answer) → IsChecked why input one → IsChecked also input other
+pub one_input : (why also : Bool) (input : List ℕ) (one other : Judgement) → IsChecked why input one → IsChecked also input other
     → one.verdict ≡ other.verdict
 one_input why also input one other p q =
     let same : (p.board, p.log) ≡ (q.board, q.log) = same_ok (p.board, p.log) (q.board, q.log) (sym p.states ∙ q.states) in
@@ -45,5 +45,5 @@ one_input why also input one other p q =
 ok_or_not : (p : BoardSeen × List ℕ) (fault : BoardFault) → ◌≡◌ {A = Result (BoardSeen × List ℕ) BoardFault} (Ok p) (Err fault) → ⊥
 ok_or_not p fault is = cc
 
-pub no_fault : (why : Bool) (input : List ℕ) (answer : Answer) (fault : BoardFault) → IsChecked why input answer → checked input ≡ Err fault → ⊥
+pub no_fault : (why : Bool) (input : List ℕ) (answer : Judgement) (fault : BoardFault) → IsChecked why input answer → checked input ≡ Err fault → ⊥
 no_fault why input answer fault p bad = ok_or_not (p.board, p.log) fault (sym p.states ∙ bad)

@@ -13,7 +13,7 @@ use Rattle.board_words.specs.declared.faults.FaultKind.TheVariants as faults
 use Rattle.irq_check.specs.Checked.{IsChecked, board_and_log, checked, longest_input}
 use Rattle.irq_check.specs.Ends.{IsSaid, ReadsInput}
 use Rattle.irq_check.specs.Parts.{parts_of}
-use Rattle.irq_check.specs.declared.answers.Answer.{Answer}
+use Rattle.irq_check.specs.declared.answers.Judgement.{Judgement}
 use Rattle.program_io.specs.declared.inputs.InputRefused.TheVariants as refusals
 
 is_longer : (bytes : List ℕ) → longest_input < length bytes → nat_lt longest_input (length bytes) ≡ true
@@ -61,7 +61,7 @@ of_all : (bytes text : List ℕ) (r : Result (BoardSeen × List ℕ) BoardFault)
 of_all bytes text r cut states = sym (cut_states bytes) ∙ (ap checked (sym cut) ∙ states)
 
 -- the whole is judged as what was read of it
-whole_is : (asked : Bool) (bytes text : List ℕ) (answer : Answer) → text ≡ take (longest_input + 1) bytes → IsChecked asked text answer
+whole_is : (asked : Bool) (bytes text : List ℕ) (answer : Judgement) → text ≡ take (longest_input + 1) bytes → IsChecked asked text answer
     → IsChecked asked bytes answer
 whole_is asked bytes text answer cut is = record {
   board = is.board;
@@ -72,7 +72,7 @@ whole_is asked bytes text answer cut is = record {
   explained = is.explained;
 }
 
-pub content : (asked : Bool) (before now : Option (List ℕ)) (text : List ℕ) (answer : Answer)
+pub content : (asked : Bool) (before now : Option (List ℕ)) (text : List ℕ) (answer : Judgement)
     → TakesUpTo (longest_input + 1) before now text → IsChecked asked text answer → ReadsInput asked before now (Ok answer)
 content asked None now text answer read is = tt
 content asked (Some bytes) now text answer read is =
@@ -85,7 +85,7 @@ pub refused : (asked : Bool) (before now : Option (List ℕ)) (text : List ℕ) 
 refused asked None now text fault read few states = record { input = text; within = few; fails = states }
 refused asked (Some bytes) now text fault read few states = (of_all bytes text (Err fault) read.0 states, read.1)
 
-pub said : (asked : Bool) (before now : Option (List ℕ)) (text : List ℕ) (answer : Answer)
+pub said : (asked : Bool) (before now : Option (List ℕ)) (text : List ℕ) (answer : Judgement)
     → TakesUpTo (longest_input + 1) before now text → IsChecked asked text answer → IsSaid asked before answer
 said asked None now text answer read is = record { input = text; as_told = tt; checked = is }
 said asked (Some bytes) now text answer read is =

@@ -9,7 +9,7 @@ use Rattle.log_check.specs.declared.why.DueThen.{DueThen}
 use Rattle.log_check.specs.declared.why.DueThen.TheVariants as dues
 use Rattle.log_check.specs.declared.why.Undue.{Undue}
 use Rattle.log_text.specs.Rows.{entry_text}
-use Rattle.irq_check.specs.declared.answers.Answer.{Answer}
+use Rattle.irq_check.specs.declared.answers.Judgement.{Judgement}
 
 abbrev pub verdict_text : Verdict → List ℕ
 verdict_text verdicts.Lawful = codes "lawful\n"
@@ -43,5 +43,5 @@ abbrev pub rest_text : Verdict → Option Undue → List ℕ
 rest_text (verdicts.Unlawful line entry) (Some undue) = why_text line undue
 rest_text verdict why = []
 
-abbrev pub answer_text : Answer → List ℕ
+abbrev pub answer_text : Judgement → List ℕ
 answer_text answer = verdict_text answer.verdict ++ rest_text answer.verdict answer.why

@@ -18,7 +18,7 @@ use Rattle.log_read.specs.LogOf.{IsRowOn, LineEntry, rows_of, saying}
 use Rattle.board_text.specs.declared.reading.BoardRefused.{BoardRefused}
 use Rattle.board_text.specs.declared.reading.BoardRefused.TheVariants as refusals
 use Rattle.irq_check.specs.Parts.{parts_of}
-use Rattle.irq_check.specs.declared.answers.Answer.{Answer}
+use Rattle.irq_check.specs.declared.answers.Judgement.{Judgement}
 
 -- the most bytes of an input
 abbrev pub longest_input : ℕ
@@ -57,17 +57,17 @@ IsReason board log (verdicts.Unlawful line entry) None = ⊥
 IsReason board log verdict why = why ≡ None
 
 -- the reason is said if it was asked
-abbrev pub IsExplained : BoardSeen → List ℕ → (asked : Bool) → Answer → Type 0
+abbrev pub IsExplained : BoardSeen → List ℕ → (asked : Bool) → Judgement → Type 0
 IsExplained board log true answer = IsReason board log answer.verdict answer.why
 IsExplained board log false answer = answer.why ≡ None
 
 -- what was due in place of the entry that wasn't has a row
-abbrev pub IsPrintableAnswer : Answer → Type 0
+abbrev pub IsPrintableAnswer : Judgement → Type 0
 IsPrintableAnswer answer = IfSome answer.why (λ undue. IsPrintableDue undue.due)
 
 -- the input states a board and a log of it, and this is the judgement of the log; `asked`: with the
 -- reason
-pub record IsChecked (asked : Bool) (input : List ℕ) (answer : Answer) : Type 0 where
+pub record IsChecked (asked : Bool) (input : List ℕ) (answer : Judgement) : Type 0 where
   pub board : BoardSeen
   pub log : List ℕ
   pub states : checked input ≡ Ok (board, log)
@@ -75,7 +75,7 @@ pub record IsChecked (asked : Bool) (input : List ℕ) (answer : Answer) : Type 
   pub explained : IsExplained board log asked answer
 
 -- the answer to an input: its judgement, or its first fault; memory may be refused
-abbrev pub Checks : (asked : Bool) → List ℕ → Result Answer BoardRefused → Type 0
+abbrev pub Checks : (asked : Bool) → List ℕ → Result Judgement BoardRefused → Type 0
 Checks asked input (Ok answer) = IsChecked asked input answer
 Checks asked input (Err (refusals.Fault fault)) = checked input ≡ Err fault
 Checks asked input (Err refusals.NoMemory) = Unit {0}

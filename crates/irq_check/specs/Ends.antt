@@ -9,7 +9,7 @@ use Rattle.program_io.specs.declared.inputs.InputRefused.{InputRefused}
 use Rattle.program_io.specs.declared.inputs.InputRefused.TheVariants as refusals
 use Rattle.irq_check.specs.declared.printing.CheckEnd.{CheckEnd}
 use Rattle.irq_check.specs.declared.printing.CheckEnd.TheVariants as ends
-use Rattle.irq_check.specs.declared.answers.Answer.{Answer}
+use Rattle.irq_check.specs.declared.answers.Judgement.{Judgement}
 use Rattle.irq_check.specs.AnswerText.{answer_text}
 use Rattle.irq_check.specs.Checked.{IsChecked, checked, longest_input}
 
@@ -19,13 +19,13 @@ abbrev pub left_after : List ℕ → List ℕ
 left_after bytes = drop (longest_input + 1) bytes
 
 -- the answer is the judgement of an input, and the input is what the source told
-pub record IsSaid (asked : Bool) (told : Option (List ℕ)) (answer : Answer) : Type 0 where
+pub record IsSaid (asked : Bool) (told : Option (List ℕ)) (answer : Judgement) : Type 0 where
   pub input : List ℕ
   pub as_told : IsTold told input
   pub checked : IsChecked asked input answer
 
 -- whether reading an input met a read fault
-abbrev pub is_read_fault : Result Answer InputRefused → Bool
+abbrev pub is_read_fault : Result Judgement InputRefused → Bool
 is_read_fault (Err refusals.ReadFault) = true
 is_read_fault _ = false
 
@@ -39,7 +39,7 @@ pub record HasFault (fault : BoardFault) : Type 0 where
 -- judgement; or they were read to their end or one byte past the longest input, and the answer is
 -- their fault. If it doesn't tell, a fault is still that of some bytes that can have been read.
 abbrev pub ReadsInput : (asked : Bool) → Option (List ℕ) → Option (List ℕ)
-    → Result Answer InputRefused → Type 0
+    → Result Judgement InputRefused → Type 0
 ReadsInput asked (Some bytes) now (Ok answer) = IsChecked asked bytes answer × (now ≡ Some [])
 ReadsInput asked (Some bytes) now (Err (refusals.Fault fault)) =
     (checked bytes ≡ Err fault) × (now ≡ Some (left_after bytes))
@@ -51,7 +51,7 @@ abbrev pub Reads : (asked : Bool) → Option (List ℕ) → Option (List ℕ) �
 Reads asked (Some bytes) now (ends.Answered answer) =
     IsChecked asked bytes answer × (now ≡ Some [])
 Reads asked (Some bytes) now ends.WriteFault =
-    ((answer : Answer) × IsChecked asked bytes answer) × (now ≡ Some [])
+    ((answer : Judgement) × IsChecked asked bytes answer) × (now ≡ Some [])
 Reads asked (Some bytes) now (ends.Fault fault) =
     (checked bytes ≡ Err fault) × (now ≡ Some (left_after bytes))
 Reads asked None now (ends.Fault fault) = HasFault fault
@@ -64,7 +64,7 @@ abbrev pub SaysOrNot : (asked : Bool) → Option (List ℕ) → Option (List ℕ
 SaysOrNot asked told before now (ends.Answered answer) =
     IsSaid asked told answer × WritesAll before now (answer_text answer) writes.Done
 SaysOrNot asked told before now ends.WriteFault =
-    (answer : Answer) × IsSaid asked told answer
+    (answer : Judgement) × IsSaid asked told answer
     × WritesAll before now (answer_text answer) writes.Failed
 SaysOrNot asked told before now _ = Unit {0}
 

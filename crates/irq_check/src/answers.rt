@@ -12,7 +12,7 @@ use text_row::TextRow;
 
 /// What is answered of an input.
 #[derive(Clone, Copy)]
-pub struct Answer {
+pub struct Judgement {
     /// The verdict on the log.
     pub verdict: Verdict,
     /// Why it is unlawful, if that was asked and it is.
@@ -20,7 +20,7 @@ pub struct Answer {
 }
 
 /// Writes the rows that say the answer. What the row held before is gone.
-pub fn answer_row(row: &mut TextRow, answer: Answer)
+pub fn answer_row(row: &mut TextRow, answer: Judgement)
     requires { IsPrintableAnswer answer }
     ensures { row.new ≡ answer_text answer }
 {

@@ -4,7 +4,7 @@ ghost use Rattle.board_stated.specs.TextOf.{whole};
 ghost use Rattle.irq_check.specs.Checked.{Checks, IsExplained, IsPrintableAnswer};
 ghost use Rattle.log_check.specs.Verdicts.{ChecksLog};
 
-use crate::answers::Answer;
+use crate::answers::Judgement;
 use crate::parts::cut_input;
 use board_def::Board;
 use board_layout::lay;
@@ -29,7 +29,7 @@ pub fn check_bytes<M: MakesDomainLine>(
     bytes: &[u8],
     why: bool,
     maker: &M,
-) -> Result<Answer, BoardRefused>
+) -> Result<Judgement, BoardRefused>
     ensures exact { Checks why bytes.now result }
     ensures printable { IfOk result IsPrintableAnswer }
 {
@@ -61,7 +61,7 @@ fn judge_log<M: MakesDomainLine>(
     log: &[u8],
     why: bool,
     maker: &M,
-) -> Result<Answer, NoMemory>
+) -> Result<Judgement, NoMemory>
     requires { length log.now ≤ 67108864 }
     ensures judged { IfOk result (λ answer. ChecksLog board.now log.now answer.verdict) }
     ensures explained { IfOk result (λ answer. IsExplained board.now log.now why answer) }
@@ -77,5 +77,5 @@ fn judge_log<M: MakesDomainLine>(
         }
         _ => None,
     };
-    Ok(Answer { verdict, why })
+    Ok(Judgement { verdict, why })
 }

@@ -4,7 +4,7 @@ ghost use Rattle.irq_io.specs.Faults.{Counts};
 ghost use Rattle.irq_check.specs.Checked.{IsPrintableAnswer};
 ghost use Rattle.irq_check.specs.Ends.{IsSaid, ReadsInput, is_read_fault};
 
-use crate::answers::Answer;
+use crate::answers::Judgement;
 use crate::checking::{LONGEST_INPUT, check_bytes};
 use board_text::BoardRefused;
 use irq_io::{ReadRefused, Source, read_up_to};
@@ -19,7 +19,7 @@ pub fn check_input<S: Source, M: MakesDomainLine>(
     why: bool,
     src: &mut S,
     maker: &M,
-) -> Result<Answer, InputRefused>
+) -> Result<Judgement, InputRefused>
     ensures content { ReadsInput why (S.left src.old) (S.left src.new) result }
     ensures said { IfOk result (λ answer. IsSaid why (S.left src.old) answer) }
     ensures printable { IfOk result IsPrintableAnswer }

@@ -15,7 +15,7 @@ mod laws;
 pub mod parts;
 pub mod printing;
 
-pub use answers::{Answer, answer_row};
+pub use answers::{Judgement, answer_row};
 pub use checking::{LONGEST_INPUT, check_bytes};
 pub use inputs::check_input;
 pub use laws::answer_is_one;

@@ -7,7 +7,7 @@ ghost use Rattle.irq_check.specs.Checked.{IsPrintableAnswer};
 ghost use Rattle.irq_check.specs.Ends.{Reads, SaysOrNot, is_answered, is_printing};
 ghost use Rattle.irq_check.specs.Ends.{is_read_fault_end, is_write_fault_end};
 
-use crate::answers::{Answer, answer_row};
+use crate::answers::{Judgement, answer_row};
 use crate::inputs::check_input;
 use board_text::BoardFault;
 use irq_io::{FlushAnswer, Sink, Source, WriteEnd, write_all};
@@ -20,7 +20,7 @@ use text_row::TextRow;
 #[derive(Clone, Copy)]
 pub enum CheckEnd {
     /// The input was judged, and all rows of the answer are printed.
-    Answered(Answer),
+    Answered(Judgement),
     /// The input has this as its first fault.
     Fault(BoardFault),
     /// A read failed.
@@ -59,7 +59,7 @@ pub fn check_and_print<S: Source, O: Sink, M: MakesDomainLine>(
 }
 
 /// Prints the answer's rows, and hands them on.
-fn print_answer<O: Sink>(out: &mut O, answer: Answer) -> WriteEnd
+fn print_answer<O: Sink>(out: &mut O, answer: Judgement) -> WriteEnd
     requires { IsPrintableAnswer answer }
     ensures content { WritesAll (O.written out.old) (O.written out.new)
         (answer_text answer) result }

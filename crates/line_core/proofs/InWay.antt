@@ -1,5 +1,6 @@
 -- What stands in the way of an actor is what the state says.
-use Rattle.std.proofs.Common.{◌≡◌, ℕ, Bool, true, false, not, ◌||◌, ◌&&◌, cond, is_some, Option, Some, None, List, [], ◌∷◌, option_map, refl, sym, ap, reverse, ◌∙◌}
+use Rattle.std.proofs.Common.{◌≡◌, ℕ, ◌-◌, ◌≤◌, drop, arith, Bool, true, false, not, ◌||◌, ◌&&◌, cond, is_some, Option, Some, None, List, [], ◌∷◌, option_map, refl, sym, ap, reverse, ◌∙◌}
+use Rattle.std.specs.List.{slice_get}
 use Rattle.irq_base.specs.declared.calls.Call.{Call}
 use Rattle.irq_base.specs.declared.devices.DeviceDef.{DeviceDef}
 use Rattle.irq_base.specs.declared.entries.Actor.TheVariants as actors
@@ -13,6 +14,7 @@ use Rattle.irq_base.specs.declared.waiting.WaitFor.TheVariants as waits
 use Rattle.irq_laws.specs.Blocks.{block_of}
 use Rattle.irq_laws.specs.Kept.{freeing}
 use Rattle.irq_line.specs.Seen.{LineSeen}
+use Rattle.irq_model.proofs.Lists.{next_item}
 use Rattle.irq_model.specs.Legal.{IsLegalPast}
 use Rattle.irq_model.specs.Lines.{has_device}
 use Rattle.irq_model.specs.Masks.{is_masked}
@@ -64,6 +66,26 @@ staged s d woken held true true false = over _ _ s.desc.oneshot s.desc.flow
 staged s d woken held true true true = refl
 
 -- ---- the lowest of some devices
+
+-- of the devices from one place further in front
+module _ (f : DevNo → Bool) (xs : List DeviceDef) (place : ℕ) (x : DeviceDef) (some : 1 ≤ place)
+    (at : slice_get xs (place - 1) ≡ Some x) where
+  before : drop (place - 1) xs ≡ x ∷ drop place xs
+  before = next_item xs (place - 1) x at ∙ ap (λ n. x ∷ drop n xs) (omega (arith, some))
+
+  by_device : (b : Bool) → f x.dev ≡ b
+      → cond b (Some (lower x.dev (lowest_that f (drop place xs)))) (lowest_that f (drop place xs)) ≡ lowest_that f (drop (place - 1) xs)
+  by_device b is =
+      ap (λ t. cond t (Some (lower x.dev (lowest_that f (drop place xs)))) (lowest_that f (drop place xs))) (sym is)
+      ∙ ap (lowest_that f) (sym before)
+
+  pub lowest_more : (o : Option DevNo) → o ≡ lowest_that f (drop place xs) → f x.dev ≡ true
+      → Some (lower x.dev o) ≡ lowest_that f (drop (place - 1) xs)
+  lowest_more o so is = ap (λ l. Some (lower x.dev l)) so ∙ by_device true is
+
+  pub lowest_same : (o : Option DevNo) → o ≡ lowest_that f (drop place xs) → f x.dev ≡ false
+      → o ≡ lowest_that f (drop (place - 1) xs)
+  lowest_same o so is = so ∙ by_device false is
 
 alike : (f g : DevNo → Bool) → ((d : DevNo) → f d ≡ g d) → (xs : List DeviceDef)
     → lowest_that f xs ≡ lowest_that g xs

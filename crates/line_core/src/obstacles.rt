@@ -16,10 +16,10 @@ impl<C: Chip + Drop> TellsObstacles for Line<C> {
         match actor {
             Actor::Cpu(cpu) => of_cpu(&self.state, cpu),
             Actor::Thread(dev) => of_thread(&self.state, dev),
-            Actor::Driver(driver) => {
-                let (call, made) = self.scripts.due(driver)?;
-                of_wait(&self.state, &self.def.devices, wait_of(call, made))
-            }
+            Actor::Driver(driver) => match self.scripts.due(driver) {
+                Some((call, made)) => of_wait(&self.state, &self.def.devices, wait_of(call, made)),
+                None => None,
+            },
         }
     }
 }
