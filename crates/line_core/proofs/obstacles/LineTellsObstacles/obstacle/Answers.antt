@@ -23,20 +23,20 @@ returns-in-Thread g c =
     (subst (λ (a : Actor). c.of_thread.result ≡ obstacle_of line a) (sym c.in-Thread.is)
     (c.of_thread.ensures ∙ thread_told line c.self.inside.state.state c.self.inside.scripts c.self.invariant c.in-Thread.dev))
 
-pub returns-in-Some-in-Driver : goal.returns-in-Some-in-Driver
-returns-in-Some-in-Driver g c =
+pub returns-in-Some : goal.returns-in-Some
+returns-in-Some g c =
     let line : LineSeen = line_of c.self.inside.def c.self.inside.history in
-    let due = sym c.due.ensures ∙ c.in-Some-in-Driver.is in
+    let due = sym c.due.ensures ∙ c.in-Some.is in
     subst (λ (w : WiredSeen). c.of_wait.result ≡ obstacle_of w.line c.args.actor) c.self.view_is
     (subst (λ (a : Actor). c.of_wait.result ≡ obstacle_of line a) (sym c.in-Driver.is)
     (c.of_wait.ensures ∙ (ap (by_wait c.self.inside.state.state c.self.inside.def.devices) c.wait_of.ensures
     ∙ wait_told line c.self.inside.state.state c.self.inside.scripts c.self.invariant c.in-Driver.driver
-    c.in-Some-in-Driver.call c.in-Some-in-Driver.made due)))
+    c.in-Some.call c.in-Some.made due)))
 
-pub returns-in-None-in-Driver : goal.returns-in-None-in-Driver
-returns-in-None-in-Driver g c =
+pub returns-in-None : goal.returns-in-None
+returns-in-None g c =
     let line : LineSeen = line_of c.self.inside.def c.self.inside.history in
-    let none = sym c.due.ensures ∙ c.in-None-in-Driver.is in
+    let none = sym c.due.ensures ∙ c.in-None.is in
     subst (λ (w : WiredSeen). None ≡ obstacle_of w.line c.args.actor) c.self.view_is
     (subst (λ (a : Actor). None ≡ obstacle_of line a) (sym c.in-Driver.is)
     (no_call_in_way line c.self.inside.state.state c.self.inside.scripts c.self.invariant c.in-Driver.driver none))
