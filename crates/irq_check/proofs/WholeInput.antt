@@ -78,10 +78,10 @@ content (Some bytes) now text answer read is =
     (all, read.1 ∙ ap Some (drop_all (longest_input + 1) bytes (omega (arith, short bytes (all.board, all.log) all.states))))
 
 pub refused : (before now : Option (List ℕ)) (text : List ℕ) (fault : BoardFault)
-    → TakesUpTo (longest_input + 1) before now text → checked text ≡ Err fault
+    → TakesUpTo (longest_input + 1) before now text → length text ≤ longest_input + 1 → checked text ≡ Err fault
     → ReadsInput before now (Err (refusals.Fault fault))
-refused None now text fault read states = tt
-refused (Some bytes) now text fault read states = (of_all bytes text (Err fault) read.0 states, read.1)
+refused None now text fault read within states = record { input = text; within = within; fails = states }
+refused (Some bytes) now text fault read within states = (of_all bytes text (Err fault) read.0 states, read.1)
 
 pub said : (before now : Option (List ℕ)) (text : List ℕ) (answer : Verdict)
     → TakesUpTo (longest_input + 1) before now text → IsChecked text answer → IsSaid before answer

@@ -1,6 +1,7 @@
 -- How a check ends: what was read, and what the output gained.
-use Rattle.std.specs.Prelude.{◌≡◌, ℕ, ◌+◌, Bool, true, false, Option, Some, List, [], drop}
-use Rattle.std.specs.Prelude.{Result, Ok, Err}
+use Rattle.std.specs.Prelude.{◌≡◌, ℕ, ◌+◌, ◌≤◌, Bool, true, false, Option, Some, None, List, []}
+use Rattle.std.specs.Prelude.{Result, Ok, Err, drop, length}
+use Rattle.board_words.specs.declared.faults.BoardFault.{BoardFault}
 use Rattle.irq_io.specs.Told.{IsTold}
 use Rattle.irq_io.specs.Whole.{WritesAll}
 use Rattle.irq_io.specs.declared.whole.WriteEnd.TheVariants as writes
@@ -28,13 +29,20 @@ abbrev pub is_read_fault : Result Verdict InputRefused → Bool
 is_read_fault (Err refusals.ReadFault) = true
 is_read_fault _ = false
 
--- if the source tells what is left: the bytes were read to their end, and the answer is their
+-- bytes, at most one more than the longest input has, with this first fault
+pub record HasFault (fault : BoardFault) : Type 0 where
+  pub input : List ℕ
+  pub within : length input ≤ longest_input + 1
+  pub fails : checked input ≡ Err fault
+
+-- If the source tells what is left: the bytes were read to their end, and the answer is their
 -- judgement; or they were read to their end or one byte past the longest input, and the answer is
--- their fault
+-- their fault. If it doesn't tell, a fault is still that of some bytes that can have been read.
 abbrev pub ReadsInput : Option (List ℕ) → Option (List ℕ) → Result Verdict InputRefused → Type 0
 ReadsInput (Some bytes) now (Ok answer) = IsChecked bytes answer × (now ≡ Some [])
 ReadsInput (Some bytes) now (Err (refusals.Fault fault)) =
     (checked bytes ≡ Err fault) × (now ≡ Some (left_after bytes))
+ReadsInput None now (Err (refusals.Fault fault)) = HasFault fault
 ReadsInput _ _ _ = Unit {0}
 
 -- what the whole call read, by how it ended
@@ -44,6 +52,7 @@ Reads (Some bytes) now ends.WriteFault =
     ((answer : Verdict) × IsChecked bytes answer) × (now ≡ Some [])
 Reads (Some bytes) now (ends.Fault fault) =
     (checked bytes ≡ Err fault) × (now ≡ Some (left_after bytes))
+Reads None now (ends.Fault fault) = HasFault fault
 Reads _ _ _ = Unit {0}
 
 -- the output gained the whole row with the judgement of the input; after a fault of the output a
