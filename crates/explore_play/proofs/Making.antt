@@ -16,11 +16,11 @@ use Rattle.board_play.proofs.Moving.{lines_more}
 use Rattle.board_core.specs.Playing.{IsFresh}
 use Rattle.board_core.specs.Seen.{SystemSeen, board_lines}
 use Rattle.board_core.specs.Turns.{move_of, Moves, Turns}
-use Rattle.board_core.specs.Runs.{runs_by_move, runs_by_turn, runs_of}
+use Rattle.board_core.specs.Runs.{runs_by_turn, runs_of}
 use Rattle.board_core.specs.declared.turns.Turn.{Turn}
 use Rattle.board_core.specs.declared.turns.Turn.TheVariants as turns
 use Rattle.board_core.proofs.Underway.{part_in}
-use Rattle.callbacks.proofs.Calls.{heard_more}
+use Rattle.board_core.proofs.Hearing.{heard_turned, step_of_turn}
 use Rattle.callbacks.specs.Heard.{Heard}
 use Rattle.explore_play.specs.Made.{ArePicked, IsHeardPlay, IsMade}
 
@@ -65,13 +65,6 @@ module _ (old new : SystemSeen) (picks : List Actor) (a : Actor) (line : LineNo)
       subst (λ (b : BoardSeen). ArePicked b (a ∷ reverse picks) (reverse new.log)) (sym moves.board)
       (subst (λ (h : List Move). ArePicked old.board (a ∷ reverse picks) h) (sym log) all)
 
-  -- the run that it ends is one more
-  runs_more : runs_of new.board (reverse new.log) ≡ runs_by_move (board_lines old.lines) (of, e) ++ runs_of old.board (reverse old.log)
-  runs_more =
-      ap (λ (b : BoardSeen). runs_of b (reverse new.log)) moves.board
-      ∙ (ap (λ (h : List Move). runs_of old.board h) log
-      ∙ ap (λ (ls : List BoardLine). runs_by_move ls (of, e) ++ runs_of old.board (reverse old.log)) (sym made.lines))
-
   module _ (after : List Actor) (pushed : after ≡ picks ++ a ∷ []) where
     picked : ArePicked new.board (reverse after) (reverse new.log)
     picked =
@@ -100,33 +93,35 @@ module _ (old new : SystemSeen) (picks : List Actor) (a : Actor) (line : LineNo)
 
 -- ---- the runs that the moves ended were heard
 
--- nothing has moved, and nothing was heard
-pub none_heard : {H : Type 0} (hears : H → Run → H → Type 0) (s : SystemSeen) (h : H) → IsFresh s
-    → Heard hears (runs_of s.board (reverse s.log)) h h
-none_heard hears s h fresh = subst (λ (g : List Move). Heard hears (runs_of s.board (reverse g)) h h) (sym fresh.log) refl
-
 module _ {H : Type 0} (hears : H → Run → H → Type 0) (first before : H) (old : SystemSeen) (picks : List Actor) (line : LineNo) (es : List Entry)
     (made : IsMade old picks line es) (so_far : Heard hears (runs_of old.board (reverse old.log)) first before) where
   pub heard_now : IsHeardPlay old.board (λ (runs : List Run). Heard hears runs first before) (reverse old.log)
   heard_now = record { picks = reverse picks; picked = made.picked; runs = so_far }
 
   module _ (after : H) (new : SystemSeen) where
-    abbrev IsHeardNow : SystemSeen → H → Type 0
-    IsHeardNow s h = IsHeardPlay s.board (λ (runs : List Run). Heard hears runs first h) (reverse s.log)
+    abbrev IsHeardNow : Type 0
+    IsHeardNow = IsHeardPlay new.board (λ (runs : List Run). Heard hears runs first after) (reverse new.log)
 
-    still : new ≡ old → before ≡ after → IsHeardNow new after
-    still same none = subst (λ (s : SystemSeen). IsHeardNow s after) (sym same) (subst (λ (h : H). IsHeardNow old h) none heard_now)
+    still : Heard hears (runs_of new.board (reverse new.log)) first after → new ≡ old → IsHeardNow
+    still runs same = record {
+      picks = reverse picks;
+      picked = subst (λ (s : SystemSeen). ArePicked s.board (reverse picks) (reverse s.log)) (sym same) made.picked;
+      runs = runs;
+    }
 
-    pub heard_after : (a : Actor) (t : Turn) → Turns old a t new → Heard hears (runs_by_turn old t) before after → IsHeardNow new after
-    heard_after a (turns.Moved of e) moves heard = record {
+    by_turn : (a : Actor) (t : Turn) → Turns old a t new → Heard hears (runs_of new.board (reverse new.log)) first after → IsHeardNow
+    by_turn a (turns.Moved of e) moves runs = record {
       picks = a ∷ reverse picks;
       picked = picked_more old new picks a line es of e made moves;
-      runs = subst (λ (runs : List Run). Heard hears runs first after) (sym (runs_more old new picks a line es of e made moves))
-          (heard_more hears (runs_by_move (board_lines old.lines) (of, e)) (runs_of old.board (reverse old.log)) first before after so_far heard);
+      runs = runs;
     }
-    heard_after a turns.NotYet turn heard = still turn.1 heard
-    heard_after a (turns.Full of len) turn heard = still turn.1 heard
-    heard_after a turns.NoMemory turn heard = still turn.1 heard
+    by_turn a turns.NotYet turn runs = still runs turn.1
+    by_turn a (turns.Full of len) turn runs = still runs turn.1
+    by_turn a turns.NoMemory turn runs = still runs turn.1
+
+    pub heard_after : (a : Actor) (t : Turn) → Turns old a t new → Heard hears (runs_by_turn old t) before after → IsHeardNow
+    heard_after a t turn heard =
+        by_turn a t turn (heard_turned hears old new (move_of old a) t (step_of_turn old new a t turn) made.lines first before after so_far heard)
 
 -- ---- put in place of the board's picks, they make each play begin with these moves
 
