@@ -55,7 +55,7 @@ pub fn explain_log<L: TellsObstacles, M: MakesLine<L>>(
     requires layout { layout.now ≡ layout_of board.now }
     requires makes { MakesEach (M.makes maker.now) board.now }
     requires few { length log.now ≤ 67108864 }
-    ensures { (place : ℕ) (row : LineRow) (said : List LineEntry)
+    ensures explains { (place : ℕ) (row : LineRow) (said : List LineEntry)
         → slice_get board.now.lines place ≡ Some row → row.line ≡ number
         → AllZip (IsRowOn board.now.lines) (saying (rows_of log.now)) said
         → IfOk result (Explains (part_at board.now row place) number (rows_of log.now) said) }
@@ -83,7 +83,7 @@ fn find_undue<L: TellsObstacles>(
 ) -> Result<Option<Undue>, NoMemory>
     requires new { IsNew (option_map L.seen fresh) }
     requires few { length log.now ≤ 67108864 }
-    ensures { (part : Option LineDef) (lines : List LineRow) (said : List LineEntry)
+    ensures explains { (part : Option LineDef) (lines : List LineRow) (said : List LineEntry)
         → Stands part (option_map L.seen fresh) None []
         → AllZip (IsRowOn lines) (saying (rows_of log.now)) said
         → IfOk result (Explains part number (rows_of log.now) said) }
