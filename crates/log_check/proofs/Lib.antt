@@ -7,4 +7,4 @@ mod Eights
 mod Lines
 mod WholeLog
 mod NewJudges
-pub mod Undue
+pub mod OneUndue

@@ -1,6 +1,6 @@
 use Rattle.std.proofs.Common.{length}
 use Rattle.std.specs.Option.{option_map}
-use Rattle.log_check.proofs.Undue.{IsRead}
+use Rattle.log_check.proofs.OneUndue.{IsRead}
 use Rattle.log_check.proofs.why.find_undue.Given as goal
 
 -- the rows so far are read
