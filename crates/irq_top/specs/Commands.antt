@@ -19,8 +19,8 @@ use Rattle.board_words.specs.declared.faults.FaultKind.{FaultKind}
 use Rattle.board_words.specs.declared.faults.FaultKind.TheVariants as faults
 use Rattle.chained_play.specs.Played as chains
 use Rattle.chained_play.specs.Played.{ChainsBoard}
-use Rattle.hotplug_plan.specs.Planned.{IsForHotplug, planned_after}
-use Rattle.hotplug_play.specs.Played.{HotplugsBoard}
+use Rattle.hotplug_plan.specs.Planned.{IsForHotplug}
+use Rattle.hotplug_play.specs.Played.{HotplugsBoard, planned_after}
 use Rattle.irq_chained.specs.Fits.{is_for_chain}
 use Rattle.irq_hotplug.specs.declared.events.Event.{Event}
 use Rattle.irq_check.specs.Ends.{Reads, SaysOrNot}

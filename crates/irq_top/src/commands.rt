@@ -1,7 +1,7 @@
 //! What each command does, apart from the row on the error sink.
 ghost use Rattle.std.specs.Prelude.{◌≡◌, ◌≤◌, [], false, length, true};
 ghost use Rattle.callbacks.specs.Heard.{Heard};
-ghost use Rattle.hotplug_plan.specs.Planned.{planned_after};
+ghost use Rattle.hotplug_play.specs.Played.{planned_after};
 ghost use Rattle.irq_play.specs.Played.{TellsStep};
 ghost use Rattle.notifiers.specs.Told.{Told};
 ghost use Rattle.board_gen.specs.Generated.{generated};

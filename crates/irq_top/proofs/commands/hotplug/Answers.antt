@@ -1,7 +1,7 @@
 use Rattle.std.proofs.Common.{Bool, sym, subst}
 use Rattle.board_def.specs.Seen.{BoardSeen}
 use Rattle.callbacks.specs.Heard.{Heard}
-use Rattle.hotplug_plan.specs.Planned.{planned_after}
+use Rattle.hotplug_play.specs.Played.{planned_after}
 use Rattle.irq_io.specs.Faults.{Counts}
 use Rattle.irq_play.specs.Played.{TellsStep}
 use Rattle.irq_top.proofs.Outcomes.{hotplugs_are_sane, taken_tells, taken_unread, takes_board}

@@ -1,8 +1,8 @@
 use Rattle.board_def.specs.Seen.{BoardSeen}
 use Rattle.board_words.specs.declared.faults.FaultKind.TheVariants as faults
 use Rattle.callbacks.specs.Heard.{Heard}
-use Rattle.hotplug_plan.specs.Planned.{IsForHotplug, planned_after}
-use Rattle.hotplug_play.specs.Played.{HotplugsBoard}
+use Rattle.hotplug_plan.specs.Planned.{IsForHotplug}
+use Rattle.hotplug_play.specs.Played.{HotplugsBoard, planned_after}
 use Rattle.irq_play.specs.Played.{TellsStep}
 use Rattle.irq_top.proofs.Outcomes.{ends_as_played, tells_as_played}
 use Rattle.irq_top.specs.Commands.{CallsNobody}
