@@ -19,7 +19,7 @@ use Rattle.log_check.specs.JudgeSeen.{JudgeSeen}
 use Rattle.log_check.specs.Judging.{HaveJudged, IsMade, MakesEach, MakesFor, Stands, most, part_at, part_of}
 use Rattle.log_check.proofs.Lines.{get_set_other, get_there, there}
 
-new_stands : (b : BoardSeen) (row : LineRow) (placement : Option Placement) (line : Option LineSeen)
+pub new_stands : (b : BoardSeen) (row : LineRow) (placement : Option Placement) (line : Option LineSeen)
     → IsMade (line_of_row b row) placement line → Stands (part_of b row placement) line None []
 new_stands b row (Some (placements.Mapped virq path)) (Some line) made = (tt, made.0, made.1)
 new_stands b row (Some (placements.Mapped virq path)) None made = absurd made
@@ -67,7 +67,7 @@ one_made_more b n old judge row made atl own = record {
 module _ (b : BoardSeen) (defs : List LineDef) (i : ℕ) (d : LineDef) (within : i < length defs)
     (many : length defs ≡ length (line_defs_of b)) (left : slice_get defs i ≡ slice_get (line_defs_of b) i)
     (value : d ≡ get_or defs i d) where
-  row_of : (row : LineRow) × (slice_get b.lines i ≡ Some row) × (d ≡ line_of_row b row)
+  pub row_of : (row : LineRow) × (slice_get b.lines i ≡ Some row) × (d ≡ line_of_row b row)
   row_of =
       let as_many : length (line_defs_of b) ≡ length b.lines = length-map b.lines (line_of_row b) in
       let row = get_there b.lines i (omega (arith, within, many, as_many)) in

@@ -1,33 +1,66 @@
 -- What the rows of a log say of one line, and which of its entries is the first that wasn't due.
 use Rattle.std.proofs.Common.{◌≡◌, ◌⊎◌, inl, inr, ℕ, zero, suc, ◌+◌, ◌-◌, ◌<◌, ◌≤◌, Bool, true, false, not, cond, eqb}
-use Rattle.std.proofs.Common.{IfSome, Option, Some, None, List, [], ◌∷◌, ◌++◌, length, take, drop, map, reverse, refl, sym, ap, subst, ◌∙◌, arith, length-append}
+use Rattle.std.proofs.Common.{IfSome, Option, Some, None, List, [], ◌∷◌, ◌++◌, length, take, drop, map, reverse, refl, sym, ap, subst, ◌∙◌, arith, length-append, eqb-true}
 use Rattle.std.specs.List.{AllZip, filter, slice_get}
-use Rattle.std.proofs.lemmas.Bool.{cases_eq}
-use Rattle.std.proofs.lemmas.List.{append-nil, append-assoc}
+use Rattle.std.specs.Option.{option_eq}
+use Rattle.std.proofs.lemmas.Bool.{cases_eq, false≢true}
+use Rattle.std.proofs.lemmas.Option.{same_Some, slice_get_within}
+use Rattle.std.proofs.lemmas.Bool.Decides.{nat_tests}
+use Rattle.std.proofs.lemmas.List.{append-nil, length-map, append_assoc}
 use Rattle.std.proofs.lemmas.List.Elements.{filter-append}
+use Rattle.board_def.specs.Layout.{layout_of}
+use Rattle.board_def.specs.LineOf.{line_defs_of, line_of_row}
+use Rattle.board_def.specs.Rules.{IsBoard, has_line}
+use Rattle.board_def.specs.Seen.{BoardSeen}
 use Rattle.board_def.specs.declared.rows.LineRow.{LineRow}
+use Rattle.domain_rules.specs.declared.layouts.Placement.{Placement}
+use Rattle.domain_rules.specs.declared.layouts.Placement.TheVariants as placements
+use Rattle.irq_base.proofs.SameEntries.{found_same}
 use Rattle.irq_base.specs.Who.{actor_of}
+use Rattle.irq_base.specs.contracts.entries.EntryPartialEq.TheImpl as entry_eq
 use Rattle.irq_base.specs.declared.entries.Actor.{Actor}
 use Rattle.irq_base.specs.declared.entries.Entry.{Entry}
 use Rattle.irq_base.specs.declared.lines.LineDef.{LineDef}
 use Rattle.irq_base.specs.declared.numbers.LineNo.{LineNo}
 use Rattle.irq_laws.specs.LogLimit.{with_log}
+use Rattle.irq_line.specs.Answers.{Adds}
 use Rattle.irq_line.specs.Seen.{LineSeen}
 use Rattle.irq_model.specs.Legal.{IsDue, IsLegal}
 use Rattle.irq_model.specs.Next.{next}
 use Rattle.line_obstacles.specs.Obstacles.{in_way}
 use Rattle.log_text.specs.Formed.{IsRowOf}
 use Rattle.log_text.proofs.RowLaws.{rows_tell}
+use Rattle.log_read.specs.Adding.{IsPlaceOf}
 use Rattle.log_read.specs.LogOf.{IsRowOn, LineEntry, entries_on, is_passed_over, is_whole, rows_of, saying}
-use Rattle.log_read.proofs.Telling.{all_taken, drop_next, get_drop, more_on, on_other, on_own, take_next, unended_row}
-use Rattle.log_check.specs.Judging.{HasRoom, Stands, most}
+use Rattle.log_read.proofs.Telling.{all_taken, drop_next, get_drop, more_on, on_other, on_own, other_line, present, take_next, unended_row}
+use Rattle.log_check.specs.Judged.{AddsDue}
+use Rattle.log_check.specs.Judging.{HasRoom, IsMade, Stands, most, part_at, part_of}
 use Rattle.log_check.specs.Why.{Explains, Finds, GrowsByOne, IsDueThen, IsLegalOf, IsNew, IsUndue, Tries, TriesIfOwn, TriesOn}
 use Rattle.log_check.specs.declared.why.DueThen.{DueThen}
 use Rattle.log_check.specs.declared.why.DueThen.TheVariants as dues
 use Rattle.log_check.specs.declared.why.Undue.{Undue}
+use Rattle.log_check.proofs.NewJudges.{new_stands}
 use Rattle.log_check.proofs.OneLine.{legal_more}
 
+
 -- ---- an entry of the line
+
+-- a step added the entry, or something else was due
+module _ (old new : LineSeen) (actor : Actor) (e : Entry) (own : actor ≡ actor_of e) (due : Option Entry) (adds : AddsDue old actor due new)
+    (t : Bool) (test : t ≡ option_eq (entry_eq.eq-value).it due (Some e)) where
+  pub was_due : t ≡ true → Tries old e None new
+  was_due same =
+      let added : Adds old actor e new = subst (λ (x : Option Entry). AddsDue old actor x new) ((found_same due e t test).0 same) adds in
+      let here : Adds old (actor_of e) e new = subst (λ (a : Actor). Adds old a e new) own added in
+      (here.due, here.def, here.entries)
+
+  pub wasnt_due : (other : Entry) → t ≡ false → due ≡ Some other → Tries old e (Some (dues.Entry other)) new
+  wasnt_due other differ is =
+      let added : Adds old actor other new = subst (λ (x : Option Entry). AddsDue old actor x new) is adds in
+      (
+        subst (λ (a : Actor). next old.def old.entries a ≡ Some other) own added.due,
+        λ same. false≢true (sym differ ∙ (found_same due e t test).1 (is ∙ ap Some same)),
+      )
 
 module _ (def : LineDef) (old : LineSeen) (es : List Entry) (e : Entry) (stands : Stands (Some def) (Some old) None es) where
   -- what is due of the line is due by the definition that the board gives it
@@ -83,12 +116,11 @@ saying_more rows row b is = filter-append says rows (row ∷ [])
     ∙ ap (λ t. saying rows ++ cond (not t) (row ∷ []) []) is
 
 equals : (n : ℕ) → eqb n n ≡ true
-equals zero = refl
-equals (suc n) = equals n
+equals n = grind (arith, nat_tests)
 
 differs : (l m : LineNo) → (l ≡ m → ⊥) → (b : Bool) → eqb l.0 m.0 ≡ b → b ≡ false
 differs l m h false is = refl
-differs l m h true is = absurd (h cc)
+differs l m h true is = absurd (h (ap (λ (n : ℕ). record { 0 = n }) (eqb-true l.0 m.0 is)))
 
 last_counted : {A B : Type 0} (xs : List A) (ys : List B) (x : A) (y : B) → length xs ≡ length ys → length (xs ++ x ∷ []) ≡ length (ys ++ y ∷ [])
 last_counted xs ys x y same = length-append xs (x ∷ []) ∙ (ap (λ n. n + 1) same ∙ sym (length-append ys (y ∷ [])))
@@ -153,7 +185,7 @@ module _ (lines : List LineRow) (part : Option LineDef) (number : LineNo) (rows 
         record {
           done = now.done ++ (of, e) ∷ [];
           left = told.rest;
-          said_is = now.said_is ∙ (ap (λ (l : List LineEntry). now.done ++ l) both ∙ sym (append-assoc now.done ((of, e) ∷ []) told.rest));
+          said_is = now.said_is ∙ (ap (λ (l : List LineEntry). now.done ++ l) both ∙ sym (append_assoc now.done ((of, e) ∷ []) told.rest));
           each = subst (λ (rs : List (List ℕ)). AllZip (IsRowOn lines) rs told.rest) rest_is told.each;
           many = ap length (more_by false unpassed) ∙ counted;
           stands = stands;
@@ -303,9 +335,57 @@ pub none_ended : (number : LineNo) (log rest : List ℕ) (n : ℕ) (fresh line :
 none_ended number log rest n fresh line now bare part lines said stands all =
     unended lines part number (rows_of log) n said line rest [] (sym now.left ∙ bare.0) (now.so_far part lines said stands all) bare.1
 
+is_nothing : (xs : List ℕ) → length xs ≡ 0 → xs ≡ []
+is_nothing [] none = refl
+is_nothing (x ∷ xs) none = absurd (omega (arith, none))
+
 pub none_undue : (number : LineNo) (log rest : List ℕ) (n : ℕ) (fresh line : Option LineSeen) → IsRead number log rest n fresh line
-    → rest ≡ []
+    → length rest ≡ 0
     → (part : Option LineDef) (lines : List LineRow) (said : List LineEntry) → Stands part fresh None []
     → AllZip (IsRowOn lines) (saying (rows_of log)) said → Explains part number (rows_of log) said None
 none_undue number log rest n fresh line now over part lines said stands all =
-    all_read lines part number (rows_of log) n said line (now.so_far part lines said stands all) (sym now.left ∙ ap rows_of over)
+    all_read lines part number (rows_of log) n said line (now.so_far part lines said stands all) (sym now.left ∙ ap rows_of (is_nothing rest over))
+
+-- ---- the line of a board
+
+pub made_new : (def : LineDef) (placement : Option Placement) (line : Option LineSeen) → IsMade def placement line → IsNew line
+made_new def placement None made = tt
+made_new def (Some (placements.Mapped virq path)) (Some line) made = (made.1, ap (λ (d : LineDef). d.log) made.0)
+made_new def (Some (placements.Refused why)) (Some line) made = cc
+made_new def None (Some line) made = cc
+
+-- no other line of the board has this number
+one_place : (b : BoardSeen) (board : IsBoard b) (number : LineNo) (place i : ℕ) (row x : LineRow) → slice_get b.lines place ≡ Some row
+    → row.line ≡ number → slice_get b.lines i ≡ Some x → x.line ≡ number → i ≡ place
+one_place b board number place i row x at of also is = by (cases_eq i place)
+  where
+    by : (i ≡ place) ⊎ (i ≡ place → ⊥) → i ≡ place
+    by (inl same) = same
+    by (inr differ) = absurd (false≢true (sym (other_line b i place x row board also at differ)
+        ∙ (ap (λ (l : LineNo). eqb row.line.0 l.0) (is ∙ sym of) ∙ equals row.line.0)))
+
+module _ (b : BoardSeen) (board : IsBoard b) (number : LineNo) (place : ℕ) (of : IsPlaceOf b.lines number place) where
+  pub within : (defs : List LineDef) → defs ≡ line_defs_of b → place < length defs
+  within defs is =
+      let inside = slice_get_within b.lines place of.0 of.1 in
+      omega (arith, inside, ap length is, length-map b.lines (line_of_row b))
+
+  -- what was made of its definition is the line of each row with the number
+  pub of_place : (d : LineDef) (row : (row : LineRow) × (slice_get b.lines place ≡ Some row) × (d ≡ line_of_row b row))
+      (layout : List Placement) (placement : Option Placement) (line : Option LineSeen)
+      → layout ≡ layout_of b → placement ≡ slice_get layout place → IsMade d placement line
+      → (i : ℕ) (x : LineRow) → slice_get b.lines i ≡ Some x → x.line ≡ number → Stands (part_at b x i) line None []
+  of_place d row layout placement line laid placed made i x also is =
+      let mine : of.0 ≡ row.0 = same_Some of.0 row.0 (sym of.1 ∙ row.1) in
+      let named : row.0.line ≡ number = ap (λ (r : LineRow). r.line) (sym mine) ∙ of.2 in
+      let here = one_place b board number place i row.0 x row.1 named also is in
+      let same : row.0 ≡ x = same_Some row.0 x (sym row.1 ∙ (ap (λ n. slice_get b.lines n) (sym here) ∙ also)) in
+      let now : IsMade (line_of_row b row.0) (slice_get (layout_of b) place) line =
+      subst (λ (p : Option Placement). IsMade (line_of_row b row.0) p line) (placed ∙ ap (λ (ps : List Placement). slice_get ps place) laid)
+      (subst (λ (y : LineDef). IsMade y placement line) row.2 made) in
+      subst (λ (r : LineRow). Stands (part_at b r i) line None []) same
+      (subst (λ n. Stands (part_at b row.0 n) line None []) (sym here) (new_stands b row.0 (slice_get (layout_of b) place) line now))
+
+pub unknown : (b : BoardSeen) (number : LineNo) (i : ℕ) (x : LineRow) → has_line b.lines number ≡ false → slice_get b.lines i ≡ Some x
+    → x.line ≡ number → ⊥
+unknown b number i x none at is = false≢true (sym none ∙ present b.lines number i (x, at, is))

@@ -155,8 +155,11 @@ fn due_then<L: TellsObstacles>(line: &mut L, entry: Entry) -> Result<Option<DueT
 {
     line.is_sound();
     let actor = entry.actor();
-    match step(line, actor)? {
-        Some(due) if due == entry => Ok(None),
+    let due = step(line, actor)?;
+    if due == Some(entry) {
+        return Ok(None);
+    }
+    match due {
         Some(due) => Ok(Some(DueThen::Entry(due))),
         None => Ok(Some(DueThen::Nothing(line.obstacle(actor)))),
     }
