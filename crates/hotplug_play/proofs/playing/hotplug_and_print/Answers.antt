@@ -16,7 +16,7 @@ returns-clause-plays g c =
     record {
       plays = c.play_plan.ensures.plays b c.args.vectors es c.in-Ok.ensures.plan;
       placings = all_told told b c.args.vectors es c.play_plan.result.end
-          (of_all told b c.args.vectors es c.in-Ok.field-0.fleet c.in-Ok.ensures.plan.fleet c.in-Ok.ensures.told);
+          (of_all told b c.args.vectors es c.in-Ok.plan.fleet c.in-Ok.ensures.plan.fleet c.in-Ok.ensures.told);
     }
 
 pub returns-clause-step : goal.returns-clause-step
