@@ -1,5 +1,5 @@
 -- Which placings were told.
-use Rattle.std.proofs.Common.{◌≡◌, ℕ, ◌⊎◌, inl, inr, List, [], OnErr, Result, Ok, Err, sym, ap, ◌∙◌, subst}
+use Rattle.std.proofs.Common.{◌≡◌, ℕ, inl, List, [], OnErr, Result, Ok, Err, sym, ap, ◌∙◌, subst}
 use Rattle.std.proofs.lemmas.List.{append-nil}
 use Rattle.board_def.specs.Seen.{BoardSeen}
 use Rattle.irq_hotplug.specs.Fleet.{FleetSeen, IsAfterSome, after_events, first_fleet, fleet_after}
@@ -36,10 +36,6 @@ module _ (told : List Notice → Type 0) (b : BoardSeen) (vectors : ℕ) (es : L
   all_told (ends.LogFull line len) all = all
   all_told (ends.NoMemory wants.Step) all = all
   all_told (ends.NoMemory wants.Making) all = inl (up_to_all all)
-
-  -- memory was refused before the play
-  pub some_told : (end : PlayedEnd) → end ≡ ends.NoMemory wants.Making → TellsUpTo told b vectors es ⊎ told [] → TellsPlacings told b vectors es end
-  some_told end is some = subst (λ (e : PlayedEnd). TellsPlacings told b vectors es e) (sym is) some
 
 pub on_err : {T E : Type 0} (P : Type 0) (r : Result T E) → P → OnErr r P
 on_err P (Ok x) h = tt

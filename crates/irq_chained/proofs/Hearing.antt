@@ -59,9 +59,9 @@ module _ {H : Type 0} (hears : H → Run → H → Type 0) where
   heard_told d v turn answer same h k heard =
       subst (λ (runs : List Run). Heard hears runs h k) (runs_told d v turn answer same) heard
 
-  pub heard_turned : {old new : DemuxSeen} (due : Option ChainEntry) (turn : ChainTurn) → TurnsBy old due turn new → (h k m : H)
+  pub heard_turned : (old new : DemuxSeen) (due : Option ChainEntry) (turn : ChainTurn) → TurnsBy old due turn new → (h k m : H)
       → Heard hears (runs_in old) h k → Heard hears (runs_by_turn old turn) k m → Heard hears (runs_in new) h m
-  heard_turned {old} {new} due turn t h k m before now =
+  heard_turned old new due turn t h k m before now =
       subst (λ (runs : List Run). Heard hears runs h m) (sym (runs_turned old new due turn t))
       (heard_more hears (runs_by_turn old turn) (runs_in old) h k m before now)
 

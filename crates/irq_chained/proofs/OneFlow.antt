@@ -31,24 +31,24 @@ use Rattle.irq_chained.proofs.Stepping.{places_apart}
 
 -- an entry that is no take begins no flow
 no_handle : (e : Entry) → is_take e ≡ false → cpu_of_handle (Some e) ≡ None
-no_handle (by.Cpu cpu (cpus.Take way answer)) no = cc
-no_handle (by.Cpu cpu (cpus.Begin dev)) no = refl
-no_handle (by.Cpu cpu (cpus.Return answer dev served)) no = refl
-no_handle (by.Cpu cpu (cpus.End again unmask note)) no = refl
-no_handle (by.Thread dev e) no = refl
-no_handle (by.Driver r e) no = refl
-no_handle (by.CpuCall cpu e) no = refl
-no_handle (by.ThreadCall dev e) no = refl
-no_handle (by.DriverCall r e) no = refl
+no_handle (by.Cpu cpu (cpus.Take way answer)) untaken = cc
+no_handle (by.Cpu cpu (cpus.Begin dev)) untaken = refl
+no_handle (by.Cpu cpu (cpus.Return answer dev served)) untaken = refl
+no_handle (by.Cpu cpu (cpus.End again unmask note)) untaken = refl
+no_handle (by.Thread dev e) untaken = refl
+no_handle (by.Driver r e) untaken = refl
+no_handle (by.CpuCall cpu e) untaken = refl
+no_handle (by.ThreadCall dev e) untaken = refl
+no_handle (by.DriverCall r e) untaken = refl
 
 kept_flow : (c : CpuNo) (def : LineDef) (e : Entry) (past : List Entry) → is_take e ≡ false
     → is_cpu c (flow def (e ∷ past)) ≡ true → is_cpu c (flow def past) ≡ true
-kept_flow c def e past no on = by_test (is_handle e || closes def e) on
+kept_flow c def e past untaken on = by_test (is_handle e || closes def e) on
   where
     by_test : (t : Bool) → is_cpu c (cpu_of_handle (cond t (Some e) (last_of (λ e. is_handle e || closes def e) past))) ≡ true
         → is_cpu c (flow def past) ≡ true
     by_test false on = on
-    by_test true on = let bad = sym on ∙ ap (λ (o : Option CpuNo). is_cpu c o) (no_handle e no) in cc
+    by_test true on = let bad = sym on ∙ ap (λ (o : Option CpuNo). is_cpu c o) (no_handle e untaken) in cc
 
 -- the child's entry of a step
 same_entry : (a b : LineNo) (e f : Entry) → Some (steps.Child a e) ≡ Some (steps.Child b f) → e ≡ f
@@ -107,12 +107,12 @@ module _ (b : BoardSeen) (g : List ChainEntry) where
     had_flow : is_take e ≡ false → (i : ℕ) (y : BoardLine) → slice_get (lines_after m lines) i ≡ Some y
         → is_cpu cpu_0 (flow y.def y.past) ≡ true
         → (x : BoardLine) × (slice_get lines i ≡ Some x) × (is_cpu cpu_0 (flow x.def x.past) ≡ true)
-    had_flow no i y at on =
+    had_flow untaken i y at on =
         let was = moved_at lines m i y at in
         (was.line, was.at, by_line was.line (same_line was.line.def.line line) (subst (λ (z : BoardLine). is_cpu cpu_0 (flow z.def z.past) ≡ true) (sym was.is) on))
       where
         by_line : (x : BoardLine) (t : Bool) → is_cpu cpu_0 (flow x.def (cond t (e ∷ x.past) x.past)) ≡ true → is_cpu cpu_0 (flow x.def x.past) ≡ true
-        by_line x true on = kept_flow cpu_0 x.def e x.past no on
+        by_line x true on = kept_flow cpu_0 x.def e x.past untaken on
         by_line x false on = on
 
     -- after a take a child that has one is the one that was taken
@@ -144,9 +144,9 @@ module _ (b : BoardSeen) (g : List ChainEntry) where
             (places_apart lines apart i j v w at_v at_w is))
 
         by_take : (t : Bool) → is_take e ≡ t → i ≡ j
-        by_take false no =
-            let a = had_flow no i x at_x on_x in
-            let z = had_flow no j y at_y on_y in
+        by_take false untaken =
+            let a = had_flow untaken i x at_x on_x in
+            let z = had_flow untaken j y at_y on_y in
             one i j a.0 z.0 a.1 z.1 a.2 z.2
         by_take true takes =
             let a = is_taken_one takes i x at_x on_x in
@@ -158,7 +158,7 @@ no_flow_yet b i x at on =
     let none : false ≡ true = ap (λ (past : List Entry). is_cpu cpu_0 (flow x.def past)) (sym (past_at (defs_of b) [] i x at)) ∙ on in cc
 
 pub one_flow : (b : BoardSeen) (g : List ChainEntry) → IsBoard b → IsChainLegal b g → HasOneFlow (lines_in b g)
-one_flow b [] isb legal i j x y at_x at_y on_x on_y = absurd (no_flow_yet b i x at_x on_x)
+one_flow b [] isb legal = λ i j x y at_x at_y on_x on_y. absurd (no_flow_yet b i x at_x on_x)
 one_flow b (steps.Enter cpu status ∷ g) isb legal = one_flow b g isb legal.1
 one_flow b (steps.Exit cpu ∷ g) isb legal = one_flow b g isb legal.1
 one_flow b (steps.Child line e ∷ g) isb legal =

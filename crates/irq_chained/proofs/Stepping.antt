@@ -256,7 +256,7 @@ less : (i j : ℕ) → (suc i == suc j) ≡ false → (i == j) ≡ false
 less i j h = grind (arith, nat_tests)
 
 -- lines that stand apart have different numbers
-places_apart : (lines : List BoardLine) → AreApart (map (λ (x : BoardLine). x.def) lines) → (i j : ℕ) (x y : BoardLine)
+pub places_apart : (lines : List BoardLine) → AreApart (map (λ (x : BoardLine). x.def) lines) → (i j : ℕ) (x y : BoardLine)
     → slice_get lines i ≡ Some x → slice_get lines j ≡ Some y → (i == j) ≡ false
     → same_line x.def.line y.def.line ≡ false
 places_apart [] apart i j x y at_x at_y other = cc

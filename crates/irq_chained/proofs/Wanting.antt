@@ -11,7 +11,7 @@ use Rattle.irq_laws.proofs.Chosen.{the_same}
 use Rattle.board_def.specs.Rules.{IsBoard}
 use Rattle.board_play.specs.Kept.{AreKept}
 use Rattle.board_play.specs.Lines.{BoardLine, Move, find_line}
-use Rattle.board_play.specs.Order.{due_line, due_on, flow_line, line_for, or_line}
+use Rattle.board_play.specs.Order.{actors_of, due_line, due_on, flow_line, line_for, or_line}
 use Rattle.board_play.proofs.KeptAlways.{apart_kept}
 use Rattle.board_play.proofs.Members.{find_there}
 use Rattle.board_play.proofs.Moves.{line_stands}
@@ -45,9 +45,9 @@ wants_child : (o : Option Move) {C : Type 0} → C → WantsFor (child o) C
 wants_child None c = c
 wants_child (Some m) c = c
 
-wants_mark : (what : Marked) {C : Type 0} → WantsFor (Some (mark_of what)) C
-wants_mark (marks.Enter status) = tt
-wants_mark marks.Exit = tt
+wants_mark : (what : Marked) (C : Type 0) → WantsFor (Some (mark_of what)) C
+wants_mark (marks.Enter status) C = tt
+wants_mark marks.Exit C = tt
 
 some_child : (o : Option Move) → IsSome o → IsSome (child o)
 some_child None some = cc
@@ -60,7 +60,7 @@ module _ (may_want : Option Entry → Type 0) where
   mark_wants view what next = record {
     can = ap (λ (o : Option ChainEntry). is_some o) next;
     step = subst (λ (o : Option ChainEntry). WantsFor o (WantedMemory may_want (HasSpare view.lines) (length (children (reverse view.log)))
-        (child_for view.board (reverse view.log) (actors.Cpu cpu_0)) (actors.Cpu cpu_0))) (sym next) (wants_mark what);
+        (child_for view.board (reverse view.log) (actors.Cpu cpu_0)) (actors.Cpu cpu_0))) (sym next) (wants_mark what _);
   }
 
   module _ {s : SystemSeen} {ms : List Mark} {walk : Option Walk} {parent : Cell} (d : IsDemux s ms walk parent) {view : DemuxSeen}
@@ -224,7 +224,7 @@ module _ (may_want : Option Entry → Type 0) where
         left = u.left;
         so_far = u.made;
         some = ap (λ (o : Option (ChainEntry × List Actor)). is_some o) u.next
-            ∙ some_choice (chain_next old.board (reverse old.log)) _ rest some;
+            ∙ some_choice (chain_next old.board (reverse old.log)) (actors_of old.board) rest some;
         actor = a;
         next = λ e due. ((next e due).0, u.next ∙ (next e due).1);
         step = step;

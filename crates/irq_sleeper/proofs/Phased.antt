@@ -160,7 +160,7 @@ module _ (s : SleeperSeen) (t : IsTold s) where
 -- ---- the steps of the phases
 
 module _ {first old new : SleeperSeen} {picks : List Actor} {r : Result Bool PlayEnd} where
-  pub disabling_step : GoesTo first old picks Disabling
+  abbrev pub disabling_step : GoesTo first old picks Disabling
       → is_disable_due (due_of old.system.board (board_lines old.system.lines) last_driver) ≡ true
       → StepsBy old (or_move (last_of old.system) (inner_of old.system)) r new → SleepStep first old new picks Disabling Disabling r
   disabling_step goes test steps = record {
@@ -171,7 +171,7 @@ module _ {first old new : SleeperSeen} {picks : List Actor} {r : Result Bool Pla
     marks = λ m. m;
   }
 
-  pub sleeping_step : GoesTo first old picks Asleep → old.watch.woken ≡ None
+  abbrev pub sleeping_step : GoesTo first old picks Asleep → old.watch.woken ≡ None
       → StepsBy old (or_move (inner_of old.system) (ask_of old.system)) r new → SleepStep first old new picks Asleep Asleep r
   sleeping_step goes woken steps = record {
     due = or_move (inner_of old.system) (ask_of old.system);
@@ -181,7 +181,7 @@ module _ {first old new : SleeperSeen} {picks : List Actor} {r : Result Bool Pla
     marks = λ m. m;
   }
 
-  pub enabling_step : GoesTo first old picks Enabling → StepsBy old (move_of old.system (actors.Driver last_driver)) r new
+  abbrev pub enabling_step : GoesTo first old picks Enabling → StepsBy old (move_of old.system (actors.Driver last_driver)) r new
       → SleepStep first old new picks Enabling Enabling r
   enabling_step goes steps = record {
     due = move_of old.system (actors.Driver last_driver);
@@ -191,7 +191,7 @@ module _ {first old new : SleeperSeen} {picks : List Actor} {r : Result Bool Pla
     marks = λ m. m;
   }
 
-  pub going_step : GoesTo first old picks Going → StepsBy old (lowest_move old.system) r new → SleepStep first old new picks Going Going r
+  abbrev pub going_step : GoesTo first old picks Going → StepsBy old (lowest_move old.system) r new → SleepStep first old new picks Going Going r
   going_step goes steps = record {
     due = lowest_move old.system;
     goes = goes;
@@ -305,7 +305,7 @@ stuck_so first old new picks r u test is steps =
 pub first_pick : (s : SleeperSeen) (picks : List Actor) → IsFresh s → GoesTo s s picks (Picking picks)
 first_pick s picks f = (stays s, fresh s picks f)
 
-at_pick : (first s : SleeperSeen) (picks : List Actor) (i : ℕ) (d : Actor) → i < length picks
+pub at_pick : (first s : SleeperSeen) (picks : List Actor) (i : ℕ) (d : Actor) → i < length picks
     → GoesTo first s picks (Picking (drop i picks)) → GoesTo first s picks
     (Picking (get_or picks i d ∷ drop (i + 1) picks))
 at_pick first s picks i d within u =
@@ -316,7 +316,7 @@ at_pick first s picks i d within u =
 module _ {first old new : SleeperSeen} {picks : List Actor} {i : ℕ} (d : Actor) (within : i < length picks)
     (u : GoesTo first old picks (Picking (drop i picks))) {r : Result Bool PlayEnd}
     (steps : StepsBy old (move_of old.system (get_or picks i d)) r new) where
-  pub picked_step : SleepStep first old new picks (Picking (get_or picks i d ∷ drop (i + 1) picks)) (Picking (drop (i + 1) picks)) r
+  abbrev pub picked_step : SleepStep first old new picks (Picking (get_or picks i d ∷ drop (i + 1) picks)) (Picking (drop (i + 1) picks)) r
   picked_step =
       let v = at_pick first old picks i d within u in
       record {

@@ -64,7 +64,7 @@ module _ (may_want : Option Entry → Type 0) where
         let low : WantsLowest may_want old.system = subst (λ (x : Turn). LowestWants may_want old.system x) same wants in
         record {
           actor = low.actor;
-          can = may_move old.system low.actor (subst (λ (o : Option Move). IsSome o) low.lowest t.0);
+          can = may_move may_want old.system low.actor (subst (λ (o : Option Move). IsSome o) low.lowest t.0);
           its = λ m due. low.lowest ∙ due;
           step = low.step;
         }))
@@ -139,8 +139,8 @@ module _ (may_want : Option Entry → Type 0) where
           wants_next old new picks at after s.due s.goes.1 (subst (λ (x : Result Bool PlayEnd). StepsBy old s.due x new) is s.steps) s.next
           (subst (λ (x : Result Bool PlayEnd). StepWants may_want old.system s.due x) is wants)
 
-  pub pick_wants : {first old new : SleeperSeen} {picks : List Actor} {i : ℕ} (d : Actor) (within : i < length picks)
-      (u : GoesTo first old picks (Picking (drop i picks))) {r : Result Bool PlayEnd}
+  pub pick_wants : {first : SleeperSeen} (old new : SleeperSeen) {picks : List Actor} {i : ℕ} (d : Actor) (within : i < length picks)
+      (u : GoesTo first old picks (Picking (drop i picks))) (r : Result Bool PlayEnd)
       (steps : StepsBy old (move_of old.system (get_or picks i d)) r new) {end : PlayEnd} → r ≡ Err end
       → StepWants may_want old.system (move_of old.system (get_or picks i d)) r → PlayWants may_want new picks end
-  pick_wants d within u steps is wants = stop_wants (picked_step d within u steps) is wants
+  pick_wants old new d within u r steps is wants = stop_wants (picked_step {old = old} {new = new} d within u {r = r} steps) is wants

@@ -26,6 +26,6 @@ returns-in_err-fleet-clause-some g c = on_err _ c.from_residual.result c.in_err-
 
 pub returns-in_err-board-clause-some : goal.returns-in_err-board-clause-some
 returns-in_err-board-clause-some g c =
-    let told : List Notice → Type 0 = λ placings. Told g.N.Notifier.tells placings c.args.notify.now c.placed-fleet.new.notify in
-    on_err _ c.from_residual.result (inl (up_to_all told c.args.board c.args.vectors c.args.events.now
-    (of_all told c.args.board c.args.vectors c.args.events.now c.in_ok-fleet.field-0 c.in_ok-fleet.ensures.fleet c.in_ok-fleet.ensures.told)))
+    let told : List Notice → Type 0 = λ placings. Told g.N.Notifier.tells placings c.args.notify.now c.placed.new.notify in
+    on_err _ c.from_residual-in_err-board.result (inl (up_to_all told c.args.board c.args.vectors c.args.events.now
+    (of_all told c.args.board c.args.vectors c.args.events.now c.in_ok-fleet.fleet c.in_ok-fleet.ensures.fleet c.in_ok-fleet.ensures.told)))

@@ -1,11 +1,6 @@
-use Rattle.std.proofs.Common.{List, refl, sym, subst}
-use Rattle.irq_base.specs.declared.devices.Run.{Run}
-use Rattle.irq_play.specs.Played.{TellsStep}
-use Rattle.irq_play.specs.declared.ending.PlayedEnd.{PlayedEnd}
-use Rattle.callbacks.specs.Heard.{Heard}
+use Rattle.std.proofs.Common.{List}
 use Rattle.notifiers.specs.Told.{Notice, Told}
-use Rattle.hotplug_play.specs.Played.{PlaysPlan, planned_after}
-use Rattle.hotplug_play.proofs.Placings.{all_told, of_all, some_told}
+use Rattle.hotplug_play.proofs.Placings.{all_told, of_all}
 use Rattle.hotplug_play.proofs.playing.hotplug_and_print.Goals as goal
 
 pub returns-clause-plays : goal.returns-clause-plays
@@ -16,7 +11,7 @@ returns-clause-plays g c =
     record {
       plays = c.play_plan.ensures.plays b c.args.vectors es c.in-Ok.ensures.plan;
       placings = all_told told b c.args.vectors es c.play_plan.result.end
-          (of_all told b c.args.vectors es c.in-Ok.field-0.fleet c.in-Ok.ensures.plan.fleet c.in-Ok.ensures.told);
+          (of_all told b c.args.vectors es c.in-Ok.plan.fleet c.in-Ok.ensures.plan.fleet c.in-Ok.ensures.told);
     }
 
 pub returns-clause-step : goal.returns-clause-step

@@ -16,13 +16,13 @@ report-requires-clause-room g c = c.in-Ok.ensures.room
 pub returns-in-Ok-clause-plays : goal.returns-in-Ok-clause-plays
 returns-in-Ok-clause-plays g c = λ b vectors es plan.
     answered b vectors es c.args.plan.now.fleet c.args.plan.now.board plan c.in-Ok.field-0.system.log c.report.result.reports.reports
-    g.M.MakesDomainLine.Line.IrqLine.may_want (λ runs. Heard g.H.Handler.hears runs c.args.handlers.now c.play_system.new.handlers)
+    g.M.Line.IrqLine.may_want (λ runs. Heard g.H.Handler.hears runs c.args.handlers.now c.play_system.new.handlers)
     (g.O.Sink.written c.args.out.now) (g.O.Sink.written c.report.new.out) c.report.result.end c.report.ensures.plays c.in-Ok.ensures.heard
 
 pub returns-in-Ok-clause-step : goal.returns-in-Ok-clause-step
 returns-in-Ok-clause-step g c = λ b vectors es plan.
     tells_step b vectors es c.args.plan.now.fleet c.args.plan.now.board plan c.in-Ok.field-0.system.log c.report.result.reports.reports
-    g.M.MakesDomainLine.Line.IrqLine.may_want (g.O.Sink.written c.args.out.now) (g.O.Sink.written c.report.new.out) c.report.result.end
+    g.M.Line.IrqLine.may_want (g.O.Sink.written c.args.out.now) (g.O.Sink.written c.report.new.out) c.report.result.end
     c.report.ensures.plays
 
 pub returns-in-Ok-clause-emptied : goal.returns-in-Ok-clause-emptied
@@ -43,7 +43,7 @@ returns-in-Err-clause-plays g c = λ b vectors es plan.
 
 pub returns-in-Err-clause-step : goal.returns-in-Err-clause-step
 returns-in-Err-clause-step g c = λ b vectors es plan.
-    subst (λ (e : PlayedEnd). TellsStep g.M.MakesDomainLine.Line.IrqLine.may_want (planned_after b vectors es) c.unplayed.result.reports.reports e)
+    subst (λ (e : PlayedEnd). TellsStep g.M.Line.IrqLine.may_want (planned_after b vectors es) c.unplayed.result.reports.reports e)
     (sym c.unplayed.ensures.end) tt
 
 pub returns-in-Err-clause-write_fault : goal.returns-in-Err-clause-write_fault

@@ -15,12 +15,13 @@ returns g c =
     let may_want = g.L.IrqLine.may_want in
     let same = sym (ap (λ (p : PlugPlaySeen). p.board) c.self.view_is ∙ c.requires.board) in
     subst (λ (p : PlugPlaySeen). HandsOutPlan p.fleet p.board p.system.log p.end reports × HandsOutStep may_want p.board p.system.log p.end reports)
-    c.self.view_is
-    (handed plan.fleet plan.board (subst IsBoard same c.is_board.ensures.board) s reports
-    (subst (λ (b : BoardSeen). Reported b (board_lines s.lines) reports) same
-    (record { so_far = c.hand_out.ensures.so_far; done = c.hand_out.ensures.done; full = c.hand_out.ensures.full }))
-    c.self.inside.end c.self.invariant.0,
-    handed_step may_want plan.board s c.self.invariant.0.board reports c.hand_out.ensures.room c.self.inside.end c.self.invariant.1)
+    c.self.view_is (
+      handed plan.fleet plan.board (subst IsBoard same c.is_board.ensures.board) s reports
+          (subst (λ (b : BoardSeen). Reported b (board_lines s.lines) reports) same
+          (record { so_far = c.hand_out.ensures.so_far; done = c.hand_out.ensures.done; full = c.hand_out.ensures.full }))
+          c.self.inside.end c.self.invariant.0,
+      handed_step may_want plan.board s c.self.invariant.0.board reports c.hand_out.ensures.room c.self.inside.end c.self.invariant.1,
+    )
 
 pub hand_out-requires-clause-board : goal.hand_out-requires-clause-board
 hand_out-requires-clause-board g c = c.self.invariant.0.board ∙ (ap (λ (p : PlugPlaySeen). p.board) c.self.view_is ∙ c.requires.board)

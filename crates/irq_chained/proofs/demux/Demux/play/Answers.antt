@@ -17,17 +17,17 @@ loop-pick-preserved g c =
       board = keeps_board t ∙ c.loop-pick.invariant.board;
       layout = keeps_layout t ∙ c.loop-pick.invariant.layout;
       underway = pick_done _ c.loop-pick-test.true c.loop-pick.invariant.underway t c.in_default.not-Full c.in_default.not-NoMemory;
-      heard = heard_turned g.H.Handler.hears _ c.turn.result c.turn.ensures.turns _ _ _ c.loop-pick.invariant.heard c.turn.ensures.heard;
+      heard = heard_turned g.H.Handler.hears _ _ _ c.turn.result c.turn.ensures.turns _ _ _ c.loop-pick.invariant.heard c.turn.ensures.heard;
     }
 
 pub returns-in-NoMemory-clause-play : goal.returns-in-NoMemory-clause-play
 returns-in-NoMemory-clause-play g c = refused (a_turn c.turn.result c.turn.ensures.turns) c.loop-pick.invariant.underway c.in-NoMemory.is
 
 pub returns-in-Full-clause-heard : goal.returns-in-Full-clause-heard
-returns-in-Full-clause-heard g c = heard_turned g.H.Handler.hears _ c.turn.result c.turn.ensures.turns _ _ _ c.loop-pick.invariant.heard c.turn.ensures.heard
+returns-in-Full-clause-heard g c = heard_turned g.H.Handler.hears _ _ _ c.turn.result c.turn.ensures.turns _ _ _ c.loop-pick.invariant.heard c.turn.ensures.heard
 
 pub returns-in-NoMemory-clause-heard : goal.returns-in-NoMemory-clause-heard
-returns-in-NoMemory-clause-heard g c = heard_turned g.H.Handler.hears _ c.turn.result c.turn.ensures.turns _ _ _ c.loop-pick.invariant.heard c.turn.ensures.heard
+returns-in-NoMemory-clause-heard g c = heard_turned g.H.Handler.hears _ _ _ c.turn.result c.turn.ensures.turns _ _ _ c.loop-pick.invariant.heard c.turn.ensures.heard
 
 pub returns-clause-heard : goal.returns-clause-heard
 returns-clause-heard g c = c.settle.ensures.heard _ c.loop-pick.invariant.heard

@@ -17,7 +17,7 @@ loop-line-preserved g c =
       board = keeps_board t ∙ c.loop-line.invariant.board;
       layout = keeps_layout t ∙ c.loop-line.invariant.layout;
       underway = λ picks u. lowest_moved t (c.loop-line.invariant.underway picks u) c.in-Moved.is;
-      heard = λ first before. heard_turned g.H.Handler.hears _ c.turn_lowest.result c.turn_lowest.ensures.turns first _ _
+      heard = λ first before. heard_turned g.H.Handler.hears _ _ _ c.turn_lowest.result c.turn_lowest.ensures.turns first _ _
           (c.loop-line.invariant.heard first before) c.turn_lowest.ensures.heard;
     }
 
@@ -34,15 +34,15 @@ returns-in-NoMemory-clause-play g c = λ picks u. refused (a_turn c.turn_lowest.
     (c.loop-line.invariant.underway picks u) c.in-NoMemory.is
 
 pub returns-in-NotYet-clause-heard : goal.returns-in-NotYet-clause-heard
-returns-in-NotYet-clause-heard g c = λ first before. heard_turned g.H.Handler.hears _ c.turn_lowest.result c.turn_lowest.ensures.turns
+returns-in-NotYet-clause-heard g c = λ first before. heard_turned g.H.Handler.hears _ _ _ c.turn_lowest.result c.turn_lowest.ensures.turns
     first _ _ (c.loop-line.invariant.heard first before) c.turn_lowest.ensures.heard
 
 pub returns-in-Full-clause-heard : goal.returns-in-Full-clause-heard
-returns-in-Full-clause-heard g c = λ first before. heard_turned g.H.Handler.hears _ c.turn_lowest.result c.turn_lowest.ensures.turns
+returns-in-Full-clause-heard g c = λ first before. heard_turned g.H.Handler.hears _ _ _ c.turn_lowest.result c.turn_lowest.ensures.turns
     first _ _ (c.loop-line.invariant.heard first before) c.turn_lowest.ensures.heard
 
 pub returns-in-NoMemory-clause-heard : goal.returns-in-NoMemory-clause-heard
-returns-in-NoMemory-clause-heard g c = λ first before. heard_turned g.H.Handler.hears _ c.turn_lowest.result c.turn_lowest.ensures.turns
+returns-in-NoMemory-clause-heard g c = λ first before. heard_turned g.H.Handler.hears _ _ _ c.turn_lowest.result c.turn_lowest.ensures.turns
     first _ _ (c.loop-line.invariant.heard first before) c.turn_lowest.ensures.heard
 
 pub returns-in-NoMemory-clause-memory : goal.returns-in-NoMemory-clause-memory

@@ -11,7 +11,7 @@ invariant-loop-line g l = record {
   board : l.self.board ≡ l.fn.self.board;
   layout : l.self.layout ≡ l.fn.self.layout;
   underway : (picks : List Actor) → IsUnderway l.fn.self picks [] → IsUnderway l.self picks [];
-  heard : (first : g.H) → Heard g.H.Handler.hears (runs_in l.fn.self) first l.fn.handlers
+  heard : (first : g.row.H.Denot) → Heard g.H.Handler.hears (runs_in l.fn.self) first l.fn.handlers
       → Heard g.H.Handler.hears (runs_in l.self) first l.handlers;
 }
 

@@ -7,7 +7,7 @@ use Rattle.irq_sleeper.proofs.sleeper.Sleeper.go_on.Goals as goal
 use Rattle.irq_sleeper.proofs.sleeper.Sleeper.go_on.Goals.{After-step_lowest}
 
 -- the loop's step
-step : (g : given.Over) (c : After-step_lowest g)
+abbrev step : (g : given.Over) (c : After-step_lowest g)
     → SleepStep c.args.self.now c.loop-end.self c.step_lowest.new.self c.args.picks.now Going Going c.step_lowest.result
 step g c = going_step c.loop-end.invariant.goes c.step_lowest.ensures.steps
 
@@ -17,7 +17,8 @@ loop-end-smaller g c = falls (step g (goal.at.loop-end-smaller g c).After-step_l
 pub loop-end-preserved : goal.loop-end-preserved
 loop-end-preserved g c = record {
   goes = went (step g (goal.at.loop-end-preserved g c).After-step_lowest) (ok_is c.in-Ok-true.is c.in-Ok-true.field-0-test);
-  heard = hears_then g.H.Handler.hears _ _ _ _ _ _ c.loop-end.invariant.heard c.loop-end.invariant.goes.1.told c.step_lowest.ensures.heard;
+  heard = hears_then g.H.Handler.hears c.args.self.now c.loop-end.self c.step_lowest.new.self c.args.handlers.now c.loop-end.handlers c.step_lowest.new.handlers
+    c.loop-end.invariant.heard c.loop-end.invariant.goes.1.told c.step_lowest.ensures.heard;
 }
 
 pub returns-in-Err-clause-ends : goal.returns-in-Err-clause-ends
@@ -25,7 +26,8 @@ returns-in-Err-clause-ends g c = stops (step g (goal.at.returns-in-Err-clause-en
 
 pub returns-in-Err-clause-heard : goal.returns-in-Err-clause-heard
 returns-in-Err-clause-heard g c =
-    hears_then g.H.Handler.hears _ _ _ _ _ _ c.loop-end.invariant.heard c.loop-end.invariant.goes.1.told c.step_lowest.ensures.heard
+    hears_then g.H.Handler.hears c.args.self.now c.loop-end.self c.step_lowest.new.self c.args.handlers.now c.loop-end.handlers c.step_lowest.new.handlers
+    c.loop-end.invariant.heard c.loop-end.invariant.goes.1.told c.step_lowest.ensures.heard
 
 pub returns-in-Err-clause-memory : goal.returns-in-Err-clause-memory
 returns-in-Err-clause-memory g c =
@@ -33,4 +35,5 @@ returns-in-Err-clause-memory g c =
 
 pub returns-in-Ok-false-clause-heard : goal.returns-in-Ok-false-clause-heard
 returns-in-Ok-false-clause-heard g c =
-    hears_then g.H.Handler.hears _ _ _ _ _ _ c.loop-end.invariant.heard c.loop-end.invariant.goes.1.told c.step_lowest.ensures.heard
+    hears_then g.H.Handler.hears c.args.self.now c.loop-end.self c.step_lowest.new.self c.args.handlers.now c.loop-end.handlers c.step_lowest.new.handlers
+    c.loop-end.invariant.heard c.loop-end.invariant.goes.1.told c.step_lowest.ensures.heard

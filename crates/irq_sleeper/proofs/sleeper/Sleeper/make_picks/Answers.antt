@@ -15,13 +15,16 @@ returns-in-Err-clause-ends g c = pick_stops _ c.loop-pick-test.true c.loop-pick.
 pub loop-pick-preserved : goal.loop-pick-preserved
 loop-pick-preserved g c = record {
   goes = pick_done _ c.loop-pick-test.true c.loop-pick.invariant.goes c.step.ensures.steps c.in-Ok.is;
-  heard = hears_then g.H.Handler.hears _ _ _ _ _ _ c.loop-pick.invariant.heard c.loop-pick.invariant.goes.1.told c.step.ensures.heard;
+  heard = hears_then g.H.Handler.hears c.args.self.now c.loop-pick.self c.step.new.self c.args.handlers.now c.loop-pick.handlers c.step.new.handlers
+    c.loop-pick.invariant.heard c.loop-pick.invariant.goes.1.told c.step.ensures.heard;
 }
 
 pub returns-in-Err-clause-heard : goal.returns-in-Err-clause-heard
 returns-in-Err-clause-heard g c =
-    hears_then g.H.Handler.hears _ _ _ _ _ _ c.loop-pick.invariant.heard c.loop-pick.invariant.goes.1.told c.step.ensures.heard
+    hears_then g.H.Handler.hears c.args.self.now c.loop-pick.self c.step.new.self c.args.handlers.now c.loop-pick.handlers c.step.new.handlers
+    c.loop-pick.invariant.heard c.loop-pick.invariant.goes.1.told c.step.ensures.heard
 
 pub returns-in-Err-clause-memory : goal.returns-in-Err-clause-memory
-returns-in-Err-clause-memory g c = pick_wants g.L.IrqLine.may_want _ c.loop-pick-test.true c.loop-pick.invariant.goes c.step.ensures.steps
+returns-in-Err-clause-memory g c = pick_wants g.L.IrqLine.may_want c.loop-pick.self c.step.new.self _ c.loop-pick-test.true c.loop-pick.invariant.goes c.step.result
+    c.step.ensures.steps
     c.in-Err.is c.step.ensures.memory

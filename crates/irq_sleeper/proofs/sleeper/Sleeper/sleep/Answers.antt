@@ -13,7 +13,7 @@ not_woken : (g : given.Over) (c : After-step_asleep g) → c.loop-line.self.watc
 not_woken g c = sym (ap (λ (s : SleeperSeen). s.watch.woken) c.self.view_is) ∙ (sym c.woken.ensures ∙ no_line c.in_default.not-Some)
 
 -- the loop's step
-step : (g : given.Over) (c : After-step_asleep g)
+abbrev step : (g : given.Over) (c : After-step_asleep g)
     → SleepStep c.args.self.now c.loop-line.self c.step_asleep.new.self c.args.picks.now Asleep Asleep c.step_asleep.result
 step g c = sleeping_step c.loop-line.invariant.goes (not_woken g c) c.step_asleep.ensures.steps
 
@@ -27,7 +27,8 @@ loop-line-smaller g c = falls (step g (goal.at.loop-line-smaller g c).After-step
 pub loop-line-preserved : goal.loop-line-preserved
 loop-line-preserved g c = record {
   goes = went (step g (goal.at.loop-line-preserved g c).After-step_asleep) (ok_is c.in-Ok-true.is c.in-Ok-true.field-0-test);
-  heard = hears_then g.H.Handler.hears _ _ _ _ _ _ c.loop-line.invariant.heard c.loop-line.invariant.goes.1.told c.step_asleep.ensures.heard;
+  heard = hears_then g.H.Handler.hears c.args.self.now c.loop-line.self c.step_asleep.new.self c.args.handlers.now c.loop-line.handlers c.step_asleep.new.handlers
+    c.loop-line.invariant.heard c.loop-line.invariant.goes.1.told c.step_asleep.ensures.heard;
 }
 
 pub returns-in-Ok-false-clause-goes : goal.returns-in-Ok-false-clause-goes
@@ -40,16 +41,20 @@ returns-in-Err-clause-ends g c = stops (step g (goal.at.returns-in-Err-clause-en
 
 pub returns-in-Err-clause-heard : goal.returns-in-Err-clause-heard
 returns-in-Err-clause-heard g c =
-    hears_then g.H.Handler.hears _ _ _ _ _ _ c.loop-line.invariant.heard c.loop-line.invariant.goes.1.told c.step_asleep.ensures.heard
+    hears_then g.H.Handler.hears c.args.self.now c.loop-line.self c.step_asleep.new.self c.args.handlers.now c.loop-line.handlers c.step_asleep.new.handlers
+    c.loop-line.invariant.heard c.loop-line.invariant.goes.1.told c.step_asleep.ensures.heard
 
 pub returns-in-Err-clause-memory : goal.returns-in-Err-clause-memory
 returns-in-Err-clause-memory g c =
     stop_wants g.L.IrqLine.may_want (step g (goal.at.returns-in-Err-clause-memory g c).After-step_asleep) c.in-Err.is c.step_asleep.ensures.memory
 
 pub returns-in-Some-clause-heard : goal.returns-in-Some-clause-heard
-returns-in-Some-clause-heard g c = hears_woken g.H.Handler.hears _ _ _ _ _ _ c.loop-line.invariant.heard c.wake_by.ensures
+returns-in-Some-clause-heard g c = hears_woken g.H.Handler.hears c.args.self.now c.loop-line.self c.wake_by.new.self _ c.args.handlers.now c.loop-line.handlers
+    c.loop-line.invariant.heard c.wake_by.ensures
 
 pub returns-in-Ok-false-clause-heard : goal.returns-in-Ok-false-clause-heard
-returns-in-Ok-false-clause-heard g c = hears_woken g.H.Handler.hears _ _ _ _ _ _
-    (hears_then g.H.Handler.hears _ _ _ _ _ _ c.loop-line.invariant.heard c.loop-line.invariant.goes.1.told c.step_asleep.ensures.heard)
+returns-in-Ok-false-clause-heard g c = hears_woken g.H.Handler.hears c.args.self.now c.step_asleep.new.self c.wake_by-in-Ok-false.new.self _
+    c.args.handlers.now c.step_asleep.new.handlers
+    (hears_then g.H.Handler.hears c.args.self.now c.loop-line.self c.step_asleep.new.self c.args.handlers.now c.loop-line.handlers c.step_asleep.new.handlers
+    c.loop-line.invariant.heard c.loop-line.invariant.goes.1.told c.step_asleep.ensures.heard)
     c.wake_by-in-Ok-false.ensures

@@ -8,7 +8,7 @@ use Rattle.irq_sleeper.proofs.sleeper.Sleeper.suspend.Goals as goal
 use Rattle.irq_sleeper.proofs.sleeper.Sleeper.suspend.Goals.{After-step_disabling}
 
 -- the loop's step
-step : (g : given.Over) (c : After-step_disabling g)
+abbrev step : (g : given.Over) (c : After-step_disabling g)
     → SleepStep c.args.self.now c.loop-self.self c.step_disabling.new.self c.args.picks.now Disabling Disabling c.step_disabling.result
 step g c = disabling_step c.loop-self.invariant.goes (sym c.is_disabling.ensures ∙ c.loop-self-test.true) c.step_disabling.ensures.steps
 
@@ -19,7 +19,8 @@ loop-self-smaller g c =
 pub loop-self-preserved : goal.loop-self-preserved
 loop-self-preserved g c = record {
   goes = went (step g (goal.at.loop-self-preserved g c).After-step_disabling) (ok_is c.in-Ok-true.is c.in-Ok-true.field-0-test);
-  heard = hears_then g.H.Handler.hears _ _ _ _ _ _ c.loop-self.invariant.heard c.loop-self.invariant.goes.1.told c.step_disabling.ensures.heard;
+  heard = hears_then g.H.Handler.hears c.args.self.now c.loop-self.self c.step_disabling.new.self c.args.handlers.now c.loop-self.handlers c.step_disabling.new.handlers
+    c.loop-self.invariant.heard c.loop-self.invariant.goes.1.told c.step_disabling.ensures.heard;
 }
 
 pub returns-in-Err-clause-ends : goal.returns-in-Err-clause-ends
@@ -30,7 +31,8 @@ returns-clause-goes g c = falls_asleep c.loop-self.invariant.goes (sym c.is_disa
 
 pub returns-in-Err-clause-heard : goal.returns-in-Err-clause-heard
 returns-in-Err-clause-heard g c =
-    hears_then g.H.Handler.hears _ _ _ _ _ _ c.loop-self.invariant.heard c.loop-self.invariant.goes.1.told c.step_disabling.ensures.heard
+    hears_then g.H.Handler.hears c.args.self.now c.loop-self.self c.step_disabling.new.self c.args.handlers.now c.loop-self.handlers c.step_disabling.new.handlers
+    c.loop-self.invariant.heard c.loop-self.invariant.goes.1.told c.step_disabling.ensures.heard
 
 pub returns-in-Err-clause-memory : goal.returns-in-Err-clause-memory
 returns-in-Err-clause-memory g c =
@@ -38,7 +40,9 @@ returns-in-Err-clause-memory g c =
 
 pub returns-in-Ok-false-clause-heard : goal.returns-in-Ok-false-clause-heard
 returns-in-Ok-false-clause-heard g c =
-    hears_then g.H.Handler.hears _ _ _ _ _ _ c.loop-self.invariant.heard c.loop-self.invariant.goes.1.told c.step_disabling.ensures.heard
+    hears_then g.H.Handler.hears c.args.self.now c.loop-self.self c.step_disabling.new.self c.args.handlers.now c.loop-self.handlers c.step_disabling.new.handlers
+    c.loop-self.invariant.heard c.loop-self.invariant.goes.1.told c.step_disabling.ensures.heard
 
 pub returns-clause-heard : goal.returns-clause-heard
-returns-clause-heard g c = hears_asleep g.H.Handler.hears _ _ _ _ _ c.loop-self.invariant.heard c.fall_asleep.ensures
+returns-clause-heard g c = hears_asleep g.H.Handler.hears c.args.self.now c.loop-self.self c.fall_asleep.new.self c.args.handlers.now c.loop-self.handlers
+    c.loop-self.invariant.heard c.fall_asleep.ensures
