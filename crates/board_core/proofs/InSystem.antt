@@ -11,6 +11,9 @@ use Rattle.irq_base.specs.declared.lines.LineDef.{LineDef}
 use Rattle.irq_base.specs.declared.numbers.DriverNo.{DriverNo}
 use Rattle.irq_line.specs.Seen.{LineSeen}
 use Rattle.irq_line.specs.declared.answers.StepRefused.{StepRefused}
+use Rattle.irq_line.specs.declared.answers.Stepped.{Stepped}
+use Rattle.irq_line.specs.declared.answers.Stepped.TheVariants as stepped
+use Rattle.callbacks.specs.Heard.{one_run}
 use Rattle.board_def.specs.Seen.{BoardSeen}
 use Rattle.board_play.specs.Lines.{BoardLine, defs_of}
 use Rattle.board_play.specs.Order.{due_on}
@@ -23,6 +26,7 @@ use Rattle.board_core.specs.declared.stands.Stand.{Stand}
 use Rattle.board_core.specs.Pieces.{EndsPiece, IsPieced}
 use Rattle.board_core.specs.Places.{SteppedAt, StepWants}
 use Rattle.board_core.specs.Wanted.{HasSpare, WantedMemory, WantsOn}
+use Rattle.board_core.specs.Runs.{run_on, runs_at, runs_by_move, runs_by_turn}
 use Rattle.board_core.specs.Scripts.{ScriptSeen, advanced}
 use Rattle.board_core.specs.Seen.{SystemSeen, board_line, board_lines}
 use Rattle.board_core.specs.Turned.{IsScriptOf, StepsBy, script_after, scripts_after, turn_of}
@@ -30,7 +34,7 @@ use Rattle.board_core.specs.declared.turns.Turn.{Turn}
 use Rattle.irq_line.specs.declared.answers.StepRefused.TheVariants as refusals
 use Rattle.board_core.proofs.InLists.{map_there, set_other}
 use Rattle.board_core.proofs.Kept.{KeptSystem, Step}
-use Rattle.board_core.proofs.TurnLaws.{system_after, turned}
+use Rattle.board_core.proofs.TurnLaws.{number_found, system_after, turned}
 use Rattle.board_core.proofs.Few.{few_lines}
 use Rattle.board_core.proofs.Readiness.{ready_after, seen_at}
 use Rattle.board_core.proofs.Walking.{walk_after, walk_length}
@@ -92,37 +96,41 @@ module _ {view : SystemSeen} (system : KeptSystem view) {a : Actor} {stand : Sta
 
 -- ---- what a step leaves alone
 
-module _ (old : List LineSeen) (order : List ℕ) (k : ℕ) (a : Actor) (new : List LineSeen) (longer : List ℕ) where
-  as_many : (r : Result (Option Entry) StepRefused) → SteppedAt old order k a r new longer → length new ≡ length old
-  as_many (Ok (Some e)) s = ap (λ (ls : List LineSeen). length ls) s.rest ∙ length-set old k s.after
-  as_many (Ok None) s = ap (λ (ls : List LineSeen). length ls) s.1
-  as_many (Err (refusals.Full len)) s = ap (λ (ls : List LineSeen). length ls) s.1
+module _ {L : Type 0} (old : List LineSeen) (order : List ℕ) (k : ℕ) (a : Actor) (new : List LineSeen) (longer : List ℕ) where
+  as_many : (r : Result (Stepped L) StepRefused) → SteppedAt old order k a r new longer → length new ≡ length old
+  as_many (Ok (stepped.Added e)) s = ap (λ (ls : List LineSeen). length ls) s.rest ∙ length-set old k s.after
+  as_many (Ok (stepped.Lacks lack)) s = absurd s
+  as_many (Ok stepped.NotYet) s = ap (λ (ls : List LineSeen). length ls) s.1
+  as_many (Err (refusals.Full line len)) s = ap (λ (ls : List LineSeen). length ls) s.1
   as_many (Err refusals.NoMemory) s = ap (λ (ls : List LineSeen). length ls) s.0
 
-  others : (r : Result (Option Entry) StepRefused) → SteppedAt old order k a r new longer
+  others : (r : Result (Stepped L) StepRefused) → SteppedAt old order k a r new longer
       → (i : ℕ) → ((i ≡ k) → ⊥) → slice_get new i ≡ slice_get old i
-  others (Ok (Some e)) s i other = ap (λ (ls : List LineSeen). slice_get ls i) s.rest ∙ set_other old k i s.after other
-  others (Ok None) s i other = ap (λ (ls : List LineSeen). slice_get ls i) s.1
-  others (Err (refusals.Full len)) s i other = ap (λ (ls : List LineSeen). slice_get ls i) s.1
+  others (Ok (stepped.Added e)) s i other = ap (λ (ls : List LineSeen). slice_get ls i) s.rest ∙ set_other old k i s.after other
+  others (Ok (stepped.Lacks lack)) s i other = absurd s
+  others (Ok stepped.NotYet) s i other = ap (λ (ls : List LineSeen). slice_get ls i) s.1
+  others (Err (refusals.Full line len)) s i other = ap (λ (ls : List LineSeen). slice_get ls i) s.1
   others (Err refusals.NoMemory) s i other = ap (λ (ls : List LineSeen). slice_get ls i) s.0
 
-other_script : (scripts : List ScriptSeen) (script : Option ℕ) (r : Result (Option Entry) StepRefused) (i : ℕ)
+other_script : {L : Type 0} (scripts : List ScriptSeen) (script : Option ℕ) (r : Result (Stepped L) StepRefused) (i : ℕ)
     → (script ≡ Some i → ⊥) → slice_get (scripts_after script r scripts) i ≡ slice_get scripts i
 other_script scripts None r i other = refl
-other_script scripts (Some j) (Ok None) i other = refl
+other_script scripts (Some j) (Ok stepped.NotYet) i other = refl
+other_script scripts (Some j) (Ok (stepped.Lacks lack)) i other = refl
 other_script scripts (Some j) (Err refused) i other = refl
-other_script scripts (Some j) (Ok (Some e)) i other = by_script (slice_get scripts j)
+other_script scripts (Some j) (Ok (stepped.Added e)) i other = by_script (slice_get scripts j)
   where
     by_script : (o : Option ScriptSeen) → slice_get (script_after o j e scripts) i ≡ slice_get scripts i
     by_script None = refl
     by_script (Some s) = set_other scripts j i (advanced e s) (λ same. other (ap (λ (n : ℕ). Some n) (sym same)))
 
-as_many_scripts : (scripts : List ScriptSeen) (script : Option ℕ) (r : Result (Option Entry) StepRefused)
+as_many_scripts : {L : Type 0} (scripts : List ScriptSeen) (script : Option ℕ) (r : Result (Stepped L) StepRefused)
     → length (scripts_after script r scripts) ≡ length scripts
 as_many_scripts scripts None r = refl
-as_many_scripts scripts (Some j) (Ok None) = refl
+as_many_scripts scripts (Some j) (Ok stepped.NotYet) = refl
+as_many_scripts scripts (Some j) (Ok (stepped.Lacks lack)) = refl
 as_many_scripts scripts (Some j) (Err refused) = refl
-as_many_scripts scripts (Some j) (Ok (Some e)) = by_script (slice_get scripts j)
+as_many_scripts scripts (Some j) (Ok (stepped.Added e)) = by_script (slice_get scripts j)
   where
     by_script : (o : Option ScriptSeen) → length (script_after o j e scripts) ≡ length scripts
     by_script None = refl
@@ -130,8 +138,8 @@ as_many_scripts scripts (Some j) (Ok (Some e)) = by_script (slice_get scripts j)
 
 -- ---- the system after a step
 
-module _ {view : SystemSeen} (system : KeptSystem view) {a : Actor} {stand : Stand} (can : CanStepAt view a stand)
-    (step : Step system a stand) where
+module _ {L : Type 0} {view : SystemSeen} (system : KeptSystem view) {a : Actor} {stand : Stand} (can : CanStepAt view a stand)
+    (step : Step L system a stand) where
   open system use {board, layout, lines, scripts, parts, kept}
 
   many_lines : length step.lines ≡ length lines
@@ -155,7 +163,7 @@ module _ {view : SystemSeen} (system : KeptSystem view) {a : Actor} {stand : Sta
       → (capacity : ℕ) → IsPieced (length step.order) capacity
       → IsKept board step.lines step.scripts step.order (record parts { ready = ready; capacity = capacity })
   kept_after ready refreshed capacity pieced =
-      let after = system_after system can step in
+      let after = system_after L system can step in
       record {
         system = after;
         ready =
@@ -173,7 +181,7 @@ module _ {view : SystemSeen} (system : KeptSystem view) {a : Actor} {stand : Sta
       → StepsBy view (due_on (slice_get (board_lines view.lines) stand.line) a) turn (seen_of board layout step.lines step.order)
   steps_so turn same =
       subst (λ (t : Turn). StepsBy view (due_on (slice_get (board_lines view.lines) stand.line) a) t (seen_of board layout step.lines step.order))
-      (sym same) (turned system can step)
+      (sym same) (turned L system can step)
 
   -- a refusal of the place is one of the system
   pub wants_so : (may_want : Option Entry → Type 0) (turn : Turn) → turn ≡ turn_of step.number step.answer
@@ -182,11 +190,12 @@ module _ {view : SystemSeen} (system : KeptSystem view) {a : Actor} {stand : Sta
   wants_so may_want turn same wants =
       subst (λ (t : Turn). WantsOn may_want view (slice_get (board_lines view.lines) stand.line) a t) (sym same) (by_answer step.answer wants)
     where
-      by_answer : (r : Result (Option Entry) StepRefused) → StepWants may_want lines (length system.order) stand.line a r
+      by_answer : (r : Result (Stepped L) StepRefused) → StepWants may_want lines (length system.order) stand.line a r
           → WantsOn may_want view (slice_get (board_lines view.lines) stand.line) a (turn_of step.number r)
-      by_answer (Ok (Some e)) wants = tt
-      by_answer (Ok None) wants = tt
-      by_answer (Err (refusals.Full len)) wants = tt
+      by_answer (Ok (stepped.Added e)) wants = tt
+      by_answer (Ok stepped.NotYet) wants = tt
+      by_answer (Ok (stepped.Lacks lack)) wants = tt
+      by_answer (Err (refusals.Full line len)) wants = tt
       by_answer (Err refusals.NoMemory) wants =
           subst (λ (s : SystemSeen). WantedMemory may_want (HasSpare s.lines) (length s.log) (slice_get (board_lines s.lines) stand.line) a) system.view_is
           (record {
@@ -195,6 +204,19 @@ module _ {view : SystemSeen} (system : KeptSystem view) {a : Actor} {stand : Sta
             wanted = λ room fits. wants.wanted (room stand.line wants.line wants.at refl)
                 (subst (λ (n : ℕ). EndsPiece n → ⊥) (walk_length system.order parts.begun lines kept.told) fits);
           })
+
+  -- the run that ended at the place is the turn's
+  pub runs_so : (turn : Turn) → turn ≡ turn_of step.number step.answer → runs_at lines stand.line step.answer ≡ runs_by_turn view turn
+  runs_so turn same = by_answer step.answer ∙ ap (λ (t : Turn). runs_by_turn view t) (sym same)
+    where
+      by_answer : (r : Result (Stepped L) StepRefused) → runs_at lines stand.line r ≡ runs_by_turn view (turn_of step.number r)
+      by_answer (Ok (stepped.Added e)) =
+          ap (λ (o : Option BoardLine). one_run (run_on o e)) (number_found L system can step.number step.number_is)
+          ∙ ap (λ (s : SystemSeen). runs_by_move (board_lines s.lines) (step.number, e)) system.view_is
+      by_answer (Ok stepped.NotYet) = refl
+      by_answer (Ok (stepped.Lacks lack)) = refl
+      by_answer (Err (refusals.Full line len)) = refl
+      by_answer (Err refusals.NoMemory) = refl
 
 -- the number of the line that was read at a place
 pub number_read : {X : Type 0} (f : X → LineSeen) (xs : List X) (k : ℕ) (x : X) (d : LineDef) → k < length (map f xs)

@@ -1,9 +1,9 @@
 -- A system as a call finds it: what stands behind that which contracts see, and what is kept of it.
-use Rattle.std.proofs.Common.{◌≡◌, ℕ, IsSomeAnd, Option, Result, List, slice_get}
+use Rattle.std.proofs.Common.{◌≡◌, ℕ, IsSomeAnd, Result, List, slice_get}
 use Rattle.irq_base.specs.declared.entries.Actor.{Actor}
-use Rattle.irq_base.specs.declared.entries.Entry.{Entry}
 use Rattle.irq_base.specs.declared.numbers.LineNo.{LineNo}
 use Rattle.irq_line.specs.declared.answers.StepRefused.{StepRefused}
+use Rattle.irq_line.specs.declared.answers.Stepped.{Stepped}
 use Rattle.board_def.specs.Rules.{IsBoard}
 use Rattle.board_def.specs.Seen.{BoardSeen}
 use Rattle.domain_rules.specs.declared.layouts.Placement.{Placement}
@@ -43,9 +43,13 @@ kept_system {board} {layout} {lines} {scripts} {order} {parts} {view} is_board k
       view_is = view_is;
     }
 
+-- what stands for an answer that the step lacks
+abbrev pub lack_of : {L : Type 0} → Result (Stepped L) StepRefused → Type 0
+lack_of {L} answer = L
+
 -- What an actor's step on the line of a stand left of a system, and what it answered.
-pub record Step {view : SystemSeen} (system : KeptSystem view) (actor : Actor) (stand : Stand) : Type 0 where
-  pub answer : Result (Option Entry) StepRefused
+pub record Step (L : Type 0) {view : SystemSeen} (system : KeptSystem view) (actor : Actor) (stand : Stand) : Type 0 where
+  pub answer : Result (Stepped L) StepRefused
   pub lines : List LineSeen
   pub order : List ℕ
   pub scripts : List ScriptSeen

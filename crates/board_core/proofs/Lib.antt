@@ -26,6 +26,8 @@ pub mod Underway
 pub mod Room
 pub mod LowestTurns
 pub mod Wanting
+pub mod Hearing
+pub mod Given
 pub mod OwnScripts
 pub mod CutCounts
 pub mod Placed

@@ -24,6 +24,7 @@ use Rattle.board_def.specs.Seen.{BoardSeen}
 use Rattle.board_def.specs.declared.rows.ScriptCall.{ScriptCall}
 use Rattle.board_play.specs.Lines.{BoardLine}
 use Rattle.board_play.proofs.Counting.{not_all_complete, not_completed, others_complete, one_completed, none_complete, kth_is_due}
+use Rattle.irq_line.specs.declared.answers.Stepped.TheVariants as stepped
 use Rattle.board_core.specs.Inside.{drivers_of}
 use Rattle.board_core.specs.Making.{AreCut, call_put, with_call}
 use Rattle.board_core.specs.Numbers.{IsPlaceOfNumber, numbers_of_drivers}
@@ -60,9 +61,9 @@ call_is (Some j) k c scripts = by_script (slice_get scripts j)
     by_script None = refl
     by_script (Some s) = refl
 
-entry_is : (q : Option ℕ) (e : Entry) (scripts : List ScriptSeen) → scripts_after q (Ok (Some e)) scripts ≡ put_at (advanced e) q scripts
-entry_is None e scripts = refl
-entry_is (Some j) e scripts = by_script (slice_get scripts j)
+entry_is : (L : Type 0) (q : Option ℕ) (e : Entry) (scripts : List ScriptSeen) → scripts_after {L = L} q (Ok (stepped.Added e)) scripts ≡ put_at (advanced e) q scripts
+entry_is L None e scripts = refl
+entry_is L (Some j) e scripts = by_script (slice_get scripts j)
   where
     by_script : (o : Option ScriptSeen) → script_after o j e scripts ≡ put (advanced e) o j scripts
     by_script None = refl
@@ -214,12 +215,12 @@ same_driver_put e s = by_step (slice_get s.calls s.at)
     by_step (Some st) = by_last (completes st.call.call e)
 
 -- the drivers' scripts on the line after one more entry, which was due
-pub own_more : {rs : List DriverNo} → Rises (λ (r : DriverNo). r.0) rs → {numbers : List ℕ}
+pub own_more : (L : Type 0) {rs : List DriverNo} → Rises (λ (r : DriverNo). r.0) rs → {numbers : List ℕ}
     → numbers ≡ numbers_of_drivers rs → {x : BoardLine} (e : Entry) → IsDue x.def e x.past → (q : Option ℕ)
     → IsPlaceOfActor numbers (actor_of e) q → {scripts new : List ScriptSeen}
-    → new ≡ scripts_after q (Ok (Some e)) scripts → AreOwn rs x scripts → AreOwn rs (with_entry e x) new
-own_more {rs} rises {numbers} are {x} e due q place {scripts} {new} is own
-    = subst (λ (ss : List ScriptSeen). AreOwn rs (with_entry e x) ss) (sym (is ∙ entry_is q e scripts))
+    → new ≡ scripts_after {L = L} q (Ok (stepped.Added e)) scripts → AreOwn rs x scripts → AreOwn rs (with_entry e x) new
+own_more L {rs} rises {numbers} are {x} e due q place {scripts} {new} is own
+    = subst (λ (ss : List ScriptSeen). AreOwn rs (with_entry e x) ss) (sym (is ∙ entry_is L q e scripts))
     (by_actor (actor_of e) refl place)
   where
     nobody : (a : Actor) → actor_of e ≡ a → ((r : DriverNo) → is_driver r a ≡ false) → q ≡ None

@@ -11,6 +11,8 @@ use Rattle.irq_base.specs.declared.numbers.DriverNo.{DriverNo}
 use Rattle.irq_base.specs.declared.numbers.LineNo.{LineNo}
 use Rattle.irq_line.specs.Seen.{LineSeen, IsSound}
 use Rattle.irq_line.specs.declared.answers.StepRefused.{StepRefused}
+use Rattle.irq_line.specs.declared.answers.Stepped.{Stepped}
+use Rattle.irq_line.specs.declared.answers.Stepped.TheVariants as stepped
 use Rattle.irq_line.specs.declared.answers.StepRefused.TheVariants as refusals
 use Rattle.irq_model.specs.Kinds.{same_driver, is_driver, is_by_driver}
 use Rattle.irq_model.specs.Next.{next}
@@ -34,7 +36,7 @@ use Rattle.board_core.specs.Places.{StepsAt, SteppedAt}
 use Rattle.line_scripts.specs.Endings.{completes}
 use Rattle.board_core.specs.Scripts.{ScriptSeen, advanced_by, advanced_at, advanced, IsScript}
 use Rattle.board_core.specs.Seen.{SystemSeen, board_line, board_lines}
-use Rattle.irq_line.specs.Heard.{Adds}
+use Rattle.irq_line.specs.Answers.{Adds}
 use Rattle.board_core.specs.Turned.{IsScriptOf, StepsBy, script_after, scripts_after, turn_of}
 use Rattle.board_core.specs.Turns.{Moves, IsFullFor}
 use Rattle.board_core.specs.declared.scripts.PlacedCall.{PlacedCall}
@@ -50,7 +52,7 @@ not_some : {A : Type 0} (o : Option A) → o ≡ None → IsSome o → ⊥
 not_some None none some = cc
 not_some (Some x) none some = cc
 
-module _ {view : SystemSeen} (system : KeptSystem view) {a : Actor} {stand : Stand} (can : CanStepAt view a stand) where
+module _ (L : Type 0) {view : SystemSeen} (system : KeptSystem view) {a : Actor} {stand : Stand} (can : CanStepAt view a stand) where
   open system use {board, layout, lines, scripts, order, is_board, kept, view_is}
   open stand use {line as k, script}
 
@@ -156,7 +158,7 @@ module _ {view : SystemSeen} (system : KeptSystem view) {a : Actor} {stand : Sta
 
   each_after : (x : LineSeen) (e : Entry) → slice_get lines k ≡ Some x → next x.def x.entries a ≡ Some e
       → (o : Option ℕ) → IsScriptOf board.drivers a o → (i : ℕ) (s : ScriptSeen)
-      → slice_get (scripts_after o (Ok (Some e)) scripts) i ≡ Some s
+      → slice_get (scripts_after {L = L} o (Ok (stepped.Added e)) scripts) i ≡ Some s
       → IsScript board.calls (lines_after (x.def.line, e) (board_lines lines)) s
   each_after x e at due None of i s at_s = of_other x e due i s at_s (no_driver a of s.driver)
   each_after x e at due (Some j) of i s at_s = by_script (slice_get scripts j) refl at_s
@@ -187,11 +189,12 @@ module _ {view : SystemSeen} (system : KeptSystem view) {a : Actor} {stand : Sta
         | inr h ↦ of_other x e due i s h.1 (others i s h.1 h.0)
       ]
 
-  drivers_after : (o : Option ℕ) (r : Result (Option Entry) StepRefused) → drivers_of (scripts_after o r scripts) ≡ drivers_of scripts
+  drivers_after : (o : Option ℕ) (r : Result (Stepped L) StepRefused) → drivers_of (scripts_after o r scripts) ≡ drivers_of scripts
   drivers_after None r = refl
-  drivers_after (Some j) (Ok None) = refl
+  drivers_after (Some j) (Ok stepped.NotYet) = refl
+  drivers_after (Some j) (Ok (stepped.Lacks lack)) = refl
   drivers_after (Some j) (Err refused) = refl
-  drivers_after (Some j) (Ok (Some e)) = by_script (slice_get scripts j) refl
+  drivers_after (Some j) (Ok (stepped.Added e)) = by_script (slice_get scripts j) refl
     where
       same_driver_after : (o : Option PlacedCall) (s : ScriptSeen) → (advanced_at o e s).driver ≡ s.driver
       same_driver_after None s = refl
@@ -216,7 +219,7 @@ module _ {view : SystemSeen} (system : KeptSystem view) {a : Actor} {stand : Sta
 
   moved : (e : Entry) (new : List LineSeen) (longer : List ℕ) → StepsAt lines order k a e new longer → (line : LineNo)
       → IsSomeAnd (slice_get lines k) (λ x. line ≡ x.def.line)
-      → IsSystem board new (scripts_after script (Ok (Some e)) scripts)
+      → IsSystem board new (scripts_after {L = L} script (Ok (stepped.Added e)) scripts)
       × Moves seen due_here (line, e) (seen_of board layout new longer)
   moved e new longer s line of_line =
       let x = s.before in
@@ -241,7 +244,7 @@ module _ {view : SystemSeen} (system : KeptSystem view) {a : Actor} {stand : Sta
               (step_keeps board is_board (board_lines lines) kept.system.kept a k (board_line x) e
               (map_there board_line lines k x s.at) s.adds.due (current_as a (line_is x s.at) its.current));
           sound = subst (λ (ls : List LineSeen). (i : ℕ) (z : LineSeen) → slice_get ls i ≡ Some z → IsSound z) (sym s.rest) (sound_after y s.sound);
-          drivers = drivers_after script (Ok (Some e)) ∙ kept.system.drivers;
+          drivers = drivers_after script (Ok (stepped.Added e)) ∙ kept.system.drivers;
           each = λ i t at. subst (λ (ls : List BoardLine). IsScript board.calls ls t) (sym after) (each_after x e s.at s.adds.due script its.script i t at);
         },
         subst (λ (n : Move). Moves seen due_here n (seen_of board layout new longer)) same
@@ -261,34 +264,37 @@ module _ {view : SystemSeen} (system : KeptSystem view) {a : Actor} {stand : Sta
   same_seen : (new : List LineSeen) (longer : List ℕ) → new ≡ lines → longer ≡ order → seen_of board layout new longer ≡ seen
   same_seen new longer ls os = ap (λ (x : List LineSeen). seen_of board layout x longer) ls ∙ ap (λ (x : List ℕ). seen_of board layout lines x) os
 
-  same_system : (new : List LineSeen) → new ≡ lines → (r : Result (Option Entry) StepRefused)
+  same_system : (new : List LineSeen) → new ≡ lines → (r : Result (Stepped L) StepRefused)
       → scripts_after script r scripts ≡ scripts → IsSystem board new (scripts_after script r scripts)
   same_system new ls r ss = subst (λ (x : List LineSeen). IsSystem board x (scripts_after script r scripts)) (sym ls)
       (subst (λ (x : List ScriptSeen). IsSystem board lines x) (sym ss) kept.system)
 
-  no_scripts : (o : Option ℕ) → scripts_after o (Ok None) scripts ≡ scripts
+  no_scripts : (o : Option ℕ) → scripts_after {L = L} o (Ok stepped.NotYet) scripts ≡ scripts
   no_scripts None = refl
   no_scripts (Some j) = refl
 
-  not_scripts : (o : Option ℕ) (refused : StepRefused) → scripts_after o (Err refused) scripts ≡ scripts
+  not_scripts : (o : Option ℕ) (refused : StepRefused) → scripts_after {L = L} o (Err refused) scripts ≡ scripts
   not_scripts None refused = refl
   not_scripts (Some j) refused = refl
 
-  by_answer : (r : Result (Option Entry) StepRefused) (new : List LineSeen) (longer : List ℕ)
+  by_answer : (r : Result (Stepped L) StepRefused) (new : List LineSeen) (longer : List ℕ)
       → SteppedAt lines order k a r new longer → (line : LineNo)
       → IsSomeAnd (slice_get lines k) (λ x. line ≡ x.def.line)
       → IsSystem board new (scripts_after script r scripts)
       × StepsBy seen due_here (turn_of line r) (seen_of board layout new longer)
-  by_answer (Ok (Some e)) new longer s line number = moved e new longer s line number
-  by_answer (Ok None) new longer s line number =
-      (same_system new s.1 (Ok None) (no_scripts script), (move_is s.0.line s.0.at None s.0.rests, same_seen new longer s.1 s.2))
-  by_answer (Err (refusals.Full len)) new longer s line number =
+  by_answer (Ok (stepped.Added e)) new longer s line number = moved e new longer s line number
+  by_answer (Ok (stepped.Lacks lack)) new longer s line number = absurd s
+  by_answer (Ok stepped.NotYet) new longer s line number =
+      (same_system new s.1 (Ok stepped.NotYet) (no_scripts script), (move_is s.0.line s.0.at None s.0.rests, same_seen new longer s.1 s.2))
+  by_answer (Err (refusals.Full full len)) new longer s line number =
       let x = s.0.line in
-      let number_is : line ≡ x.def.line = subst (λ (o : Option LineSeen). IsSomeAnd o (λ x. line ≡ x.def.line)) s.0.at number in
       let told : len ≡ length x.entries = s.0.is_full.told in
       let limit : length x.entries ≡ x.def.log = s.0.is_full.log in (
-        same_system new s.1 (Err (refusals.Full len)) (not_scripts script (refusals.Full len)),
-        (full_for x s.0.at (next x.def x.entries a) refl s.0.is_full.due line number_is len told limit, same_seen new longer s.1 s.2),
+        same_system new s.1 (Err (refusals.Full full len)) (not_scripts script (refusals.Full full len)),
+        (
+          full_for x s.0.at (next x.def x.entries a) refl s.0.is_full.due full s.0.is_full.line_is len told limit,
+          same_seen new longer s.1 s.2,
+        ),
       )
     where
       full_for : (x : LineSeen) → slice_get lines k ≡ Some x → (o : Option Entry) → next x.def x.entries a ≡ o
@@ -309,11 +315,21 @@ module _ {view : SystemSeen} (system : KeptSystem view) {a : Actor} {stand : Sta
   by_answer (Err refusals.NoMemory) new longer s line number =
       (same_system new s.0 (Err refusals.NoMemory) (not_scripts script refusals.NoMemory), same_seen new longer s.0 s.1)
 
-  pub system_after : (t : Step system a stand) → IsSystem board t.lines t.scripts
+  -- the line at the place is the one of its number
+  pub number_found : (number : LineNo) → IsSomeAnd (slice_get lines k) (λ x. number ≡ x.def.line)
+      → slice_get (board_lines lines) k ≡ find_line (board_lines lines) number
+  number_found number is = by_line (slice_get lines k) refl is
+    where
+      by_line : (o : Option LineSeen) → slice_get lines k ≡ o → IsSomeAnd o (λ x. number ≡ x.def.line)
+          → slice_get (board_lines lines) k ≡ find_line (board_lines lines) number
+      by_line None at is = absurd is
+      by_line (Some x) at is = line_is x at ∙ sym (found_is x at) ∙ ap (λ (l : LineNo). find_line (board_lines lines) l) (sym is)
+
+  pub system_after : (t : Step L system a stand) → IsSystem board t.lines t.scripts
   system_after t = subst (λ (ss : List ScriptSeen). IsSystem board t.lines ss) (sym t.scripts_are)
       (by_answer t.answer t.lines t.order t.stepped t.number t.number_is).0
 
-  pub turned : (t : Step system a stand)
+  pub turned : (t : Step L system a stand)
       → StepsBy view (due_on (slice_get (board_lines view.lines) k) a) (turn_of t.number t.answer) (seen_of board layout t.lines t.order)
   turned t =
       subst (λ (s : SystemSeen). StepsBy s (due_on (slice_get (board_lines s.lines) k) a) (turn_of t.number t.answer)

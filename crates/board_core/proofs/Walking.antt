@@ -12,6 +12,8 @@ use Rattle.irq_base.specs.declared.entries.Entry.{Entry}
 use Rattle.irq_base.specs.declared.entries.Actor.{Actor}
 use Rattle.irq_line.specs.Seen.{LineSeen}
 use Rattle.irq_line.specs.declared.answers.StepRefused.{StepRefused}
+use Rattle.irq_line.specs.declared.answers.Stepped.{Stepped}
+use Rattle.irq_line.specs.declared.answers.Stepped.TheVariants as stepped
 use Rattle.irq_line.specs.declared.answers.StepRefused.TheVariants as refusals
 use Rattle.board_core.specs.Places.{SteppedAt}
 use Rattle.irq_laws.proofs.Chosen.{the_same}
@@ -269,17 +271,18 @@ walk_fresh cursors lines few all from = record {
 }
 
 -- after a step of one line
-pub walk_after : (cursors order longer : List ℕ) (old new : List LineSeen) (k : ℕ) (a : Actor)
-    (r : Result (Option Entry) StepRefused) → SteppedAt old order k a r new longer → IsWalk cursors order old
+pub walk_after : {L : Type 0} (cursors order longer : List ℕ) (old new : List LineSeen) (k : ℕ) (a : Actor)
+    (r : Result (Stepped L) StepRefused) → SteppedAt old order k a r new longer → IsWalk cursors order old
     → IsWalk cursors longer new
-walk_after cursors order longer old new k a (Ok (Some e)) s w =
+walk_after cursors order longer old new k a (Ok (stepped.Added e)) s w =
     let more = length-append s.before.entries (e ∷ []) in
     let len = ap (λ (es : List Entry). length es) s.adds.entries in
     subst (λ (ls : List LineSeen). IsWalk cursors longer ls) (sym s.rest)
     (subst (λ (ks : List ℕ). IsWalk cursors ks (set old k s.after)) (sym s.told)
     (walk_more cursors order old k s.before s.after s.at (omega (arith, more, len)) w))
-walk_after cursors order longer old new k a (Ok None) s w = walk_same cursors order longer old new s.1 s.2 w
-walk_after cursors order longer old new k a (Err (refusals.Full len)) s w = walk_same cursors order longer old new s.1 s.2 w
+walk_after cursors order longer old new k a (Ok (stepped.Lacks lack)) s w = absurd s
+walk_after cursors order longer old new k a (Ok stepped.NotYet) s w = walk_same cursors order longer old new s.1 s.2 w
+walk_after cursors order longer old new k a (Err (refusals.Full line len)) s w = walk_same cursors order longer old new s.1 s.2 w
 walk_after cursors order longer old new k a (Err refusals.NoMemory) s w = walk_same cursors order longer old new s.0 s.1 w
 
 zeros : (n k : ℕ) → get_or {A = ℕ} (replicate n 0) k 0 ≡ 0

@@ -36,7 +36,7 @@ module _ (may_want : Option Entry → Type 0) where
       let refused : IsSome (lowest_move old) × (new ≡ old) = answered t turns.NoMemory same in
       subst (λ (s : SystemSeen). WantsLowest may_want s) (sym refused.1) (subst (λ (x : Turn). LowestWants may_want old x) same wants)
 
-  may_move : (s : SystemSeen) (a : Actor) → IsSome (move_of s a) → MayMove s a
+  pub may_move : (s : SystemSeen) (a : Actor) → IsSome (move_of s a) → MayMove s a
   may_move s (actors.Thread d) some = (d, omega arith, refl, some)
   may_move s (actors.Cpu c) some = some
   may_move s (actors.Driver r) some = some

@@ -4,13 +4,15 @@ use Rattle.std.specs.Prelude.{◌∷◌}
 use Rattle.std.specs.Prelude.{◌++◌, slice_get, slice_set}
 use Rattle.irq_base.specs.declared.entries.Actor.{Actor}
 use Rattle.irq_base.specs.declared.entries.Entry.{Entry}
-use Rattle.irq_line.specs.Answers.{IsFull}
+use Rattle.irq_base.specs.declared.numbers.LineNo.{LineNo}
+use Rattle.irq_line.specs.Answers.{Adds, IsFull}
 use Rattle.irq_model.specs.Next.{next}
 use Rattle.irq_line.specs.Seen.{LineSeen, IsSound}
 use Rattle.irq_line.specs.declared.answers.StepRefused.{StepRefused}
 use Rattle.irq_line.specs.declared.answers.StepRefused.TheVariants as refusals
+use Rattle.irq_line.specs.declared.answers.Stepped.{Stepped}
+use Rattle.irq_line.specs.declared.answers.Stepped.TheVariants as stepped
 use Rattle.board_play.specs.Lines.{BoardLine}
-use Rattle.irq_line.specs.Heard.{Adds}
 use Rattle.board_core.specs.Pieces.{EndsPiece}
 
 abbrev pub line_at : List BoardLine → Option ℕ → Option BoardLine
@@ -39,23 +41,26 @@ pub record RestsAt (old : List LineSeen) (k : ℕ) (a : Actor) : Type 0 where
   pub at : slice_get old k ≡ Some line
   pub rests : next line.def line.entries a ≡ None
 
-pub record IsFullAt (old : List LineSeen) (k : ℕ) (a : Actor) (len : ℕ) : Type 0 where
+pub record IsFullAt (old : List LineSeen) (k : ℕ) (a : Actor) (number : LineNo) (len : ℕ)
+    : Type 0 where
   pub line : LineSeen
   pub at : slice_get old k ≡ Some line
-  pub is_full : IsFull line a len
+  pub is_full : IsFull line a number len
 
 -- the order after the step
-abbrev pub told : Result (Option Entry) StepRefused → List ℕ → ℕ → List ℕ
-told (Ok (Some e)) order k = order ++ k ∷ []
-told (Ok None) order k = order
-told (Err refused) order k = order
+abbrev pub told : {L : Type 0} → Result (Stepped L) StepRefused → List ℕ → ℕ → List ℕ
+told (Ok (stepped.Added e)) order k = order ++ k ∷ []
+told _ order k = order
 
-abbrev pub SteppedAt : List LineSeen → List ℕ → ℕ → Actor → Result (Option Entry) StepRefused
-    → List LineSeen → List ℕ → Type 0
-SteppedAt old order k a (Ok (Some e)) new longer = StepsAt old order k a e new longer
-SteppedAt old order k a (Ok None) new longer = RestsAt old k a × (new ≡ old) × (longer ≡ order)
-SteppedAt old order k a (Err (refusals.Full len)) new longer =
-    IsFullAt old k a len × (new ≡ old) × (longer ≡ order)
+-- what the step answers and leaves; no answer is lacking where the handlers are at hand
+abbrev pub SteppedAt : {L : Type 0} → List LineSeen → List ℕ → ℕ → Actor
+    → Result (Stepped L) StepRefused → List LineSeen → List ℕ → Type 0
+SteppedAt old order k a (Ok (stepped.Added e)) new longer = StepsAt old order k a e new longer
+SteppedAt old order k a (Ok stepped.NotYet) new longer =
+    RestsAt old k a × (new ≡ old) × (longer ≡ order)
+SteppedAt old order k a (Ok (stepped.Lacks lack)) new longer = ⊥
+SteppedAt old order k a (Err (refusals.Full line len)) new longer =
+    IsFullAt old k a line len × (new ≡ old) × (longer ≡ order)
 SteppedAt old order k a (Err refusals.NoMemory) new longer = (new ≡ old) × (longer ≡ order)
 
 -- The step on the line at place k was refused memory, after this many moves. If there was room for
@@ -66,7 +71,7 @@ pub record WantsAt (may_want : Option Entry → Type 0) (lines : List LineSeen) 
   pub at : slice_get lines k ≡ Some line
   pub wanted : 1 ≤ line.spare → (EndsPiece moves → ⊥) → may_want (next line.def line.entries a)
 
-abbrev pub StepWants : (Option Entry → Type 0) → List LineSeen → (moves k : ℕ) → Actor
-    → Result (Option Entry) StepRefused → Type 0
+abbrev pub StepWants : {L : Type 0} → (Option Entry → Type 0) → List LineSeen → (moves k : ℕ)
+    → Actor → Result (Stepped L) StepRefused → Type 0
 StepWants may_want lines moves k a (Err refusals.NoMemory) = WantsAt may_want lines moves k a
-StepWants may_want lines moves k a stepped = Unit {0}
+StepWants may_want lines moves k a _ = Unit {0}

@@ -8,6 +8,8 @@ use Rattle.irq_base.specs.declared.numbers.DriverNo.{DriverNo}
 use Rattle.irq_base.specs.declared.numbers.LineNo.{LineNo}
 use Rattle.irq_line.specs.declared.answers.StepRefused.{StepRefused}
 use Rattle.irq_line.specs.declared.answers.StepRefused.TheVariants as refusals
+use Rattle.irq_line.specs.declared.answers.Stepped.{Stepped}
+use Rattle.irq_line.specs.declared.answers.Stepped.TheVariants as stepped
 use Rattle.board_core.specs.Scripts.{ScriptSeen, advanced}
 use Rattle.board_play.specs.Lines.{Move}
 use Rattle.board_core.specs.Seen.{SystemSeen}
@@ -33,13 +35,13 @@ script_after None j e scripts = scripts
 script_after (Some s) j e scripts = slice_set scripts j (advanced e s)
 
 -- the scripts after the step: the one at place j goes on by the entry that was added
-abbrev pub scripts_after : Option ℕ → Result (Option Entry) StepRefused → List ScriptSeen
-    → List ScriptSeen
-scripts_after (Some j) (Ok (Some e)) scripts = script_after (slice_get scripts j) j e scripts
+abbrev pub scripts_after : {L : Type 0} → Option ℕ → Result (Stepped L) StepRefused
+    → List ScriptSeen → List ScriptSeen
+scripts_after (Some j) (Ok (stepped.Added e)) scripts = script_after (slice_get scripts j) j e scripts
 scripts_after _ _ scripts = scripts
 
-abbrev pub turn_of : LineNo → Result (Option Entry) StepRefused → Turn
-turn_of line (Ok (Some entry)) = turns.Moved line entry
-turn_of line (Ok None) = turns.NotYet
-turn_of line (Err (refusals.Full len)) = turns.Full line len
+abbrev pub turn_of : {L : Type 0} → LineNo → Result (Stepped L) StepRefused → Turn
+turn_of line (Ok (stepped.Added entry)) = turns.Moved line entry
+turn_of line (Ok _) = turns.NotYet
+turn_of line (Err (refusals.Full number len)) = turns.Full number len
 turn_of line (Err refusals.NoMemory) = turns.NoMemory

@@ -14,7 +14,7 @@ use crate::scripts::Script;
 use crate::turning::advance;
 use board_def::{Board, ScriptCall};
 use irq_base::{Actor, Entry, LineDef, NoMemory};
-use irq_line::IrqLine;
+use irq_line::{IrqLine, Stepped};
 use std::alloc::Global;
 
 /// Moves each script on past all that its driver has done on these lines: one pass over all
@@ -84,7 +84,7 @@ fn tell(own: &mut Vec<Script>, board: &Board, driver_numbers: &[u32], entry: Ent
 {
     board.is_board();
     let script = place_of_actor(board, driver_numbers, entry.actor());
-    advance(own, script, &Ok(Some(entry)));
+    advance(own, script, &Ok(Stepped::Added(entry)));
 }
 
 /// The place of the driver that the actor is, if it is one.

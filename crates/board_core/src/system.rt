@@ -4,6 +4,7 @@ ghost use Rattle.std.specs.Prelude.{slice_get};
 ghost use Rattle.std.specs.Option.{option_map};
 ghost use Rattle.irq_base.specs.declared.entries.Actor.{Actor};
 ghost use Rattle.irq_base.specs.declared.entries.Actor.TheVariants as actors;
+ghost use Rattle.callbacks.specs.Heard.{Heard};
 ghost use Rattle.board_def.specs.Layout.{layout_of};
 ghost use Rattle.board_play.specs.Kept.{AreKept};
 ghost use Rattle.board_play.specs.Current.{current_line};
@@ -14,6 +15,7 @@ ghost use Rattle.board_core.specs.Firsts.{IsFirstOf, call_on, is_take_due, numbe
 ghost use Rattle.board_core.specs.Making.{AreNew, MakesAll};
 ghost use Rattle.board_core.specs.Playing.{IsFresh, IsUnderway, IsPlay, Ends, Settles};
 ghost use Rattle.board_core.specs.ReadyFor.{has_thread_up_to};
+ghost use Rattle.board_core.specs.Runs.{runs_by_turn, runs_in, runs_since};
 ghost use Rattle.board_core.specs.Seen.{board_lines};
 ghost use Rattle.board_core.specs.Stands.{CanStepAt, IsAt, IsCurrentOn, IsStand, IsLowestStand};
 ghost use Rattle.board_core.specs.Stands.{IsScriptPlace, IsStandOn};
@@ -33,7 +35,7 @@ use crate::turning::{advance, turn_of};
 use crate::turns::{DueCall, PlayEnd, Turn};
 use board_def::{Board, Layout};
 use board_ready::{LineReadiness, ReadyActor, ReadyActors};
-use callbacks::{Callbacks, Handler};
+use callbacks::Handler;
 use irq_base::{Actor, CpuNo, DevNo, DriverNo, LineNo, NoMemory};
 use irq_line::{IrqLine, MakesLine};
 use std::alloc::Global;
@@ -279,8 +281,9 @@ impl<'b, L: IrqLine> System<'b, L> {
     /// One step of the actor on its line, if it can move. If the entry ends a run of a handler,
     /// that handler is called. It takes the same time however many actors and entries there are,
     /// and no memory but the log's and the line's.
-    pub fn turn<H: Handler>(&mut self, actor: Actor, handlers: &Callbacks<H>) -> Turn
+    pub fn turn<H: Handler>(&mut self, actor: Actor, handlers: &mut H) -> Turn
         ensures turns { Turns self.old actor result self.new }
+        ensures heard { Heard H.hears (runs_by_turn self.old result) handlers.old handlers.new }
         ensures memory { Wants L.may_want self.old actor result }
     {
         match self.stand(actor) {
@@ -400,15 +403,11 @@ impl<'b, L: IrqLine> System<'b, L> {
     /// One step of the actor on this line, whichever line it would step on in a turn; a driver's
     /// current call is on it. `NotYet` if the line takes no part. So the plays of other scenarios
     /// are made, which choose lines by a rule of their own.
-    pub fn step_on<H: Handler>(
-        &mut self,
-        line: LineNo,
-        actor: Actor,
-        handlers: &Callbacks<H>,
-    ) -> Turn
+    pub fn step_on<H: Handler>(&mut self, line: LineNo, actor: Actor, handlers: &mut H) -> Turn
         requires { IsCurrentOn self.old line actor }
         ensures steps { StepsBy self.old
             (due_on (find_line (board_lines self.old.lines) line) actor) result self.new }
+        ensures heard { Heard H.hears (runs_by_turn self.old result) handlers.old handlers.new }
         ensures memory { WantsOn L.may_want self.old (find_line (board_lines self.old.lines) line)
             actor result }
     {
@@ -445,9 +444,10 @@ impl<'b, L: IrqLine> System<'b, L> {
 
     /// A step of the actor on its own line.
     #[inline(always)]
-    fn step_at<H: Handler>(&mut self, stand: Stand, actor: Actor, handlers: &Callbacks<H>) -> Turn
+    fn step_at<H: Handler>(&mut self, stand: Stand, actor: Actor, handlers: &mut H) -> Turn
         requires { IsAt self.old actor stand }
         ensures steps { StepsBy self.old (move_of self.old actor) result self.new }
+        ensures heard { Heard H.hears (runs_by_turn self.old result) handlers.old handlers.new }
         ensures memory { Wants L.may_want self.old actor result }
     {
         self.step_stand(stand, actor, handlers)
@@ -455,15 +455,11 @@ impl<'b, L: IrqLine> System<'b, L> {
 
     /// A step of the actor on the line of `stand`.
     #[inline(always)]
-    fn step_stand<H: Handler>(
-        &mut self,
-        stand: Stand,
-        actor: Actor,
-        handlers: &Callbacks<H>,
-    ) -> Turn
+    fn step_stand<H: Handler>(&mut self, stand: Stand, actor: Actor, handlers: &mut H) -> Turn
         requires { CanStepAt self.old actor stand }
         ensures steps { StepsBy self.old
             (due_on (slice_get (board_lines self.old.lines) stand.line) actor) result self.new }
+        ensures heard { Heard H.hears (runs_by_turn self.old result) handlers.old handlers.new }
         ensures memory { WantsOn L.may_want self.old
             (slice_get (board_lines self.old.lines) stand.line) actor result }
     {
@@ -478,8 +474,9 @@ impl<'b, L: IrqLine> System<'b, L> {
 
     /// One step of the lowest actor that can move; `NotYet` if none can.
     #[inline(always)]
-    pub fn turn_lowest<H: Handler>(&mut self, handlers: &Callbacks<H>) -> Turn
+    pub fn turn_lowest<H: Handler>(&mut self, handlers: &mut H) -> Turn
         ensures turns { TurnsBy self.old (lowest_move self.old) result self.new }
+        ensures heard { Heard H.hears (runs_by_turn self.old result) handlers.old handlers.new }
         ensures memory { LowestWants L.may_want self.old result }
     {
         match self.lowest_stand() {
@@ -489,11 +486,12 @@ impl<'b, L: IrqLine> System<'b, L> {
     }
 
     /// Steps of the lowest actor that can move, until none can.
-    pub fn settle<H: Handler>(&mut self, handlers: &Callbacks<H>) -> PlayEnd
+    pub fn settle<H: Handler>(&mut self, handlers: &mut H) -> PlayEnd
         ensures board { self.new.board ≡ self.old.board }
         ensures layout { self.new.layout ≡ self.old.layout }
         ensures moves { Settles self.old self.new }
         ensures end { Ends self.new result }
+        ensures heard { Heard H.hears (runs_since self.old self.new) handlers.old handlers.new }
         ensures memory { EndWants L.may_want self.new result }
         ensures wanted { (picks : List Actor) → IsUnderway self.old picks []
             → PlayWants L.may_want self.new picks result }
@@ -514,11 +512,12 @@ impl<'b, L: IrqLine> System<'b, L> {
 
     /// Plays the board from its beginning to its end: the picks in turn, with one that can't move
     /// passed over, and then always the lowest actor that can move.
-    pub fn play<H: Handler>(&mut self, picks: &[Actor], handlers: &Callbacks<H>) -> PlayEnd
+    pub fn play<H: Handler>(&mut self, picks: &[Actor], handlers: &mut H) -> PlayEnd
         requires { IsFresh self.old }
         ensures board { self.new.board ≡ self.old.board }
         ensures layout { self.new.layout ≡ self.old.layout }
         ensures play { IsPlay self.new picks.now result }
+        ensures heard { Heard H.hears (runs_in self.new) handlers.old handlers.new }
         ensures memory { PlayWants L.may_want self.new picks.now result }
         ensures lines { board_lines self.new.lines
             ≡ lines_of self.new.board (reverse self.new.log) }

@@ -4,33 +4,34 @@ ghost use Rattle.board_core.specs.Turned.{scripts_after, turn_of};
 
 use crate::scripts::Script;
 use crate::turns::Turn;
-use irq_base::{Entry, LineNo};
-use irq_line::StepRefused;
+use irq_base::LineNo;
+use irq_line::{StepRefused, Stepped};
+use std::convert::Infallible;
 
 /// The script at place `script` goes on by the entry that the step added, if it added one.
 pub(crate) fn advance(
     scripts: &mut Vec<Script>,
     script: Option<usize>,
-    stepped: &Result<Option<Entry>, StepRefused>,
+    stepped: &Result<Stepped<Infallible>, StepRefused>,
 )
     requires { IfSome script (λ j. j < length scripts.old.items) }
     ensures { scripts.new.items ≡ scripts_after script stepped.now scripts.old.items }
 {
     if let Some(j) = script {
-        if let Ok(Some(entry)) = stepped {
+        if let Ok(Stepped::Added(entry)) = stepped {
             scripts[j].advance(entry);
         }
     }
 }
 
 /// What a turn answers, by what the step of its line answered.
-pub(crate) fn turn_of(line: LineNo, stepped: Result<Option<Entry>, StepRefused>) -> Turn
+pub(crate) fn turn_of(line: LineNo, stepped: Result<Stepped<Infallible>, StepRefused>) -> Turn
     ensures { result ≡ turn_of line stepped }
 {
     match stepped {
-        Ok(Some(entry)) => Turn::Moved { line, entry },
-        Ok(None) => Turn::NotYet,
-        Err(StepRefused::Full { len }) => Turn::Full { line, len },
+        Ok(Stepped::Added(entry)) => Turn::Moved { line, entry },
+        Ok(Stepped::NotYet) => Turn::NotYet,
+        Err(StepRefused::Full { line, len }) => Turn::Full { line, len },
         Err(StepRefused::NoMemory) => Turn::NoMemory,
     }
 }

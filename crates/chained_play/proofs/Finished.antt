@@ -1,10 +1,13 @@
 -- A demultiplexer whose play has ended, and what its reports hand out.
-use Rattle.std.proofs.Common.{◌≡◌, true, All, Option, Some, None, List, [], ◌∷◌, length, reverse, refl, sym, ap, ◌∙◌, subst, inl, inr}
+use Rattle.std.proofs.Common.{◌≡◌, ℕ, ◌≤◌, true, All, Option, Some, None, List, [], ◌∷◌, length, reverse, slice_get, refl, sym, ap, ◌∙◌, subst, inl, inr}
 use Rattle.irq_base.specs.declared.entries.Actor.{Actor}
+use Rattle.irq_base.specs.declared.entries.Entry.{Entry}
+use Rattle.irq_base.specs.declared.numbers.LineNo.{LineNo}
 use Rattle.irq_base.specs.declared.reporting.LineReport.{LineReport}
 use Rattle.irq_line.specs.Seen.{LineSeen}
 use Rattle.play_laws.specs.Actors.{IsOneOf}
 use Rattle.board_core.specs.Seen.{board_lines}
+use Rattle.board_core.specs.Wanted.{HasSpare}
 use Rattle.board_core.specs.declared.turns.PlayEnd.{PlayEnd}
 use Rattle.board_core.specs.declared.turns.PlayEnd.TheVariants as plays
 use Rattle.board_def.specs.Rules.{IsBoard}
@@ -13,7 +16,12 @@ use Rattle.board_play.specs.Lines.{BoardLine, Move, lines_of, part}
 use Rattle.board_play.specs.Order.{actors_of}
 use Rattle.board_play.specs.Play.{Done}
 use Rattle.board_report.specs.Moving.{AreAtRest}
+use Rattle.board_report.specs.Reporting.{IsHandedRoom, KeepRoom}
+use Rattle.irq_play.specs.declared.ending.PlayedEnd.{PlayedEnd}
+use Rattle.irq_play.specs.declared.ending.PlayedEnd.TheVariants as ends
+use Rattle.irq_play.specs.declared.ending.WantedFor.TheVariants as wants
 use Rattle.play_orders.specs.Orders.{IsPlayed}
+use Rattle.play_report.specs.Answers.{Answers}
 use Rattle.play_report.specs.Ordered.{lines_after}
 use Rattle.play_report.proofs.Handed.{Reported, handed_out}
 use Rattle.play_report.proofs.Scenario.{IsEnd, IsScenario, log_has_rows}
@@ -22,10 +30,13 @@ use Rattle.irq_chained.specs.Chain.{IsChainLegal, chain_next, chain_order, choic
 use Rattle.irq_chained.specs.Fits.{is_for_chain}
 use Rattle.irq_chained.specs.Seen.{DemuxSeen}
 use Rattle.irq_chained.specs.Turned.{IsPlay}
+use Rattle.irq_chained.specs.Wanted.{PlayWants, WantsFor}
 use Rattle.irq_chained.specs.declared.chain.ChainEntry.{ChainEntry}
+use Rattle.irq_chained.specs.declared.chain.ChainEntry.TheVariants as steps
 use Rattle.irq_chained.proofs.Chained.{keeps_signals, same_children}
 use Rattle.irq_chained.proofs.Resting.{rests}
-use Rattle.chained_play.specs.Headline.{ChainHandsOut, KeepsChain}
+use Rattle.chained_play.specs.Headline.{ChainHandsOut, KeepsChain, RefusedStep}
+use Rattle.chained_play.specs.Played.{HandsOutChain, TellsStep}
 use Rattle.chained_play.proofs.ChildSteps.{moves_due}
 
 -- ---- nothing is next
@@ -96,3 +107,53 @@ module _ (d : DemuxSeen) (board : IsBoard d.board) (fits : is_for_chain d.board 
       as_end plays.Done p = p
       as_end (plays.Full line len) p = (p.0, ap (λ (ms : List Move). length (part line ms)) (sym (same_children d.board (reverse d.log))) ∙ p.1)
       as_end plays.NoMemory p = p
+
+-- ---- which step was refused memory
+
+for_more : (o : Option ChainEntry) {C D : Type 0} → (C → D) → WantsFor o C → WantsFor o D
+for_more None f wants = f wants
+for_more (Some (steps.Enter cpu status)) f wants = tt
+for_more (Some (steps.Child line e)) f wants = f wants
+for_more (Some (steps.Exit cpu)) f wants = tt
+
+module _ (may_want : Option Entry → Type 0) where
+  step_done : (d : DemuxSeen) (lines : List LineSeen) → lines ≡ d.lines → (reports : List LineReport) → KeepRoom lines reports
+      → PlayWants may_want d d.board.picks plays.NoMemory → RefusedStep may_want d.board d.log reports
+  step_done d lines out reports keep w = record {
+    left = w.left;
+    so_far = w.so_far;
+    some = w.some;
+    actor = w.actor;
+    next = w.next;
+    step = record {
+      can = w.step.can;
+      step = for_more (chain_next d.board (reverse d.log) w.actor)
+          (λ step. record { line = step.line; is = step.is; wanted = λ room fits. step.wanted (spare step.line.def.line room) fits }) w.step.step;
+    };
+  }
+    where
+      spare : (number : LineNo) → IsHandedRoom reports number → HasSpare d.lines number
+      spare number (i, report, at, its, room) k x at_x same =
+          subst (λ (n : ℕ). 1 ≤ n) (keep k i x report (subst (λ (ls : List LineSeen). slice_get ls k ≡ Some x) (sym out) at_x) at (its ∙ sym same)) room
+
+  -- the reports, and the step
+  pub hands_out_step : (d : DemuxSeen) (end : PlayEnd) → PlayWants may_want d d.board.picks end → (lines : List LineSeen) → lines ≡ d.lines
+      → (reports : List LineReport) → KeepRoom lines reports → ChainHandsOut d.board d.log end reports → HandsOutChain may_want d end reports
+  hands_out_step d plays.Done wants lines out reports keep h = h
+  hands_out_step d (plays.Full line len) wants lines out reports keep h = h
+  hands_out_step d plays.NoMemory wants lines out reports keep h = (h, step_done d lines out reports keep wants)
+
+  pub without_step : (d : DemuxSeen) (end : PlayEnd) (reports : List LineReport) → HandsOutChain may_want d end reports
+      → ChainHandsOut d.board d.log end reports
+  without_step d plays.Done reports h = h
+  without_step d (plays.Full line len) reports h = h
+  without_step d plays.NoMemory reports h = h.0
+
+  pub tells_step : (b : BoardSeen) (d : DemuxSeen) → d.board ≡ b → (text : List ℕ) (reports : List LineReport) (before now : Option (List ℕ))
+      (end : PlayedEnd) → Answers text (HandsOutChain may_want d) reports before now end → TellsStep may_want b reports end
+  tells_step b d of text reports before now ends.Done h = tt
+  tells_step b d of text reports before now ends.WriteFault h = tt
+  tells_step b d of text reports before now (ends.LogFull line len) h = tt
+  tells_step b d of text reports before now (ends.NoMemory wants.Step) h =
+      subst (λ (c : BoardSeen). TellsStep may_want c reports (ends.NoMemory wants.Step)) of (d.log, h.0, h.1)
+  tells_step b d of text reports before now (ends.NoMemory wants.Making) h = tt

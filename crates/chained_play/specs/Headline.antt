@@ -1,13 +1,16 @@
 -- What holds of a board's play behind one demultiplexer, and of the reports that hand it out. The
 -- steps of a log stand oldest first here; the play's definitions have the newest first.
-use Rattle.std.specs.Prelude.{◌≡◌, ℕ, true, List}
+use Rattle.std.specs.Prelude.{◌≡◌, ℕ, true, Option, List}
+use Rattle.irq_base.specs.declared.entries.Entry.{Entry}
 use Rattle.irq_base.specs.declared.numbers.LineNo.{LineNo}
 use Rattle.irq_base.specs.declared.reporting.LineReport.{LineReport}
 use Rattle.board_core.specs.declared.turns.PlayEnd.{PlayEnd}
 use Rattle.board_def.specs.Seen.{BoardSeen}
+use Rattle.board_report.specs.Reporting.{IsHandedRoom}
 use Rattle.irq_chained.specs.Chain.{chain_order}
 use Rattle.irq_chained.specs.Fits.{is_for_chain}
 use Rattle.irq_chained.specs.Promise.{KeepsSignals}
+use Rattle.irq_chained.specs.Wanted.{WantsNext}
 use Rattle.irq_chained.specs.declared.chain.ChainEntry.{ChainEntry}
 use Rattle.play_report.specs.Ordered.{HandsOut, IsCut, IsDone, IsFull}
 
@@ -34,3 +37,11 @@ ChainCut b = IsCut b (chain_order b) b.picks (KeepsChain b)
 -- what the reports hand out, by how the play ended: one of these three
 abbrev pub ChainHandsOut : BoardSeen → List ChainEntry → PlayEnd → List LineReport → Type 0
 ChainHandsOut b = HandsOut b (chain_order b) b.picks (KeepsChain b)
+
+-- The step that was refused memory: whose it was, and on which child. An enter and an exit want
+-- memory for their mark. If for a child's entry there was room for one more, in the history that is
+-- handed out for the child and in the log, then the child may want memory for the entry that is due
+-- there.
+abbrev pub RefusedStep : (Option Entry → Type 0) → BoardSeen → List ChainEntry → List LineReport
+    → Type 0
+RefusedStep may_want b g reports = WantsNext may_want (IsHandedRoom reports) b b.picks g

@@ -20,17 +20,19 @@ pub struct ChainPlay<'b, L: IrqLine> {
 }
 
 impl<'b, L: IrqLine> Model for ChainPlay<'b, L> {
+    ghost use Rattle.irq_chained.specs.Wanted.{PlayWants};
     ghost use Rattle.chained_play.specs.Played.{ChainPlaySeen, IsPlayedDemux};
 
     ghost Value = { ChainPlaySeen };
 
     ghost view = { λ p. record { demux = p.demux; end = p.end } };
 
-    ghost invariant = { λ p. IsPlayedDemux p.demux p.end };
+    ghost invariant = { λ p. IsPlayedDemux p.demux p.end
+        × PlayWants L.may_want p.demux p.demux.board.picks p.end };
 }
 
 impl<'b, L: IrqLine> EndedPlay for ChainPlay<'b, L> {
-    ghost use Rattle.chained_play.specs.Headline.{ChainHandsOut};
+    ghost use Rattle.chained_play.specs.Played.{HandsOutChain};
     ghost use Rattle.chained_play.specs.Rows.{steps_text};
 
     ghost board_of = { λ p. p.demux.board };
@@ -39,7 +41,7 @@ impl<'b, L: IrqLine> EndedPlay for ChainPlay<'b, L> {
 
     ghost text = { λ p. steps_text p.demux.log };
 
-    ghost hands_out = { λ p. ChainHandsOut p.demux.board p.demux.log };
+    ghost hands_out = { λ p. HandsOutChain L.may_want p.demux };
 
     fn end(&self) -> PlayEnd {
         self.end

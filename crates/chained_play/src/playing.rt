@@ -1,15 +1,16 @@
 //! Plays a board behind one demultiplexer, and prints it.
 ghost use Rattle.std.specs.Prelude.{◌≡◌, [], IfOk, OnErr, false};
+ghost use Rattle.callbacks.specs.Heard.{Heard};
 ghost use Rattle.irq_io.specs.Faults.{Counts};
 ghost use Rattle.irq_play.specs.Ends.{is_printing, is_write_fault};
 ghost use Rattle.irq_chained.specs.Fits.{is_for_chain};
-ghost use Rattle.chained_play.specs.Played.{ChainsBoard};
+ghost use Rattle.chained_play.specs.Played.{ChainsBoard, TellsStep};
 
 use crate::ended::ChainPlay;
 use board_def::Board;
 use board_layout::lay;
 use board_report::ReportRoom;
-use callbacks::{Callbacks, Handler};
+use callbacks::Handler;
 use irq_chained::{Demux, fits_chain};
 use irq_io::Sink;
 use irq_play::{PlayedBoard, PlayedEnd, unplayed};
@@ -30,13 +31,17 @@ pub fn chained_and_print<O: Sink, M: MakesDomainLine, H: Handler>(
     alloc: Global,
     board: &Board,
     maker: &M,
-    handlers: &Callbacks<H>,
+    handlers: &mut H,
     out: &mut O,
 ) -> Result<PlayedBoard, NotForChain>
     ensures refused { OnErr result (is_for_chain board.now ≡ false) }
     ensures quiet { OnErr result (out.new ≡ out.old) }
-    ensures plays { IfOk result (λ p. ChainsBoard board.now p.reports.reports (O.written out.old)
-        (O.written out.new) p.end) }
+    ensures unheard { OnErr result (Heard H.hears [] handlers.old handlers.new) }
+    ensures plays { IfOk result (λ p. ChainsBoard board.now
+        (λ runs. Heard H.hears runs handlers.old handlers.new) p.reports.reports
+        (O.written out.old) (O.written out.new) p.end) }
+    ensures step { IfOk result (λ p.
+        TellsStep M.Line.may_want board.now p.reports.reports p.end) }
     ensures emptied { IfOk result (λ p. p.end ≡ PlayedEnd.Done → O.kept out.new ≡ []) }
     ensures write_fault { IfOk result (λ p. Counts (O.faults out.old) (O.faults out.new)
         (is_write_fault p.end)) }

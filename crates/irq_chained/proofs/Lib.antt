@@ -11,3 +11,6 @@ pub mod Playing
 pub mod NoTakes
 pub mod Turning
 pub mod SeenTurns
+pub mod Hearing
+pub mod Wanting
+pub mod OneFlow

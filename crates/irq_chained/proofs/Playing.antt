@@ -57,10 +57,10 @@ has_room b g None h = tt
 has_room b g (Some m) h = subst (λ (l : List Move). length (part m.0 l) < b.log) (same_children b g)
     (part_is b g m.0 (λ past. length past < b.log) (find_line (lines_in b g) m.0) refl h)
 
-abbrev choice_of : DemuxSeen → List Actor → Option (ChainEntry × List Actor)
+abbrev pub choice_of : DemuxSeen → List Actor → Option (ChainEntry × List Actor)
 choice_of d left = choice_by (chain_next d.board (reverse d.log)) (actors_of d.board) left
 
-turned : (old new : DemuxSeen) (due : Option ChainEntry) (e : ChainEntry) → Goes old due e new → reverse new.log ≡ e ∷ reverse old.log
+pub turned : (old new : DemuxSeen) (due : Option ChainEntry) (e : ChainEntry) → Goes old due e new → reverse new.log ≡ e ∷ reverse old.log
 turned old new due e goes = ap (λ (l : List ChainEntry). reverse l) goes.log ∙ reverse-append old.log (e ∷ [])
 
 more : (old new : DemuxSeen) (due : Option ChainEntry) (e : ChainEntry) (picks rest after : List Actor)
@@ -76,13 +76,13 @@ more old new due e picks rest after u goes is =
       next = refl;
     }
 
-with_step : (d : DemuxSeen) (pick : Actor) (rest : List Actor) (e : ChainEntry) → next_of d pick ≡ Some e → choice_of d (pick ∷ rest) ≡ Some (e, rest)
+pub with_step : (d : DemuxSeen) (pick : Actor) (rest : List Actor) (e : ChainEntry) → next_of d pick ≡ Some e → choice_of d (pick ∷ rest) ≡ Some (e, rest)
 with_step d pick rest e due = ap (λ (o : Option ChainEntry). or_choice (with_left rest o) (choice_of d rest)) due
 
 passed_over : (d : DemuxSeen) (pick : Actor) (rest : List Actor) → next_of d pick ≡ None → choice_of d (pick ∷ rest) ≡ choice_of d rest
 passed_over d pick rest due = ap (λ (o : Option ChainEntry). or_choice (with_left rest o) (choice_of d rest)) due
 
-at_pick : (d : DemuxSeen) (picks : List Actor) (i : ℕ) (x : Actor) → i < length picks
+pub at_pick : (d : DemuxSeen) (picks : List Actor) (i : ℕ) (x : Actor) → i < length picks
     → IsUnderway d picks (drop i picks) → IsUnderway d picks (get_or picks i x ∷ drop (i + 1) picks)
 at_pick d picks i x within u =
     let next : drop i picks ≡ get_or picks i x ∷ drop (i + 1) picks = drop-cons picks i x within
@@ -132,7 +132,7 @@ same_layout old new due turns.NoMemory t = ap (λ (d : DemuxSeen). d.layout) t.1
 
 module _ {old new : DemuxSeen} {due : Option ChainEntry} (t : Turned old new due) where
   -- what holds if that was answered
-  answered : (turn : ChainTurn) → t.turn ≡ turn → TurnsBy old due turn new
+  pub answered : (turn : ChainTurn) → t.turn ≡ turn → TurnsBy old due turn new
   answered turn same = subst (λ (x : ChainTurn). TurnsBy old due x new) same t.turns
 
   pub keeps_board : new.board ≡ old.board
@@ -191,7 +191,7 @@ module _ {old new : DemuxSeen} {picks : List Actor} {i : ℕ} (x : Actor) (withi
 
 -- ---- the lowest
 
-lowest_next : (d : DemuxSeen) (e : ChainEntry) → lowest_of d ≡ Some e → choice_of d [] ≡ Some (e, [])
+pub lowest_next : (d : DemuxSeen) (e : ChainEntry) → lowest_of d ≡ Some e → choice_of d [] ≡ Some (e, [])
 lowest_next d e is = ap (λ (o : Option ChainEntry). with_left [] o) is
 
 module _ {old new : DemuxSeen} (t : Turned old new (lowest_of old)) where

@@ -20,6 +20,7 @@ use Rattle.irq_chained.specs.Chain.{child, cpu_0, open_status, status_of}
 use Rattle.irq_chained.specs.Parent.{is_asked}
 use Rattle.irq_chained.specs.Seen.{DemuxSeen, IsDemux, seen_of}
 use Rattle.irq_chained.specs.Turned.{IsOther, TurnsBy, next_of, turn_of}
+use Rattle.irq_chained.specs.Wanted.{child_for}
 use Rattle.irq_chained.specs.Walk.{IsWalkAfter, IsWalkOf, is_in_words}
 use Rattle.irq_chained.specs.declared.chain.ChainEntry.TheVariants as steps
 use Rattle.irq_chained.specs.declared.chain.ChainTurn.{ChainTurn}
@@ -27,7 +28,7 @@ use Rattle.irq_chained.specs.declared.marks.Mark.{Mark}
 use Rattle.irq_chained.specs.declared.marks.Walk.{Walk}
 use Rattle.irq_chained.proofs.Resting.{few_seen}
 use Rattle.irq_chained.proofs.Stepping.{steps_of}
-use Rattle.irq_chained.proofs.Turning.{says, other_turn, flow_turn, take_turn, exit_next, left_due, take_next}
+use Rattle.irq_chained.proofs.Turning.{says, other_turn, flow_turn, take_turn, exit_next, left_due, take_line, take_next}
 
 module _ {s : SystemSeen} (t : SystemSeen) {ms : List Mark} {walk : Option Walk} {parent now : Cell} (d : IsDemux s ms walk parent)
     (shows : now ≡ after_high (is_asked (board_lines t.lines)) parent) {view : DemuxSeen} (v : seen_of s ms parent ≡ view)
@@ -103,3 +104,9 @@ module _ {s : SystemSeen} {ms : List Mark} {walk : Option Walk} {parent : Cell} 
   take_seen k found =
       subst (λ (x : DemuxSeen). next_of x (actors.Cpu cpu_0) ≡ child (due_on (slice_get (board_lines x.lines) k) (actors.Cpu cpu_0))) v
       (take_next d w due few its_walk no_flow is k found)
+
+  pub line_seen : (k : ℕ) → Some k ≡ first_of (is_in_words w.status w.taken due) 64
+      → child_for view.board (reverse view.log) (actors.Cpu cpu_0) ≡ slice_get (board_lines view.lines) k
+  line_seen k found =
+      subst (λ (x : DemuxSeen). child_for x.board (reverse x.log) (actors.Cpu cpu_0) ≡ slice_get (board_lines x.lines) k) v
+      (take_line d w due few its_walk no_flow is k found)

@@ -38,6 +38,7 @@ use Rattle.irq_chained.specs.Chain.{chain_next, child, cpu_0, first_left, in_cha
 use Rattle.irq_chained.specs.Parent.{is_asked}
 use Rattle.irq_chained.specs.Seen.{DemuxSeen, IsDemux, seen_of}
 use Rattle.irq_chained.specs.Turned.{Goes, IsOther, TurnsBy, lowest_of, next_of, turn_of}
+use Rattle.irq_chained.specs.Wanted.{child_for, line_in_chain}
 use Rattle.irq_chained.specs.Walk.{IsWalkAfter, IsWalkOf, is_in_words}
 use Rattle.irq_chained.specs.declared.chain.ChainEntry.{ChainEntry}
 use Rattle.irq_chained.specs.declared.chain.ChainEntry.TheVariants as steps
@@ -65,7 +66,7 @@ pub says : {seen view : DemuxSeen} (new : DemuxSeen) (a : Actor) {turn answer : 
 says {seen} {view} new a {turn} {answer} v same t = subst (λ (d : DemuxSeen). TurnsBy d (next_of d a) answer new) v
     (subst (λ (x : ChainTurn). TurnsBy seen (next_of seen a) x new) (sym same) t)
 
-some_of : {A : Type 0} (o : Option A) → IsSome o → (x : A) × (o ≡ Some x)
+pub some_of : {A : Type 0} (o : Option A) → IsSome o → (x : A) × (o ≡ Some x)
 some_of None h = cc
 some_of (Some x) h = (x, refl)
 
@@ -304,6 +305,14 @@ module _ {s : SystemSeen} {ms : List Mark} {walk : Option Walk} {parent : Cell} 
         both true true c h = refl
         both true false c h = cc
         both false b c h = cc
+
+    pub take_line : (k : ℕ) → Some k ≡ first_of (is_in_words w.status w.taken due) 64
+        → child_for s.board so_far (actors.Cpu cpu_0) ≡ slice_get (board_lines s.lines) k
+    take_line k found =
+        ap (λ (o : Option ℕ). line_in_chain so_far (lines_in s.board so_far) o) walks.0
+        ∙ (ap (λ (ls : List BoardLine). or_line (flow_line ls cpu_0) (first_left so_far ls w.status)) (lines_are d)
+        ∙ (ap (λ (o : Option BoardLine). or_line o (first_left so_far (board_lines s.lines) w.status)) rests
+        ∙ ap (λ (o : Option ℕ). line_at (board_lines s.lines) o) (place_is (Some k) found)))
 
     pub take_next : (k : ℕ) → Some k ≡ first_of (is_in_words w.status w.taken due) 64
         → chain_next s.board so_far (actors.Cpu cpu_0)

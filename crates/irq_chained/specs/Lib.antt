@@ -5,3 +5,5 @@ pub mod Walk
 pub mod Seen
 pub mod Turned
 pub mod Promise
+pub mod Runs
+pub mod Wanted

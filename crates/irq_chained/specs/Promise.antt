@@ -2,6 +2,7 @@
 use Rattle.std.specs.Prelude.{◌≡◌, ℕ, true, is_some, IsTrue, ◌||◌, Some, None, List, ◌∷◌, ◌++◌}
 use Rattle.std.specs.Prelude.{reverse, slice_get}
 use Rattle.irq_base.specs.Cell.{signals}
+use Rattle.irq_model.specs.Rounds.{flow, is_cpu}
 use Rattle.board_def.specs.Seen.{BoardSeen}
 use Rattle.board_play.specs.Lines.{BoardLine}
 use Rattle.board_play.specs.Order.{flow_line}
@@ -35,3 +36,9 @@ pub record KeepsSignals (b : BoardSeen) (log : List ChainEntry) : Type 0 where
       → LosesNothing b (reverse before)
   pub exits : (before after : List ChainEntry) → log ≡ before ++ steps.Exit cpu_0 ∷ after
       → IsWalked b (reverse before)
+
+-- at most one child has a flow of processor 0
+abbrev pub HasOneFlow : List BoardLine → Type 0
+HasOneFlow lines = (i j : ℕ) (x y : BoardLine) → slice_get lines i ≡ Some x
+    → slice_get lines j ≡ Some y → is_cpu cpu_0 (flow x.def x.past) ≡ true
+    → is_cpu cpu_0 (flow y.def y.past) ≡ true → i ≡ j

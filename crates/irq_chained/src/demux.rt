@@ -3,6 +3,7 @@ ghost use Rattle.std.specs.Prelude.{◌≡◌, ◌<◌, true, IfOk, IsSome, IsTr
 ghost use Rattle.std.specs.Prelude.{reverse, slice_get};
 ghost use Rattle.irq_base.specs.declared.entries.Actor.{Actor};
 ghost use Rattle.irq_base.specs.declared.entries.Actor.TheVariants as actors;
+ghost use Rattle.callbacks.specs.Heard.{Heard};
 ghost use Rattle.board_def.specs.Layout.{layout_of};
 ghost use Rattle.board_def.specs.Rules.{IsBoard};
 ghost use Rattle.board_play.specs.Kept.{AreKept};
@@ -14,9 +15,11 @@ ghost use Rattle.irq_chained.specs.Chain.{IsChainLegal, child, cpu_0, lines_in, 
 ghost use Rattle.irq_chained.specs.Chain.{or_step};
 ghost use Rattle.irq_chained.specs.Fits.{is_for_chain};
 ghost use Rattle.irq_chained.specs.Parent.{parent_cell};
+ghost use Rattle.irq_chained.specs.Runs.{runs_by_turn, runs_in};
 ghost use Rattle.irq_chained.specs.Turned.{IsOther, IsPlay, IsUnderway, TurnsBy};
 ghost use Rattle.irq_chained.specs.Turned.{lowest_driver_of, lowest_of, next_of, turn_of};
 ghost use Rattle.irq_chained.specs.Walk.{IsWalkOf};
+ghost use Rattle.irq_chained.specs.Wanted.{DueWants, PlayWants, Wants, child_for};
 ghost use Rattle.irq_chained.specs.declared.chain.ChainEntry.TheVariants as steps;
 
 use crate::chain::{ChainEntry, ChainTurn};
@@ -25,7 +28,7 @@ use crate::status::{CPU_0, first_left, number_at, read_status, show, walk_after}
 use crate::walking::ChainWalk;
 use board_core::{PlayEnd, System, Turn};
 use board_def::{Board, Layout};
-use callbacks::{Callbacks, Handler};
+use callbacks::Handler;
 use chip_kinds::LevelChip;
 use irq_base::{Actor, Chip, LineNo, NoMemory};
 use irq_line::{IrqLine, MakesLine};
@@ -129,8 +132,10 @@ impl<'b, L: IrqLine> Demux<'b, L> {
 
     /// One step of the actor, if it has one. If the step ends a run of a handler, that handler is
     /// called. It takes the same time however many children and entries there are.
-    pub fn turn<H: Handler>(&mut self, actor: Actor, handlers: &Callbacks<H>) -> ChainTurn
-        ensures { TurnsBy self.old (next_of self.old actor) result self.new }
+    pub fn turn<H: Handler>(&mut self, actor: Actor, handlers: &mut H) -> ChainTurn
+        ensures turns { TurnsBy self.old (next_of self.old actor) result self.new }
+        ensures heard { Heard H.hears (runs_by_turn self.old result) handlers.old handlers.new }
+        ensures memory { Wants L.may_want self.old actor result }
     {
         match actor {
             Actor::Cpu(cpu) => {
@@ -146,9 +151,11 @@ impl<'b, L: IrqLine> Demux<'b, L> {
     }
 
     /// A step of a thread or a driver.
-    fn turn_other<H: Handler>(&mut self, actor: Actor, handlers: &Callbacks<H>) -> ChainTurn
+    fn turn_other<H: Handler>(&mut self, actor: Actor, handlers: &mut H) -> ChainTurn
         requires { IsOther actor }
-        ensures { TurnsBy self.old (next_of self.old actor) result self.new }
+        ensures turns { TurnsBy self.old (next_of self.old actor) result self.new }
+        ensures heard { Heard H.hears (runs_by_turn self.old result) handlers.old handlers.new }
+        ensures memory { Wants L.may_want self.old actor result }
     {
         self.is_kept();
         let turn = self.system.turn(actor, handlers);
@@ -157,8 +164,10 @@ impl<'b, L: IrqLine> Demux<'b, L> {
     }
 
     /// A step of processor 0.
-    fn turn_cpu_0<H: Handler>(&mut self, handlers: &Callbacks<H>) -> ChainTurn
-        ensures { TurnsBy self.old (next_of self.old (actors.Cpu cpu_0)) result self.new }
+    fn turn_cpu_0<H: Handler>(&mut self, handlers: &mut H) -> ChainTurn
+        ensures turns { TurnsBy self.old (next_of self.old (actors.Cpu cpu_0)) result self.new }
+        ensures heard { Heard H.hears (runs_by_turn self.old result) handlers.old handlers.new }
+        ensures memory { Wants L.may_want self.old (actors.Cpu cpu_0) result }
     {
         match self.walk {
             None => self.enter(),
@@ -172,7 +181,9 @@ impl<'b, L: IrqLine> Demux<'b, L> {
     /// Enters a chain, if some child has a take due.
     fn enter(&mut self) -> ChainTurn
         requires { open_status (reverse self.old.log) ≡ None }
-        ensures { TurnsBy self.old (next_of self.old (actors.Cpu cpu_0)) result self.new }
+        ensures turns { TurnsBy self.old (next_of self.old (actors.Cpu cpu_0)) result self.new }
+        ensures unheard { runs_by_turn self.old result ≡ [] }
+        ensures memory { Wants L.may_want self.old (actors.Cpu cpu_0) result }
     {
         self.is_kept();
         let status = read_status(&self.system);
@@ -195,10 +206,12 @@ impl<'b, L: IrqLine> Demux<'b, L> {
     }
 
     /// A further step of the flow that processor 0 has on this line.
-    fn go_on<H: Handler>(&mut self, line: LineNo, handlers: &Callbacks<H>) -> ChainTurn
+    fn go_on<H: Handler>(&mut self, line: LineNo, handlers: &mut H) -> ChainTurn
         requires open { IsSome (open_status (reverse self.old.log)) }
         requires flow { number_of (flow_line (board_lines self.old.lines) cpu_0) ≡ Some line }
-        ensures { TurnsBy self.old (next_of self.old (actors.Cpu cpu_0)) result self.new }
+        ensures turns { TurnsBy self.old (next_of self.old (actors.Cpu cpu_0)) result self.new }
+        ensures heard { Heard H.hears (runs_by_turn self.old result) handlers.old handlers.new }
+        ensures memory { Wants L.may_want self.old (actors.Cpu cpu_0) result }
     {
         self.is_kept();
         let turn = self.system.step_on(line, Actor::Cpu(CPU_0), handlers);
@@ -207,10 +220,12 @@ impl<'b, L: IrqLine> Demux<'b, L> {
     }
 
     /// Takes the first child of the status that is left, or leaves the chain.
-    fn walk_on<H: Handler>(&mut self, walk: Walk, handlers: &Callbacks<H>) -> ChainTurn
+    fn walk_on<H: Handler>(&mut self, walk: Walk, handlers: &mut H) -> ChainTurn
         requires walk { IsWalkOf (board_lines self.old.lines) (reverse self.old.log) (Some walk) }
         requires no_flow { flow_line (board_lines self.old.lines) cpu_0 ≡ None }
-        ensures { TurnsBy self.old (next_of self.old (actors.Cpu cpu_0)) result self.new }
+        ensures turns { TurnsBy self.old (next_of self.old (actors.Cpu cpu_0)) result self.new }
+        ensures heard { Heard H.hears (runs_by_turn self.old result) handlers.old handlers.new }
+        ensures memory { Wants L.may_want self.old (actors.Cpu cpu_0) result }
     {
         self.is_kept();
         let due = read_status(&self.system);
@@ -221,14 +236,18 @@ impl<'b, L: IrqLine> Demux<'b, L> {
     }
 
     /// Takes the child at this place.
-    fn take<H: Handler>(&mut self, place: usize, walk: Walk, handlers: &Callbacks<H>) -> ChainTurn
+    fn take<H: Handler>(&mut self, place: usize, walk: Walk, handlers: &mut H) -> ChainTurn
         requires walk { IsWalkOf (board_lines self.old.lines) (reverse self.old.log) (Some walk) }
         requires place { place < 32 }
         requires due { IsTrue (is_take_due cpu_0
             (slice_get (board_lines self.old.lines) place)) }
         requires next { next_of self.old (actors.Cpu cpu_0)
             ≡ child (due_on (slice_get (board_lines self.old.lines) place) (actors.Cpu cpu_0)) }
-        ensures { TurnsBy self.old (next_of self.old (actors.Cpu cpu_0)) result self.new }
+        requires line { child_for self.old.board (reverse self.old.log) (actors.Cpu cpu_0)
+            ≡ slice_get (board_lines self.old.lines) place }
+        ensures turns { TurnsBy self.old (next_of self.old (actors.Cpu cpu_0)) result self.new }
+        ensures heard { Heard H.hears (runs_by_turn self.old result) handlers.old handlers.new }
+        ensures memory { Wants L.may_want self.old (actors.Cpu cpu_0) result }
     {
         self.is_kept();
         let line = number_at(&self.system, place);
@@ -241,7 +260,9 @@ impl<'b, L: IrqLine> Demux<'b, L> {
     /// Leaves the chain.
     fn exit(&mut self) -> ChainTurn
         requires { next_of self.old (actors.Cpu cpu_0) ≡ Some (steps.Exit cpu_0) }
-        ensures { TurnsBy self.old (next_of self.old (actors.Cpu cpu_0)) result self.new }
+        ensures turns { TurnsBy self.old (next_of self.old (actors.Cpu cpu_0)) result self.new }
+        ensures unheard { runs_by_turn self.old result ≡ [] }
+        ensures memory { Wants L.may_want self.old (actors.Cpu cpu_0) result }
     {
         self.is_kept();
         let mark = Mark {
@@ -259,8 +280,10 @@ impl<'b, L: IrqLine> Demux<'b, L> {
     }
 
     /// One step of the lowest actor that has one; `NotYet` if none has.
-    fn turn_lowest<H: Handler>(&mut self, handlers: &Callbacks<H>) -> ChainTurn
-        ensures { TurnsBy self.old (lowest_of self.old) result self.new }
+    fn turn_lowest<H: Handler>(&mut self, handlers: &mut H) -> ChainTurn
+        ensures turns { TurnsBy self.old (lowest_of self.old) result self.new }
+        ensures heard { Heard H.hears (runs_by_turn self.old result) handlers.old handlers.new }
+        ensures memory { DueWants L.may_want self.old (lowest_of self.old) result }
     {
         self.is_kept();
         match self.system.lowest_thread_or_cpu() {
@@ -272,10 +295,12 @@ impl<'b, L: IrqLine> Demux<'b, L> {
     }
 
     /// One step of processor 0, if it has one, else of the lowest driver that has one.
-    fn turn_after_threads<H: Handler>(&mut self, handlers: &Callbacks<H>) -> ChainTurn
+    fn turn_after_threads<H: Handler>(&mut self, handlers: &mut H) -> ChainTurn
         requires { lowest_of self.old
             ≡ or_step (next_of self.old (actors.Cpu cpu_0)) (lowest_driver_of self.old) }
-        ensures { TurnsBy self.old (lowest_of self.old) result self.new }
+        ensures turns { TurnsBy self.old (lowest_of self.old) result self.new }
+        ensures heard { Heard H.hears (runs_by_turn self.old result) handlers.old handlers.new }
+        ensures memory { DueWants L.may_want self.old (lowest_of self.old) result }
     {
         match self.turn_cpu_0(handlers) {
             ChainTurn::NotYet => self.turn_lowest_driver(handlers),
@@ -286,8 +311,10 @@ impl<'b, L: IrqLine> Demux<'b, L> {
     }
 
     /// One step of the lowest driver that has one; `NotYet` if none has.
-    fn turn_lowest_driver<H: Handler>(&mut self, handlers: &Callbacks<H>) -> ChainTurn
-        ensures { TurnsBy self.old (lowest_driver_of self.old) result self.new }
+    fn turn_lowest_driver<H: Handler>(&mut self, handlers: &mut H) -> ChainTurn
+        ensures turns { TurnsBy self.old (lowest_driver_of self.old) result self.new }
+        ensures heard { Heard H.hears (runs_by_turn self.old result) handlers.old handlers.new }
+        ensures memory { DueWants L.may_want self.old (lowest_driver_of self.old) result }
     {
         match self.system.lowest_driver() {
             Some(driver) => self.turn_other(Actor::Driver(driver), handlers),
@@ -296,11 +323,15 @@ impl<'b, L: IrqLine> Demux<'b, L> {
     }
 
     /// Steps of the lowest actor that has one, until none has.
-    fn settle<H: Handler>(&mut self, handlers: &Callbacks<H>) -> PlayEnd
+    fn settle<H: Handler>(&mut self, handlers: &mut H) -> PlayEnd
         ensures board { self.new.board ≡ self.old.board }
         ensures layout { self.new.layout ≡ self.old.layout }
         ensures play { (picks : List Actor) → IsUnderway self.old picks []
             → IsPlay self.new picks result }
+        ensures heard { (first : H) → Heard H.hears (runs_in self.old) first handlers.old
+            → Heard H.hears (runs_in self.new) first handlers.new }
+        ensures memory { (picks : List Actor) → IsUnderway self.old picks []
+            → PlayWants L.may_want self.new picks result }
     {
         loop {
             self.is_kept();
@@ -315,11 +346,13 @@ impl<'b, L: IrqLine> Demux<'b, L> {
 
     /// Plays the board from its beginning to its end: the picks in turn, with one that has no step
     /// passed over, and then always the lowest actor that has a step.
-    pub fn play<H: Handler>(&mut self, picks: &[Actor], handlers: &Callbacks<H>) -> PlayEnd
+    pub fn play<H: Handler>(&mut self, picks: &[Actor], handlers: &mut H) -> PlayEnd
         requires { self.old.log ≡ [] }
         ensures board { self.new.board ≡ self.old.board }
         ensures layout { self.new.layout ≡ self.old.layout }
         ensures play { IsPlay self.new picks.now result }
+        ensures heard { Heard H.hears (runs_in self.new) handlers.old handlers.new }
+        ensures memory { PlayWants L.may_want self.new picks.now result }
     {
         for pick in picks {
             match self.turn(*pick, handlers) {

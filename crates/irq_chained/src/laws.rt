@@ -8,7 +8,7 @@ ghost use Rattle.board_play.specs.Order.{due_move};
 ghost use Rattle.play_orders.specs.Orders.{IsMade};
 ghost use Rattle.irq_chained.specs.Chain.{IsChainLegal, chain_next, chain_order, lines_in};
 ghost use Rattle.irq_chained.specs.Fits.{is_for_chain};
-ghost use Rattle.irq_chained.specs.Promise.{KeepsSignals};
+ghost use Rattle.irq_chained.specs.Promise.{HasOneFlow, KeepsSignals};
 ghost use Rattle.irq_chained.specs.declared.chain.ChainEntry.{ChainEntry};
 
 /// Each step of a play was the next one of the actor that made it.
@@ -24,6 +24,13 @@ pub fn plays_are_legal()
 pub fn keeps_signals()
     ensures law { (b : BoardSeen) (log : List ChainEntry) → IsChainLegal b (reverse log)
         → KeepsSignals b log }
+{}
+
+/// Chains don't nest: at most one child has a flow of processor 0.
+#[tactic(auto, using(crate::proofs::OneFlow::one_flow))]
+pub fn one_flow()
+    ensures law { (b : BoardSeen) (g : List ChainEntry) → IsBoard b → IsChainLegal b g
+        → HasOneFlow (lines_in b g) }
 {}
 
 /// No standstill: an actor that has no step of the chain can't move on its line either. So where

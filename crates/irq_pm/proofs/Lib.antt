@@ -7,3 +7,4 @@ pub mod Turning
 pub mod Keeps
 pub mod Through
 pub mod Fits
+pub mod Marked

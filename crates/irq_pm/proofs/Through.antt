@@ -199,7 +199,7 @@ module _ (b : BoardSeen) (is : IsBoard b) (long : IsBoard (slept b)) (free : has
   -- ---- its end
 
   -- the machine doesn't stay between two phases
-  stuck : (lines : List BoardLine) → AreKept (slept b) lines → disabling (slept b) lines ≡ None → ⊥
+  pub stuck : (lines : List BoardLine) → AreKept (slept b) lines → disabling (slept b) lines ≡ None → ⊥
   stuck lines k none = by_test (is_disable_due (due_of (slept b) lines last_driver)) refl none
     where
       by_test : (t : Bool) → is_disable_due (due_of (slept b) lines last_driver) ≡ t
@@ -212,7 +212,7 @@ module _ (b : BoardSeen) (is : IsBoard b) (long : IsBoard (slept b)) (free : has
           let rest = none_listed (slept b) lines (threads_of (slept b) ++ cpus_of (slept b)) no.1 in
           never_stuck b is long free lines k (no_thread_moves (slept b) long lines k rest) (no_cpu_moves (slept b) long lines k rest) test no.0
 
-  some_next : (woken : Option LineNo) (lines : List BoardLine) → sleeping woken (slept b) lines ≡ None → ⊥
+  pub some_next : (woken : Option LineNo) (lines : List BoardLine) → sleeping woken (slept b) lines ≡ None → ⊥
   some_next (Some line) lines none = cc
   some_next None lines none = let n = (neither_next (step_in Asleep
       (or_move (inner_move (slept b) lines) (ask_move (slept b) lines))) (Some (sleeps.Wake None, Enabling)) none).1 in

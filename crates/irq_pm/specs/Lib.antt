@@ -3,3 +3,4 @@ pub mod SleepLog
 pub mod Waking
 pub mod Phases
 pub mod Slept
+pub mod Marked

@@ -11,6 +11,7 @@ ghost use Rattle.board_play.specs.Order.{actors_of, due_move};
 ghost use Rattle.board_play.specs.Play.{End, Done};
 ghost use Rattle.irq_base.specs.declared.entries.Actor.{Actor};
 ghost use Rattle.irq_base.specs.declared.numbers.LineNo.{LineNo};
+ghost use Rattle.irq_pm.specs.Marked.{HasWoken, SleptOnce};
 ghost use Rattle.irq_pm.specs.SleepLog.{moves_of};
 ghost use Rattle.irq_pm.specs.Slept.{NamesWaker, Sleeps, SleepsThrough};
 ghost use Rattle.irq_pm.specs.SleptBoard.{slept};
@@ -45,8 +46,19 @@ pub fn sleeps_through()
         (g : List SleepEntry) (end : End) → Sleeps b armed picks g end → NamesWaker armed g }
 {}
 
-/// Falling asleep never gets stuck, and nor does any later phase: a sleep that is done has come to
-/// its last phase, and no actor of the board can move.
+/// A sleep that is done has exactly one mark `Asleep`, and after it exactly one mark `Wake`, and
+/// stands in its last phase.
+pub fn sleep_is_marked()
+    ensures marks { (b : BoardSeen) (armed : List LineNo) (g : List SleepEntry) → IsBoard b
+        → IsBoard (slept b) → has_driver b.drivers last_driver ≡ false
+        → Sleeps (slept b) armed b.picks g Done → SleptOnce g }
+    ensures phase { (b : BoardSeen) (armed : List LineNo) (g : List SleepEntry) → IsBoard b
+        → IsBoard (slept b) → has_driver b.drivers last_driver ≡ false
+        → (played : Sleeps (slept b) armed b.picks g Done) → HasWoken played.0 }
+{}
+
+/// Falling asleep never gets stuck, and nor does any later phase: when a sleep is done no actor of
+/// the board can move.
 pub fn sleep_comes_to_rest()
     ensures law { (b : BoardSeen) (armed : List LineNo) (g : List SleepEntry) → IsBoard b
         → IsBoard (slept b) → has_driver b.drivers last_driver ≡ false

@@ -316,7 +316,7 @@ at_pick first s picks i d within u =
 module _ {first old new : SleeperSeen} {picks : List Actor} {i : ℕ} (d : Actor) (within : i < length picks)
     (u : GoesTo first old picks (Picking (drop i picks))) {r : Result Bool PlayEnd}
     (steps : StepsBy old (move_of old.system (get_or picks i d)) r new) where
-  picked_step : SleepStep first old new picks (Picking (get_or picks i d ∷ drop (i + 1) picks)) (Picking (drop (i + 1) picks)) r
+  pub picked_step : SleepStep first old new picks (Picking (get_or picks i d ∷ drop (i + 1) picks)) (Picking (drop (i + 1) picks)) r
   picked_step =
       let v = at_pick first old picks i d within u in
       record {

@@ -1,3 +1,5 @@
 pub mod Watching
 pub mod Seen
 pub mod Steps
+pub mod Hearing
+pub mod Wanted

@@ -3,6 +3,8 @@ ghost use Rattle.std.specs.Prelude.{◌≡◌, IfErr, IfOk, OnOk};
 ghost use Rattle.board_core.specs.Making.{MakesAll};
 ghost use Rattle.board_core.specs.Seen.{board_lines};
 ghost use Rattle.board_core.specs.Turns.{move_of, lowest_move};
+ghost use Rattle.callbacks.specs.Heard.{Heard};
+ghost use Rattle.board_core.specs.Runs.{runs_in};
 ghost use Rattle.board_def.specs.Layout.{layout_of};
 ghost use Rattle.board_driver.specs.Longer.{last_driver};
 ghost use Rattle.board_play.specs.Play.{or_move};
@@ -10,15 +12,17 @@ ghost use Rattle.irq_pm.specs.Phases.{Disabling, Asleep, Enabling, Going, asks_n
 ghost use Rattle.irq_pm.specs.Phases.{first_asking, is_disable_due};
 ghost use Rattle.irq_sleeper.specs.Seen.{log_of};
 ghost use Rattle.irq_sleeper.specs.Steps.{EndsIn, GoesTo, Heeds, IsAsleep, IsFresh, IsSleep};
+ghost use Rattle.irq_sleeper.specs.Hearing.{HearsOn};
 ghost use Rattle.irq_sleeper.specs.Steps.{IsTold, IsUnderway, IsWoken, Stays, StepsBy, ask_of};
 ghost use Rattle.irq_sleeper.specs.Steps.{inner_of, last_of};
+ghost use Rattle.irq_sleeper.specs.Wanted.{PlayWants, StepWants};
 
 use crate::marks::WakeMark;
 use crate::walk::SleepWalk;
 use crate::watch::{SYSTEM, Watch};
 use board_core::{PlayEnd, System, Turn};
 use board_def::{Board, Layout};
-use callbacks::{Callbacks, Handler};
+use callbacks::Handler;
 use irq_base::{Actor, Call, DriverNo, LineNo, NoMemory};
 use irq_line::{IrqLine, MakesLine};
 use std::alloc::Global;
@@ -77,11 +81,13 @@ impl<'b, L: IrqLine> Sleeper<'b, L> {
     /// Plays the picks, puts the lines to sleep, lets devices ask until the machine wakes, opens
     /// the lines, and plays on to the end (`enter_state`, `kernel/power/suspend.c`). A pick that
     /// can't move is passed over.
-    pub fn play<H: Handler>(&mut self, picks: &[Actor], handlers: &Callbacks<H>) -> PlayEnd
+    pub fn play<H: Handler>(&mut self, picks: &[Actor], handlers: &mut H) -> PlayEnd
         requires { IsFresh self.old }
         ensures stays { Stays self.old self.new }
         ensures told { IsTold self.new }
         ensures sleep { IsSleep self.new picks.now result }
+        ensures heard { Heard H.hears (runs_in self.new.system) handlers.old handlers.new }
+        ensures memory { PlayWants L.may_want self.new picks.now result }
     {
         match self.play_phases(picks, handlers) {
             Ok(()) => PlayEnd::Done,
@@ -93,11 +99,13 @@ impl<'b, L: IrqLine> Sleeper<'b, L> {
     fn play_phases<H: Handler>(
         &mut self,
         picks: &[Actor],
-        handlers: &Callbacks<H>,
+        handlers: &mut H,
     ) -> Result<(), PlayEnd>
         requires { IsFresh self.old }
         ensures done { OnOk result (EndsIn self.old self.new picks.now PlayEnd.Done) }
         ensures ends { IfErr result (EndsIn self.old self.new picks.now) }
+        ensures heard { HearsOn H.hears self.old handlers.old self.new handlers.new }
+        ensures memory { IfErr result (PlayWants L.may_want self.new picks.now) }
     {
         self.make_picks(picks, handlers)?;
         self.suspend(picks, handlers)?;
@@ -110,11 +118,13 @@ impl<'b, L: IrqLine> Sleeper<'b, L> {
     fn make_picks<H: Handler>(
         &mut self,
         picks: &[Actor],
-        handlers: &Callbacks<H>,
+        handlers: &mut H,
     ) -> Result<(), PlayEnd>
         requires { IsFresh self.old }
         ensures goes { OnOk result (GoesTo self.old self.new picks.now Disabling) }
         ensures ends { IfErr result (EndsIn self.old self.new picks.now) }
+        ensures heard { HearsOn H.hears self.old handlers.old self.new handlers.new }
+        ensures memory { IfErr result (PlayWants L.may_want self.new picks.now) }
     {
         for pick in picks {
             match self.step(*pick, handlers) {
@@ -130,11 +140,13 @@ impl<'b, L: IrqLine> Sleeper<'b, L> {
     fn suspend<H: Handler>(
         &mut self,
         picks: &[Actor],
-        handlers: &Callbacks<H>,
+        handlers: &mut H,
     ) -> Result<(), PlayEnd>
         requires { IsUnderway self.old picks.now Disabling }
         ensures goes { OnOk result (GoesTo self.old self.new picks.now Asleep) }
         ensures ends { IfErr result (EndsIn self.old self.new picks.now) }
+        ensures heard { HearsOn H.hears self.old handlers.old self.new handlers.new }
+        ensures memory { IfErr result (PlayWants L.may_want self.new picks.now) }
     {
         while self.is_disabling() {
             match self.step_disabling(handlers) {
@@ -149,10 +161,12 @@ impl<'b, L: IrqLine> Sleeper<'b, L> {
 
     /// Devices ask, and interrupts are taken, until an armed line wakes the machine, or nothing is
     /// left to happen.
-    fn sleep<H: Handler>(&mut self, picks: &[Actor], handlers: &Callbacks<H>) -> Result<(), PlayEnd>
+    fn sleep<H: Handler>(&mut self, picks: &[Actor], handlers: &mut H) -> Result<(), PlayEnd>
         requires { IsUnderway self.old picks.now Asleep }
         ensures goes { OnOk result (GoesTo self.old self.new picks.now Enabling) }
         ensures ends { IfErr result (EndsIn self.old self.new picks.now) }
+        ensures heard { HearsOn H.hears self.old handlers.old self.new handlers.new }
+        ensures memory { IfErr result (PlayWants L.may_want self.new picks.now) }
     {
         loop {
             if let Some(line) = self.watch.woken() {
@@ -191,11 +205,13 @@ impl<'b, L: IrqLine> Sleeper<'b, L> {
     fn resume<H: Handler>(
         &mut self,
         picks: &[Actor],
-        handlers: &Callbacks<H>,
+        handlers: &mut H,
     ) -> Result<(), PlayEnd>
         requires { IsUnderway self.old picks.now Enabling }
         ensures goes { OnOk result (GoesTo self.old self.new picks.now Going) }
         ensures ends { IfErr result (EndsIn self.old self.new picks.now) }
+        ensures heard { HearsOn H.hears self.old handlers.old self.new handlers.new }
+        ensures memory { IfErr result (PlayWants L.may_want self.new picks.now) }
     {
         loop {
             match self.step(Actor::Driver(SYSTEM), handlers) {
@@ -207,10 +223,12 @@ impl<'b, L: IrqLine> Sleeper<'b, L> {
     }
 
     /// Steps of the lowest actor that can move, until none can.
-    fn go_on<H: Handler>(&mut self, picks: &[Actor], handlers: &Callbacks<H>) -> Result<(), PlayEnd>
+    fn go_on<H: Handler>(&mut self, picks: &[Actor], handlers: &mut H) -> Result<(), PlayEnd>
         requires { IsUnderway self.old picks.now Going }
         ensures done { OnOk result (EndsIn self.old self.new picks.now PlayEnd.Done) }
         ensures ends { IfErr result (EndsIn self.old self.new picks.now) }
+        ensures heard { HearsOn H.hears self.old handlers.old self.new handlers.new }
+        ensures memory { IfErr result (PlayWants L.may_want self.new picks.now) }
     {
         loop {
             match self.step_lowest(handlers) {
@@ -222,16 +240,20 @@ impl<'b, L: IrqLine> Sleeper<'b, L> {
     }
 
     /// One step of the actor, if it can move. An error is the play's end.
-    fn step<H: Handler>(&mut self, actor: Actor, handlers: &Callbacks<H>) -> Result<bool, PlayEnd>
-        ensures { StepsBy self.old (move_of self.old.system actor) result self.new }
+    fn step<H: Handler>(&mut self, actor: Actor, handlers: &mut H) -> Result<bool, PlayEnd>
+        ensures steps { StepsBy self.old (move_of self.old.system actor) result self.new }
+        ensures heard { HearsOn H.hears self.old handlers.old self.new handlers.new }
+        ensures memory { StepWants L.may_want self.old.system (move_of self.old.system actor) result }
     {
         let turn = self.system.turn(actor, handlers);
         self.heed(turn)
     }
 
     /// One step of the lowest actor that can move, if one can.
-    fn step_lowest<H: Handler>(&mut self, handlers: &Callbacks<H>) -> Result<bool, PlayEnd>
-        ensures { StepsBy self.old (lowest_move self.old.system) result self.new }
+    fn step_lowest<H: Handler>(&mut self, handlers: &mut H) -> Result<bool, PlayEnd>
+        ensures steps { StepsBy self.old (lowest_move self.old.system) result self.new }
+        ensures heard { HearsOn H.hears self.old handlers.old self.new handlers.new }
+        ensures memory { StepWants L.may_want self.old.system (lowest_move self.old.system) result }
     {
         let turn = self.system.turn_lowest(handlers);
         self.heed(turn)
@@ -239,9 +261,12 @@ impl<'b, L: IrqLine> Sleeper<'b, L> {
 
     /// One step of the system's driver, or, while that waits, of the lowest thread or processor
     /// that can move.
-    fn step_disabling<H: Handler>(&mut self, handlers: &Callbacks<H>) -> Result<bool, PlayEnd>
-        ensures { StepsBy self.old (or_move (last_of self.old.system) (inner_of self.old.system))
+    fn step_disabling<H: Handler>(&mut self, handlers: &mut H) -> Result<bool, PlayEnd>
+        ensures steps { StepsBy self.old (or_move (last_of self.old.system) (inner_of self.old.system))
             result self.new }
+        ensures heard { HearsOn H.hears self.old handlers.old self.new handlers.new }
+        ensures memory { StepWants L.may_want self.old.system 
+            (or_move (last_of self.old.system) (inner_of self.old.system)) result }
     {
         if self.step(Actor::Driver(SYSTEM), handlers)? {
             return Ok(true);
@@ -251,9 +276,12 @@ impl<'b, L: IrqLine> Sleeper<'b, L> {
 
     /// One step of the lowest thread or processor that can move, or else of the lowest driver of a
     /// device that asks.
-    fn step_asleep<H: Handler>(&mut self, handlers: &Callbacks<H>) -> Result<bool, PlayEnd>
-        ensures { StepsBy self.old (or_move (inner_of self.old.system) (ask_of self.old.system))
+    fn step_asleep<H: Handler>(&mut self, handlers: &mut H) -> Result<bool, PlayEnd>
+        ensures steps { StepsBy self.old (or_move (inner_of self.old.system) (ask_of self.old.system))
             result self.new }
+        ensures heard { HearsOn H.hears self.old handlers.old self.new handlers.new }
+        ensures memory { StepWants L.may_want self.old.system 
+            (or_move (inner_of self.old.system) (ask_of self.old.system)) result }
     {
         if self.step_inner(handlers)? {
             return Ok(true);
@@ -265,8 +293,10 @@ impl<'b, L: IrqLine> Sleeper<'b, L> {
     }
 
     /// One step of the lowest thread or processor that can move, if one can.
-    fn step_inner<H: Handler>(&mut self, handlers: &Callbacks<H>) -> Result<bool, PlayEnd>
-        ensures { StepsBy self.old (inner_of self.old.system) result self.new }
+    fn step_inner<H: Handler>(&mut self, handlers: &mut H) -> Result<bool, PlayEnd>
+        ensures steps { StepsBy self.old (inner_of self.old.system) result self.new }
+        ensures heard { HearsOn H.hears self.old handlers.old self.new handlers.new }
+        ensures memory { StepWants L.may_want self.old.system (inner_of self.old.system) result }
     {
         match self.system.lowest_thread_or_cpu() {
             Some(actor) => self.step(actor, handlers),

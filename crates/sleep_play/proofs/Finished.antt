@@ -1,8 +1,9 @@
 -- A sleeper whose play has ended, and what its reports hand out.
-use Rattle.std.proofs.Common.{◌≡◌, ◌++◌, ℕ, Bool, true, false, not, ◌&&◌, All, IsSome, Option, Some, None, List, length}
+use Rattle.std.proofs.Common.{◌≡◌, ◌++◌, ◌≤◌, ℕ, Bool, true, false, not, ◌&&◌, All, IsSome, Option, Some, None, List, length}
 use Rattle.std.proofs.Common.{reverse, slice_get, refl, sym, ap, ◌∙◌, subst}
 use Rattle.std.proofs.lemmas.Bool.{and_parts}
 use Rattle.std.proofs.lemmas.List.{reverse-reverse}
+use Rattle.irq_base.specs.declared.devices.Run.{Run}
 use Rattle.irq_base.specs.declared.entries.Entry.{Entry}
 use Rattle.irq_base.specs.declared.numbers.LineNo.{LineNo}
 use Rattle.irq_base.specs.declared.reporting.LineReport.{LineReport}
@@ -15,7 +16,9 @@ use Rattle.board_def.specs.Rules.{IsBoard, has_driver}
 use Rattle.board_def.specs.Seen.{BoardSeen}
 use Rattle.board_def.specs.declared.rows.LineRow.{LineRow}
 use Rattle.board_driver.specs.Longer.{last_driver}
+use Rattle.board_core.specs.Runs.{runs_of}
 use Rattle.board_core.specs.Seen.{board_lines}
+use Rattle.board_core.specs.Wanted.{HasSpare}
 use Rattle.board_core.specs.declared.turns.PlayEnd.{PlayEnd}
 use Rattle.board_core.specs.declared.turns.PlayEnd.TheVariants as plays
 use Rattle.board_play.specs.Kept.{AreKept}
@@ -25,10 +28,12 @@ use Rattle.board_play.specs.Play.{Done, Full, first_move}
 use Rattle.board_play.proofs.Listed.{def_at}
 use Rattle.board_play.proofs.Members.{past_at}
 use Rattle.board_report.specs.Moving.{AreAtRest}
-use Rattle.board_report.specs.Reporting.{entries_in}
+use Rattle.board_report.specs.Reporting.{IsHandedRoom, KeepRoom, entries_in}
 use Rattle.board_report.proofs.Laid.{its_entries, line_laid}
 use Rattle.play_orders.specs.Orders.{IsMade, Order}
 use Rattle.irq_play.specs.declared.ending.PlayedEnd.{PlayedEnd}
+use Rattle.irq_play.specs.declared.ending.PlayedEnd.TheVariants as ends
+use Rattle.irq_play.specs.declared.ending.WantedFor.TheVariants as wants
 use Rattle.log_text.specs.LayoutRows.{layout_rows}
 use Rattle.play_report.specs.Answers.{Answers}
 use Rattle.play_report.specs.Ordered.{lines_after}
@@ -44,8 +49,9 @@ use Rattle.irq_pm.proofs.Order.{first_is}
 use Rattle.irq_pm.proofs.Through.{comes_to_rest, moves_are, names_waker, state, through}
 use Rattle.irq_sleeper.specs.Seen.{SleeperSeen, log_of}
 use Rattle.irq_sleeper.specs.Steps.{IsSleep, IsTold}
-use Rattle.sleep_play.specs.Headline.{KeepsSleep, SleepHandsOut}
-use Rattle.sleep_play.specs.Played.{HandsOutSleep, IsSleepOf, SleepsBoard}
+use Rattle.irq_sleeper.specs.Wanted.{PlayWants, WantsNext}
+use Rattle.sleep_play.specs.Headline.{KeepsSleep, RefusedStep, SleepCut, SleepHandsOut}
+use Rattle.sleep_play.specs.Played.{HandsOutSleep, HandsOutStep, IsSleepOf, SleepsBoard, TellsStep, runs_of_steps}
 use Rattle.sleep_play.specs.Rows.{log_text, sleep_text}
 use Rattle.sleep_play.proofs.Moved.{moves_due}
 
@@ -181,11 +187,72 @@ module _ (b : BoardSeen) (armed : List LineNo) (s : SleeperSeen) (of : IsSleepOf
       handed_out (slept b) order (Picking b.picks) (KeepsSleep b armed) (log_of s) scenario (board_lines lines) (ap board_lines out ∙ are) reports
       (subst (λ (c : BoardSeen). Reported c (board_lines lines) reports) of.longer.slept told) end (as_end end sleep)
 
--- what is answered of the longer board is answered of the board that sleeps
-pub answered : (b : BoardSeen) (armed : List LineNo) (s : SleeperSeen) → IsSleepOf b armed s → (longer : BoardSeen) → s.system.board ≡ longer
-    → (reports : List LineReport) (before after : Option (List ℕ)) (end : PlayedEnd)
-    → Answers (layout_rows longer ++ log_text (log_of s)) (HandsOutSleep s) reports before after end → SleepsBoard b armed reports before after end
-answered b armed s of longer same reports before after end told =
-    of_some (sleep_text b) (SleepHandsOut b armed) (log_of s) reports before after end
-    (answers_as (layout_rows longer ++ log_text (log_of s)) (sleep_text b (log_of s)) (HandsOutSleep s) (SleepHandsOut b armed (log_of s))
-    (ap (λ (x : BoardSeen). sleep_text x (log_of s)) (sym same ∙ of.longer.slept)) (λ end rs h. h b armed of) reports before after end told)
+-- ---- which step was refused memory
+
+module _ (may_want : Option Entry → Type 0) where
+  -- by the room that is handed out
+  step_done : (b : BoardSeen) (armed : List LineNo) (s : SleeperSeen) → IsSleepOf b armed s → (lines : List LineSeen) → lines ≡ s.system.lines
+      → (reports : List LineReport) → KeepRoom lines reports → PlayWants may_want s s.system.board.picks plays.NoMemory
+      → RefusedStep may_want b armed (log_of s) reports
+  step_done b armed s of lines out reports keep wants =
+      let w = subst (λ (c : BoardSeen). WantsNext may_want (HasSpare s.system.lines) c armed c.picks (log_of s)) of.longer.slept
+      (subst (λ (a : List LineNo). WantsNext may_want (HasSpare s.system.lines) s.system.board a s.system.board.picks (log_of s)) of.watched wants) in
+      record {
+        at = w.at;
+        so_far = w.so_far;
+        some = w.some;
+        actor = w.actor;
+        can = w.can;
+        next = w.next;
+        step = record {
+          line = w.step.line;
+          is = w.step.is;
+          wanted = λ room fits. w.step.wanted (spare w.step.line.def.line room) fits;
+        };
+      }
+    where
+      spare : (number : LineNo) → IsHandedRoom reports number → HasSpare s.system.lines number
+      spare number (i, report, at, its, room) k x at_x same =
+          subst (λ (n : ℕ). 1 ≤ n) (keep k i x report (subst (λ (ls : List LineSeen). slice_get ls k ≡ Some x) (sym out) at_x) at (its ∙ sym same)) room
+
+  pub hands_out_step : (b : BoardSeen) (armed : List LineNo) (s : SleeperSeen) → IsSleepOf b armed s → (end : PlayEnd)
+      → PlayWants may_want s s.system.board.picks end → (lines : List LineSeen) → lines ≡ s.system.lines → (reports : List LineReport)
+      → KeepRoom lines reports → SleepHandsOut b armed (log_of s) end reports → HandsOutStep may_want b armed (log_of s) end reports
+  hands_out_step b armed s of plays.Done wants lines out reports keep h = h
+  hands_out_step b armed s of (plays.Full line len) wants lines out reports keep h = h
+  hands_out_step b armed s of plays.NoMemory wants lines out reports keep h = (h, step_done b armed s of lines out reports keep wants)
+
+  without_step : (b : BoardSeen) (armed : List LineNo) (g : List SleepEntry) (end : PlayEnd) (reports : List LineReport)
+      → HandsOutStep may_want b armed g end reports → SleepHandsOut b armed g end reports
+  without_step b armed g plays.Done reports h = h
+  without_step b armed g (plays.Full line len) reports h = h
+  without_step b armed g plays.NoMemory reports h = h.0
+
+  cut_of : (b : BoardSeen) (armed : List LineNo) (g : List SleepEntry) (reports : List LineReport)
+      → SleepHandsOut b armed g plays.NoMemory reports → SleepCut b armed g reports
+  unfolding SleepHandsOut
+  cut_of b armed g reports h = h
+
+  -- what is answered of the longer board tells the step
+  pub tells_step : (b : BoardSeen) (armed : List LineNo) (s : SleeperSeen) → IsSleepOf b armed s → (text : List ℕ) (reports : List LineReport)
+      (before after : Option (List ℕ)) (end : PlayedEnd) → Answers text (HandsOutSleep may_want s) reports before after end
+      → TellsStep may_want b armed reports end
+  tells_step b armed s of text reports before after ends.Done h = tt
+  tells_step b armed s of text reports before after ends.WriteFault h = tt
+  tells_step b armed s of text reports before after (ends.LogFull line len) h = tt
+  tells_step b armed s of text reports before after (ends.NoMemory wants.Step) h =
+      let told = h b armed of in
+      (log_of s, cut_of b armed (log_of s) reports told.0, told.1)
+  tells_step b armed s of text reports before after (ends.NoMemory wants.Making) h = tt
+
+  -- what is answered of the longer board is answered of the board that sleeps
+  pub answered : (b : BoardSeen) (armed : List LineNo) (heard : List Run → Type 0) (s : SleeperSeen) → IsSleepOf b armed s
+      → (longer : BoardSeen) → s.system.board ≡ longer → (reports : List LineReport) (before after : Option (List ℕ)) (end : PlayedEnd)
+      → Answers (layout_rows longer ++ log_text (log_of s)) (HandsOutSleep may_want s) reports before after end
+      → heard (runs_of longer (moves_of (reverse (log_of s)))) → SleepsBoard b armed heard reports before after end
+  answered b armed heard s of longer same reports before after end told called =
+      of_some (sleep_text b) (SleepHandsOut b armed) (runs_of_steps b) heard (log_of s) reports before after end
+      (answers_as (layout_rows longer ++ log_text (log_of s)) (sleep_text b (log_of s)) (HandsOutSleep may_want s) (SleepHandsOut b armed (log_of s))
+      (ap (λ (x : BoardSeen). sleep_text x (log_of s)) (sym same ∙ of.longer.slept))
+      (λ end rs h. without_step b armed (log_of s) end rs (h b armed of)) reports before after end told)
+      (subst (λ (x : BoardSeen). heard (runs_of x (moves_of (reverse (log_of s))))) (sym same ∙ of.longer.slept) called)

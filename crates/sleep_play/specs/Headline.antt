@@ -1,18 +1,20 @@
 -- What holds of a board's sleep, and of the reports that hand it out. The steps and marks of a log
 -- stand oldest first here; the definition of a sleep has the newest first.
-use Rattle.std.specs.Prelude.{◌≡◌, ℕ, true, List, reverse}
+use Rattle.std.specs.Prelude.{◌≡◌, ℕ, true, Option, List, reverse}
+use Rattle.irq_base.specs.declared.entries.Entry.{Entry}
 use Rattle.irq_base.specs.declared.numbers.LineNo.{LineNo}
 use Rattle.irq_base.specs.declared.reporting.LineReport.{LineReport}
 use Rattle.board_core.specs.declared.turns.PlayEnd.{PlayEnd}
 use Rattle.board_def.specs.Seen.{BoardSeen}
 use Rattle.board_play.specs.Lines.{lines_of}
 use Rattle.board_report.specs.Headline.{EachMapped, Histories}
-use Rattle.board_report.specs.Reporting.{entries_in}
+use Rattle.board_report.specs.Reporting.{IsHandedRoom, entries_in}
 use Rattle.irq_pm.specs.Phases.{Picking, sleep_order}
 use Rattle.irq_pm.specs.SleepLog.{moves_of}
 use Rattle.irq_pm.specs.Slept.{NamesWaker, SleepsThrough}
 use Rattle.irq_pm.specs.SleptBoard.{is_for_sleep, slept}
 use Rattle.irq_pm.specs.declared.entries.SleepEntry.{SleepEntry}
+use Rattle.irq_sleeper.specs.Wanted.{WantsNext}
 use Rattle.play_report.specs.Ordered.{HandsOut, IsCut, IsDone, IsFull}
 
 -- each line's entries among the steps
@@ -51,3 +53,11 @@ unfoldable pub SleepHandsOut : BoardSeen → List LineNo → List SleepEntry →
     → List LineReport → Type 0
 SleepHandsOut b armed =
     HandsOut (slept b) (sleep_order (slept b) armed) (Picking b.picks) (KeepsSleep b armed)
+
+-- The step that was refused memory: whose it was, and on which line. If there was room for one more
+-- entry, in the history that is handed out for the line and in the log, then the line may want
+-- memory for the entry that is due there.
+abbrev pub RefusedStep : (Option Entry → Type 0) → BoardSeen → List LineNo → List SleepEntry
+    → List LineReport → Type 0
+RefusedStep may_want b armed g reports =
+    WantsNext may_want (IsHandedRoom reports) (slept b) armed b.picks g

@@ -1,8 +1,12 @@
 -- What a board's sleep answers, and what is printed of it.
-use Rattle.std.specs.Prelude.{◌≡◌, ℕ, true, Option, List}
+use Rattle.std.specs.Prelude.{◌≡◌, ℕ, true, Option, List, reverse}
+use Rattle.irq_base.specs.declared.devices.Run.{Run}
+use Rattle.irq_base.specs.declared.entries.Entry.{Entry}
 use Rattle.irq_base.specs.declared.numbers.LineNo.{LineNo}
 use Rattle.irq_base.specs.declared.reporting.LineReport.{LineReport}
+use Rattle.board_core.specs.Runs.{runs_of}
 use Rattle.board_core.specs.declared.turns.PlayEnd.{PlayEnd}
+use Rattle.board_core.specs.declared.turns.PlayEnd.TheVariants as plays
 use Rattle.board_def.specs.Layout.{layout_of}
 use Rattle.board_def.specs.Rules.{IsBoard}
 use Rattle.board_def.specs.Seen.{BoardSeen}
@@ -11,17 +15,35 @@ use Rattle.board_layout.specs.Laid.{paths_of}
 use Rattle.domain_hier.specs.Hierarchies.{HierarchySeen}
 use Rattle.domain_rules.specs.declared.layouts.Placement.{Placement}
 use Rattle.irq_play.specs.declared.ending.PlayedEnd.{PlayedEnd}
+use Rattle.irq_play.specs.declared.ending.PlayedEnd.TheVariants as ends
+use Rattle.irq_play.specs.declared.ending.WantedFor.TheVariants as wants
+use Rattle.irq_pm.specs.SleepLog.{moves_of}
 use Rattle.irq_pm.specs.SleptBoard.{is_for_sleep, slept}
+use Rattle.irq_pm.specs.declared.entries.SleepEntry.{SleepEntry}
 use Rattle.irq_sleeper.specs.Seen.{SleeperSeen, log_of}
 use Rattle.irq_sleeper.specs.Steps.{IsSleep, IsTold}
 use Rattle.play_report.specs.Answers.{AnswersOfSome}
-use Rattle.sleep_play.specs.Headline.{SleepHandsOut}
+use Rattle.sleep_play.specs.Headline.{RefusedStep, SleepCut, SleepHandsOut}
 use Rattle.sleep_play.specs.Rows.{sleep_text}
 
--- what the sleep answers and prints, by how it ended; nothing is printed unless it came to its end
-abbrev pub SleepsBoard : BoardSeen → List LineNo → List LineReport → Option (List ℕ)
-    → Option (List ℕ) → PlayedEnd → Type 0
-SleepsBoard b armed = AnswersOfSome (sleep_text b) (SleepHandsOut b armed)
+-- the runs of handlers that the moves among the steps and marks ended, the newest first
+abbrev pub runs_of_steps : BoardSeen → List SleepEntry → List Run
+runs_of_steps b g = runs_of (slept b) (moves_of (reverse g))
+
+-- What the sleep answers and prints, by how it ended, and for which runs handlers were called;
+-- `heard` says of runs that it is these. Nothing is printed unless the sleep came to its end.
+abbrev pub SleepsBoard : BoardSeen → List LineNo → (List Run → Type 0) → List LineReport
+    → Option (List ℕ) → Option (List ℕ) → PlayedEnd → Type 0
+SleepsBoard b armed heard =
+    AnswersOfSome (sleep_text b) (SleepHandsOut b armed) (runs_of_steps b) heard
+
+-- If a step was refused memory, it is told which step it was; `may_want` says for which entry that
+-- is due a line may want memory though there is room.
+abbrev pub TellsStep : (Option Entry → Type 0) → BoardSeen → List LineNo → List LineReport
+    → PlayedEnd → Type 0
+TellsStep may_want b armed reports (ends.NoMemory wants.Step) =
+    (g : List SleepEntry) × SleepCut b armed g reports × RefusedStep may_want b armed g reports
+TellsStep may_want b armed reports end = Unit {0}
 
 -- what is seen of a sleep that has ended
 pub record SleepPlaySeen : Type 0 where
@@ -51,7 +73,16 @@ pub record IsSleepOf (b : BoardSeen) (armed : List LineNo) (s : SleeperSeen) : T
   pub longer : IsLongerOf b armed s.system.board
   pub watched : s.watch.armed ≡ armed
 
--- what the reports hand out, whichever board it is
-abbrev pub HandsOutSleep : SleeperSeen → PlayEnd → List LineReport → Type 0
-HandsOutSleep s end reports = (b : BoardSeen) (armed : List LineNo) → IsSleepOf b armed s
-    → SleepHandsOut b armed (log_of s) end reports
+-- what the reports hand out, and of a step that was refused memory which it was
+abbrev pub HandsOutStep : (Option Entry → Type 0) → BoardSeen → List LineNo → List SleepEntry
+    → PlayEnd → List LineReport → Type 0
+HandsOutStep may_want b armed g plays.NoMemory reports =
+    SleepHandsOut b armed g plays.NoMemory reports × RefusedStep may_want b armed g reports
+HandsOutStep may_want b armed g end reports = SleepHandsOut b armed g end reports
+
+-- the same, whichever board it is
+abbrev pub HandsOutSleep : (Option Entry → Type 0) → SleeperSeen → PlayEnd → List LineReport
+    → Type 0
+HandsOutSleep may_want s end reports =
+    (b : BoardSeen) (armed : List LineNo) → IsSleepOf b armed s
+    → HandsOutStep may_want b armed (log_of s) end reports

@@ -20,13 +20,15 @@ pub struct SleepPlay<'b, L: IrqLine> {
 }
 
 impl<'b, L: IrqLine> Model for SleepPlay<'b, L> {
+    ghost use Rattle.irq_sleeper.specs.Wanted.{PlayWants};
     ghost use Rattle.sleep_play.specs.Played.{SleepPlaySeen, IsPlayedSleeper};
 
     ghost Value = { SleepPlaySeen };
 
     ghost view = { λ p. record { sleeper = p.sleeper; end = p.end } };
 
-    ghost invariant = { λ p. IsPlayedSleeper p.sleeper p.end };
+    ghost invariant = { λ p. IsPlayedSleeper p.sleeper p.end
+        × PlayWants L.may_want p.sleeper p.sleeper.system.board.picks p.end };
 }
 
 impl<'b, L: IrqLine> EndedPlay for SleepPlay<'b, L> {
@@ -40,7 +42,7 @@ impl<'b, L: IrqLine> EndedPlay for SleepPlay<'b, L> {
 
     ghost text = { λ p. log_text (log_of p.sleeper) };
 
-    ghost hands_out = { λ p. HandsOutSleep p.sleeper };
+    ghost hands_out = { λ p. HandsOutSleep L.may_want p.sleeper };
 
     fn end(&self) -> PlayEnd {
         self.end

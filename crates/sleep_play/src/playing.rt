@@ -1,19 +1,23 @@
 //! Puts a board to sleep, wakes it, and prints it.
-ghost use Rattle.std.specs.Prelude.{◌≡◌, [], IfOk, OnErr, false, length};
+ghost use Rattle.std.specs.Prelude.{◌≡◌, [], IfOk, OnErr, false, length, reverse};
+ghost use Rattle.callbacks.specs.Heard.{Heard};
+ghost use Rattle.board_core.specs.Runs.{runs_of};
 ghost use Rattle.board_core.specs.Making.{MakesAll};
 ghost use Rattle.board_def.specs.Layout.{layout_of};
 ghost use Rattle.board_def.specs.Seen.{BoardSeen};
 ghost use Rattle.board_report.specs.Reporting.{HasRoom};
 ghost use Rattle.irq_io.specs.Faults.{Counts};
 ghost use Rattle.irq_play.specs.Ends.{is_printing, is_write_fault};
+ghost use Rattle.irq_pm.specs.SleepLog.{moves_of};
 ghost use Rattle.irq_pm.specs.SleptBoard.{is_for_sleep};
-ghost use Rattle.sleep_play.specs.Played.{IsLaidOut, IsLongerOf, SleepsBoard};
+ghost use Rattle.irq_sleeper.specs.Seen.{log_of};
+ghost use Rattle.sleep_play.specs.Played.{IsLaidOut, IsLongerOf, SleepsBoard, TellsStep};
 
 use crate::ended::SleepPlay;
 use crate::lengthening::{Longer, NoLonger, lengthen};
 use board_def::{Board, Layout};
 use board_report::ReportRoom;
-use callbacks::{Callbacks, Handler};
+use callbacks::Handler;
 use domain_hier::Hierarchy;
 use irq_base::{LineNo, NoMemory};
 use irq_io::Sink;
@@ -39,13 +43,17 @@ pub fn sleep_and_print<O: Sink, M: MakesDomainLine, H: Handler>(
     board: Board,
     armed: &[LineNo],
     maker: &M,
-    handlers: &Callbacks<H>,
+    handlers: &mut H,
     out: &mut O,
 ) -> Result<PlayedBoard, NotForSleep>
     ensures refused { OnErr result (is_for_sleep board armed.now ≡ false) }
     ensures quiet { OnErr result (out.new ≡ out.old) }
-    ensures plays { IfOk result (λ p. SleepsBoard board armed.now p.reports.reports
+    ensures unheard { OnErr result (Heard H.hears [] handlers.old handlers.new) }
+    ensures plays { IfOk result (λ p. SleepsBoard board armed.now
+        (λ runs. Heard H.hears runs handlers.old handlers.new) p.reports.reports
         (O.written out.old) (O.written out.new) p.end) }
+    ensures step { IfOk result (λ p.
+        TellsStep M.Line.may_want board armed.now p.reports.reports p.end) }
     ensures emptied { IfOk result (λ p. p.end ≡ PlayedEnd.Done → O.kept out.new ≡ []) }
     ensures write_fault { IfOk result (λ p. Counts (O.faults out.old) (O.faults out.new)
         (is_write_fault p.end)) }
@@ -64,13 +72,15 @@ fn play_longer<O: Sink, M: MakesDomainLine, H: Handler>(
     longer: Longer,
     armed: &[LineNo],
     maker: &M,
-    handlers: &Callbacks<H>,
+    handlers: &mut H,
     out: &mut O,
 ) -> PlayedBoard
     requires { IsLaidOut longer.board longer.domains longer.layout }
     ensures plays { (b : BoardSeen) → IsLongerOf b armed.now longer.board
-        → SleepsBoard b armed.now result.reports.reports (O.written out.old) (O.written out.new)
-        result.end }
+        → SleepsBoard b armed.now (λ runs. Heard H.hears runs handlers.old handlers.new)
+        result.reports.reports (O.written out.old) (O.written out.new) result.end }
+    ensures step { (b : BoardSeen) → IsLongerOf b armed.now longer.board
+        → TellsStep M.Line.may_want b armed.now result.reports.reports result.end }
     ensures emptied { result.end ≡ PlayedEnd.Done → O.kept out.new ≡ [] }
     ensures write_fault { Counts (O.faults out.old) (O.faults out.new) (is_write_fault result.end) }
     ensures silent { is_printing result.end ≡ false → out.new ≡ out.old }
@@ -91,13 +101,15 @@ fn play_laid<O: Sink, M: MakesDomainLine, H: Handler>(
     layout: Layout,
     armed: &[LineNo],
     maker: &M,
-    handlers: &Callbacks<H>,
+    handlers: &mut H,
     out: &mut O,
 ) -> PlayedBoard
     requires { IsLaidOut board.now domains.now layout }
     ensures plays { (b : BoardSeen) → IsLongerOf b armed.now board.now
-        → SleepsBoard b armed.now result.reports.reports (O.written out.old) (O.written out.new)
-        result.end }
+        → SleepsBoard b armed.now (λ runs. Heard H.hears runs handlers.old handlers.new)
+        result.reports.reports (O.written out.old) (O.written out.new) result.end }
+    ensures step { (b : BoardSeen) → IsLongerOf b armed.now board.now
+        → TellsStep M.Line.may_want b armed.now result.reports.reports result.end }
     ensures emptied { result.end ≡ PlayedEnd.Done → O.kept out.new ≡ [] }
     ensures write_fault { Counts (O.faults out.old) (O.faults out.new) (is_write_fault result.end) }
     ensures silent { is_printing result.end ≡ false → out.new ≡ out.old }
@@ -117,13 +129,16 @@ fn play_sleep<'b, L: IrqLine, M: MakesLine<L>, H: Handler>(
     layout: Layout,
     armed: &'b [LineNo],
     maker: &M,
-    handlers: &Callbacks<H>,
+    handlers: &mut H,
 ) -> Result<(SleepPlay<'b, L>, ReportRoom), NoMemory>
     requires layout { layout ≡ layout_of board.now }
     requires makes { MakesAll (M.makes maker.now) board.now (layout_of board.now) }
     ensures board { IfOk result (λ p. p.0.sleeper.system.board ≡ board.now) }
     ensures armed { IfOk result (λ p. p.0.sleeper.watch.armed ≡ armed.now) }
     ensures room { IfOk result (λ p. HasRoom (length board.now.lines) p.1) }
+    ensures heard { IfOk result (λ p. Heard H.hears
+        (runs_of board.now (moves_of (reverse (log_of p.0.sleeper)))) handlers.old handlers.new) }
+    ensures unheard { OnErr result (Heard H.hears [] handlers.old handlers.new) }
 {
     let room = ReportRoom::new(alloc, board)?;
     let mut sleeper = Sleeper::new(alloc, board, layout, armed, maker)?;

@@ -9,7 +9,7 @@ advance-requires c = actor_fits c.args.board.now c.args.own.now.items c.args.dri
 
 pub returns : goal.returns
 returns c x due own =
-    own_more (λ i r at. (c.is_board.ensures.board.drivers i r at).rises) c.requires.numbers c.args.entry due
+    own_more _ (λ i r at. (c.is_board.ensures.board.drivers i r at).rises) c.requires.numbers c.args.entry due
     c.place_of_actor-script.result
     (subst (λ a. IsPlaceOfActor c.args.driver_numbers.now a c.place_of_actor-script.result)
     c.actor.ensures c.place_of_actor-script.ensures)

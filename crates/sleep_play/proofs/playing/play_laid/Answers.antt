@@ -1,10 +1,15 @@
-use Rattle.std.proofs.Common.{refl, sym, ◌∙◌, subst}
+use Rattle.std.proofs.Common.{◌++◌, List, refl, sym, ◌∙◌, subst}
+use Rattle.irq_base.specs.declared.devices.Run.{Run}
+use Rattle.callbacks.specs.Heard.{Heard}
+use Rattle.log_text.specs.LayoutRows.{layout_rows}
+use Rattle.irq_sleeper.specs.Seen.{log_of}
 use Rattle.irq_io.specs.Faults.{Counts}
 use Rattle.irq_play.specs.Ends.{is_write_fault}
 use Rattle.irq_play.specs.declared.ending.PlayedEnd.{PlayedEnd}
-use Rattle.sleep_play.specs.Played.{SleepsBoard}
+use Rattle.sleep_play.specs.Played.{SleepsBoard, TellsStep}
+use Rattle.sleep_play.specs.Rows.{log_text}
 use Rattle.play_report.proofs.Handed.{not_done}
-use Rattle.sleep_play.proofs.Finished.{answered}
+use Rattle.sleep_play.proofs.Finished.{answered, tells_step}
 use Rattle.sleep_play.proofs.playing.play_laid.Goals as goal
 
 pub of_board-maker-requires-clause-domains : goal.of_board-maker-requires-clause-domains
@@ -28,12 +33,24 @@ report-requires-clause-room g c = c.in-Ok.ensures.room
 pub returns-in-Ok-clause-plays : goal.returns-in-Ok-clause-plays
 returns-in-Ok-clause-plays g c = λ b of.
     let played = c.report.result in
-    answered b c.args.armed.now c.in-Ok.play.sleeper
+    answered g.M.MakesDomainLine.Line.IrqLine.may_want b c.args.armed.now
+    (λ (runs : List Run). Heard g.H.Handler.hears runs c.args.handlers.now c.play_sleep.new.handlers) c.in-Ok.play.sleeper
     (record {
       longer = record { board = of.board; fits = of.fits; slept = c.in-Ok.ensures.board ∙ of.slept };
       watched = c.in-Ok.ensures.armed;
     })
     c.args.board.now c.in-Ok.ensures.board played.reports.reports (g.O.Sink.written c.args.out.now)
+    (g.O.Sink.written c.report.new.out) played.end c.report.ensures.plays c.in-Ok.ensures.heard
+
+pub returns-in-Ok-clause-step : goal.returns-in-Ok-clause-step
+returns-in-Ok-clause-step g c = λ b of.
+    let played = c.report.result in
+    tells_step g.M.MakesDomainLine.Line.IrqLine.may_want b c.args.armed.now c.in-Ok.play.sleeper
+    (record {
+      longer = record { board = of.board; fits = of.fits; slept = c.in-Ok.ensures.board ∙ of.slept };
+      watched = c.in-Ok.ensures.armed;
+    })
+    (layout_rows c.args.board.now ++ log_text (log_of c.in-Ok.play.sleeper)) played.reports.reports (g.O.Sink.written c.args.out.now)
     (g.O.Sink.written c.report.new.out) played.end c.report.ensures.plays
 
 pub returns-in-Ok-clause-emptied : goal.returns-in-Ok-clause-emptied
@@ -48,8 +65,14 @@ returns-in-Ok-clause-silent g c = c.report.ensures.silent
 pub returns-in-Err-clause-plays : goal.returns-in-Err-clause-plays
 returns-in-Err-clause-plays g c = λ b of.
     let told = g.O.Sink.written c.args.out.now in
-    subst (λ (e : PlayedEnd). SleepsBoard b c.args.armed.now c.unplayed.result.reports.reports told told e)
-    (sym c.unplayed.ensures.end) c.unplayed.ensures.reports
+    let heard = λ (runs : List Run). Heard g.H.Handler.hears runs c.args.handlers.now c.play_sleep.new.handlers in
+    subst (λ (e : PlayedEnd). SleepsBoard b c.args.armed.now heard c.unplayed.result.reports.reports told told e)
+    (sym c.unplayed.ensures.end) (c.unplayed.ensures.reports, c.in-Err.ensures.unheard)
+
+pub returns-in-Err-clause-step : goal.returns-in-Err-clause-step
+returns-in-Err-clause-step g c = λ b of.
+    subst (λ (e : PlayedEnd). TellsStep g.M.MakesDomainLine.Line.IrqLine.may_want b c.args.armed.now c.unplayed.result.reports.reports e)
+    (sym c.unplayed.ensures.end) tt
 
 pub returns-in-Err-clause-emptied : goal.returns-in-Err-clause-emptied
 returns-in-Err-clause-emptied g c = λ done. absurd (not_done c.unplayed.result.end c.unplayed.ensures.end done)

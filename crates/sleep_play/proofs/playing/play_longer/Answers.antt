@@ -6,6 +6,9 @@ play_laid-requires g c = c.requires
 pub returns-clause-plays : goal.returns-clause-plays
 returns-clause-plays g c = c.play_laid.ensures.plays
 
+pub returns-clause-step : goal.returns-clause-step
+returns-clause-step g c = c.play_laid.ensures.step
+
 pub returns-clause-emptied : goal.returns-clause-emptied
 returns-clause-emptied g c = c.play_laid.ensures.emptied
 

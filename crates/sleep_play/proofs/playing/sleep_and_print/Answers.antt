@@ -1,13 +1,18 @@
-use Rattle.std.proofs.Common.{refl, sym, subst}
+use Rattle.std.proofs.Common.{List, refl, sym, subst}
+use Rattle.irq_base.specs.declared.devices.Run.{Run}
+use Rattle.callbacks.specs.Heard.{Heard}
 use Rattle.irq_io.specs.Faults.{Counts}
 use Rattle.irq_play.specs.Ends.{is_write_fault}
 use Rattle.irq_play.specs.declared.ending.PlayedEnd.{PlayedEnd}
-use Rattle.sleep_play.specs.Played.{SleepsBoard}
+use Rattle.sleep_play.specs.Played.{SleepsBoard, TellsStep}
 use Rattle.play_report.proofs.Handed.{not_done}
 use Rattle.sleep_play.proofs.playing.sleep_and_print.Goals as goal
 
 pub returns-in-Ok-clause-plays : goal.returns-in-Ok-clause-plays
 returns-in-Ok-clause-plays g c = c.play_longer.ensures.plays c.args.board c.in-Ok.ensures.longer
+
+pub returns-in-Ok-clause-step : goal.returns-in-Ok-clause-step
+returns-in-Ok-clause-step g c = c.play_longer.ensures.step c.args.board c.in-Ok.ensures.longer
 
 pub returns-in-Ok-clause-emptied : goal.returns-in-Ok-clause-emptied
 returns-in-Ok-clause-emptied g c = c.play_longer.ensures.emptied
@@ -27,8 +32,14 @@ returns-in-Err-NotForSleep-clause-refused g c = c.in-Err-NotForSleep.ensures.ref
 pub returns-in-Err-NoMemory-clause-plays : goal.returns-in-Err-NoMemory-clause-plays
 returns-in-Err-NoMemory-clause-plays g c =
     let told = g.O.Sink.written c.args.out.now in
-    subst (λ (e : PlayedEnd). SleepsBoard c.args.board c.args.armed.now c.unplayed.result.reports.reports told told e)
-    (sym c.unplayed.ensures.end) c.unplayed.ensures.reports
+    let heard = λ (runs : List Run). Heard g.H.Handler.hears runs c.args.handlers.now c.args.handlers.now in
+    subst (λ (e : PlayedEnd). SleepsBoard c.args.board c.args.armed.now heard c.unplayed.result.reports.reports told told e)
+    (sym c.unplayed.ensures.end) (c.unplayed.ensures.reports, refl)
+
+pub returns-in-Err-NoMemory-clause-step : goal.returns-in-Err-NoMemory-clause-step
+returns-in-Err-NoMemory-clause-step g c =
+    subst (λ (e : PlayedEnd). TellsStep g.M.MakesDomainLine.Line.IrqLine.may_want c.args.board c.args.armed.now c.unplayed.result.reports.reports e)
+    (sym c.unplayed.ensures.end) tt
 
 pub returns-in-Err-NoMemory-clause-emptied : goal.returns-in-Err-NoMemory-clause-emptied
 returns-in-Err-NoMemory-clause-emptied g c = λ done. absurd (not_done c.unplayed.result.end c.unplayed.ensures.end done)

@@ -1,6 +1,7 @@
 use Rattle.std.proofs.Common.{◌∙◌, refl}
 use Rattle.board_core.proofs.LowestTurns.{lowest_turn, lowest_keeps_board, lowest_keeps_layout, lowest_moved, lowest_done, lowest_full, lowest_refused}
 use Rattle.board_core.proofs.LowestTurns.{ends_refused, room_falls, settles_none, settles_same, settles_moved}
+use Rattle.board_core.proofs.Hearing.{since_begun, since_more, step_of_turn_by}
 use Rattle.board_core.proofs.Underway.{as_left}
 use Rattle.board_core.proofs.Wanting.{lowest_ends, lowest_ends_play}
 use Rattle.board_core.proofs.system.System.settle.Goals as goal
@@ -9,7 +10,7 @@ pub loop-line-smaller : goal.loop-line-smaller
 loop-line-smaller g c = room_falls (lowest_turn c.turn_lowest.result c.turn_lowest.ensures.turns) c.in-Moved.is
 
 pub loop-line-init : goal.loop-line-init
-loop-line-init g c = record { board = refl; layout = refl; underway = λ picks u. u; moves = settles_none _ }
+loop-line-init g c = record { board = refl; layout = refl; underway = λ picks u. u; moves = settles_none _; heard = since_begun g.H.Handler.hears c.args.self.now c.args.handlers.now }
 
 pub loop-line-preserved : goal.loop-line-preserved
 loop-line-preserved g c =
@@ -19,6 +20,8 @@ loop-line-preserved g c =
       layout = lowest_keeps_layout t ∙ c.loop-line.invariant.layout;
       underway = λ picks u. lowest_moved t (c.loop-line.invariant.underway picks u) c.in-Moved.is;
       moves = settles_moved t c.loop-line.invariant.board c.in-Moved.is c.loop-line.invariant.moves;
+      heard = since_more g.H.Handler.hears _ _ _ _ c.turn_lowest.result (step_of_turn_by _ _ _ c.turn_lowest.result c.turn_lowest.ensures.turns)
+          c.loop-line.invariant.moves _ _ _ c.loop-line.invariant.heard c.turn_lowest.ensures.heard;
     }
 
 pub returns-in-NotYet-clause-play : goal.returns-in-NotYet-clause-play
@@ -64,3 +67,18 @@ pub returns-in-NoMemory-clause-wanted : goal.returns-in-NoMemory-clause-wanted
 returns-in-NoMemory-clause-wanted g c = λ picks u.
     lowest_ends_play g.L.IrqLine.may_want (lowest_turn c.turn_lowest.result c.turn_lowest.ensures.turns)
     (c.loop-line.invariant.underway picks u) c.in-NoMemory.is c.turn_lowest.ensures.memory
+
+pub returns-in-NotYet-clause-heard : goal.returns-in-NotYet-clause-heard
+returns-in-NotYet-clause-heard g c = since_more g.H.Handler.hears _ _ _ _ c.turn_lowest.result
+    (step_of_turn_by _ _ _ c.turn_lowest.result c.turn_lowest.ensures.turns) c.loop-line.invariant.moves _ _ _ c.loop-line.invariant.heard
+    c.turn_lowest.ensures.heard
+
+pub returns-in-Full-clause-heard : goal.returns-in-Full-clause-heard
+returns-in-Full-clause-heard g c = since_more g.H.Handler.hears _ _ _ _ c.turn_lowest.result
+    (step_of_turn_by _ _ _ c.turn_lowest.result c.turn_lowest.ensures.turns) c.loop-line.invariant.moves _ _ _ c.loop-line.invariant.heard
+    c.turn_lowest.ensures.heard
+
+pub returns-in-NoMemory-clause-heard : goal.returns-in-NoMemory-clause-heard
+returns-in-NoMemory-clause-heard g c = since_more g.H.Handler.hears _ _ _ _ c.turn_lowest.result
+    (step_of_turn_by _ _ _ c.turn_lowest.result c.turn_lowest.ensures.turns) c.loop-line.invariant.moves _ _ _ c.loop-line.invariant.heard
+    c.turn_lowest.ensures.heard

@@ -1,6 +1,8 @@
 use Rattle.std.proofs.Common.{◌≡◌, List, []}
 use Rattle.irq_base.specs.declared.entries.Actor.{Actor}
+use Rattle.callbacks.specs.Heard.{Heard}
 use Rattle.board_core.specs.Playing.{IsUnderway, Settles}
+use Rattle.board_core.specs.Runs.{runs_since}
 use Rattle.board_core.proofs.Room.{room_of}
 use Rattle.board_core.proofs.system.System.settle.Given as goal
 
@@ -10,6 +12,7 @@ invariant-loop-line g l = record {
   layout : l.self.layout ≡ l.fn.self.layout;
   underway : (picks : List Actor) → IsUnderway l.fn.self picks [] → IsUnderway l.self picks [];
   moves : Settles l.fn.self l.self;
+  heard : Heard g.H.Handler.hears (runs_since l.fn.self l.self) l.fn.handlers l.handlers;
 }
 
 abbrev pub decreases-loop-line : goal.decreases-loop-line

@@ -1,9 +1,11 @@
-use Rattle.std.proofs.Common.{◌<◌, IfSome, map, length, sym, ap, subst, arith}
+use Rattle.std.proofs.Common.{◌<◌, IfSome, List, map, length, sym, ap, subst, arith}
 use Rattle.std.proofs.Math.ListN.{length-map}
+use Rattle.irq_base.specs.declared.devices.Run.{Run}
+use Rattle.callbacks.specs.Heard.{Heard}
 use Rattle.board_core.specs.Refreshed.{IsRefreshed}
-use Rattle.board_core.proofs.Kept.{Step, kept_system}
+use Rattle.board_core.proofs.Kept.{Step, kept_system, lack_of}
 use Rattle.board_core.proofs.InSystem.{within, few, script_within, line_within, part_within, scripts_within}
-use Rattle.board_core.proofs.InSystem.{driver_within, kept_after, steps_so, wants_so, number_read}
+use Rattle.board_core.proofs.InSystem.{driver_within, kept_after, runs_so, steps_so, wants_so, number_read}
 use Rattle.board_core.proofs.system.System.step_stand.Goals as goal
 use Rattle.board_core.proofs.system.System.step_stand.Goals.{After-deref-2}
 
@@ -22,7 +24,7 @@ advance-requires g c = script_within (kept_system c.is_board.ensures.board c.sel
 
 -- the step as it was made
 abbrev step : (g : _) (c : After-deref-2 g)
-    → Step (kept_system c.is_board.ensures.board c.self.invariant c.self.view_is) c.args.actor c.args.stand
+    → Step (lack_of c.step_place-stepped.result) (kept_system c.is_board.ensures.board c.self.invariant c.self.view_is) c.args.actor c.args.stand
 step g c =
     let system = kept_system c.is_board.ensures.board c.self.invariant c.self.view_is in
     let f = g.L.IrqLine.seen in
@@ -75,3 +77,8 @@ returns-clause-steps g c = steps_so (kept_system c.is_board.ensures.board c.self
 pub returns-clause-memory : goal.returns-clause-memory
 returns-clause-memory g c = wants_so (kept_system c.is_board.ensures.board c.self.invariant c.self.view_is) c.requires
     (step g (goal.at.returns-clause-memory g c).After-deref-2) g.L.IrqLine.may_want c.turn_of.result c.turn_of.ensures c.step_place-stepped.ensures.memory
+
+pub returns-clause-heard : goal.returns-clause-heard
+returns-clause-heard g c = subst (λ (runs : List Run). Heard g.H.Handler.hears runs c.args.handlers.now c.step_place-stepped.new.handlers)
+    (runs_so (kept_system c.is_board.ensures.board c.self.invariant c.self.view_is) c.requires
+    (step g (goal.at.returns-clause-heard g c).After-deref-2) c.turn_of.result c.turn_of.ensures) c.step_place-stepped.ensures.heard

@@ -2,9 +2,8 @@ use Rattle.std.proofs.Common.{sym, ap, ◌∙◌, subst}
 use Rattle.board_core.specs.Seen.{board_lines}
 use Rattle.board_def.specs.Seen.{BoardSeen}
 use Rattle.play_report.proofs.Handed.{Reported}
-use Rattle.chained_play.specs.Headline.{ChainHandsOut}
-use Rattle.chained_play.specs.Played.{ChainPlaySeen}
-use Rattle.chained_play.proofs.Finished.{hands_out}
+use Rattle.chained_play.specs.Played.{ChainPlaySeen, HandsOutChain}
+use Rattle.chained_play.proofs.Finished.{hands_out, hands_out_step}
 use Rattle.chained_play.proofs.ended.ChainPlayEndedPlay.hand_out.Goals as goal
 
 pub returns : goal.returns
@@ -13,7 +12,8 @@ returns g c =
     let k = c.is_kept.ensures in
     let lines = c.into_system.result.lines in
     let reports = c.hand_out.result.reports in
-    subst (λ (p : ChainPlaySeen). ChainHandsOut p.demux.board p.demux.log p.end reports) c.self.view_is
-    (hands_out d k.board k.fits k.legal k.lines k.kept c.self.inside.end c.self.invariant.play lines c.into_system.ensures.lines reports
+    subst (λ (p : ChainPlaySeen). HandsOutChain g.L.IrqLine.may_want p.demux p.end reports) c.self.view_is
+    (hands_out_step g.L.IrqLine.may_want d c.self.inside.end c.self.invariant.1 lines c.into_system.ensures.lines reports c.hand_out.ensures.room
+    (hands_out d k.board k.fits k.legal k.lines k.kept c.self.inside.end c.self.invariant.0.play lines c.into_system.ensures.lines reports
     (subst (λ (b : BoardSeen). Reported b (board_lines lines) reports) (sym (ap (λ (p : ChainPlaySeen). p.demux.board) c.self.view_is ∙ c.requires.board))
-    (record { so_far = c.hand_out.ensures.so_far; done = c.hand_out.ensures.done; full = c.hand_out.ensures.full })))
+    (record { so_far = c.hand_out.ensures.so_far; done = c.hand_out.ensures.done; full = c.hand_out.ensures.full }))))

@@ -1,5 +1,7 @@
 use Rattle.std.proofs.Common.{◌≡◌, List, []}
 use Rattle.irq_base.specs.declared.entries.Actor.{Actor}
+use Rattle.callbacks.specs.Heard.{Heard}
+use Rattle.irq_chained.specs.Runs.{runs_in}
 use Rattle.irq_chained.specs.Turned.{IsUnderway}
 use Rattle.irq_chained.proofs.Playing.{measure}
 use Rattle.irq_chained.proofs.demux.Demux.settle.Given as goal
@@ -9,6 +11,8 @@ invariant-loop-line g l = record {
   board : l.self.board ≡ l.fn.self.board;
   layout : l.self.layout ≡ l.fn.self.layout;
   underway : (picks : List Actor) → IsUnderway l.fn.self picks [] → IsUnderway l.self picks [];
+  heard : (first : g.H) → Heard g.H.Handler.hears (runs_in l.fn.self) first l.fn.handlers
+      → Heard g.H.Handler.hears (runs_in l.self) first l.handlers;
 }
 
 abbrev pub decreases-loop-line : goal.decreases-loop-line

@@ -5,6 +5,8 @@ use Rattle.irq_chained.proofs.SeenTurns.{take_turned}
 use Rattle.irq_chained.proofs.Turning.{level_cell}
 use Rattle.irq_chained.specs.Chain.{cpu_0}
 use Rattle.irq_chained.specs.Seen.{DemuxSeen}
+use Rattle.irq_chained.proofs.Hearing.{heard_told}
+use Rattle.irq_chained.proofs.Wanting.{take_wants}
 use Rattle.irq_chained.proofs.demux.Demux.take.Goals as goal
 
 pub walk_after-requires : goal.walk_after-requires
@@ -23,9 +25,18 @@ invariant_of-self g c =
     c.args.place c.args.walk c.walk_after.result c.number_at-line.result c.step_on-turn.result c.requires.walk c.requires.due
     c.requires.next c.number_at-line.ensures c.walk_after.ensures c.step_on-turn.ensures.steps).0
 
-pub returns : goal.returns
-returns g c =
+pub returns-clause-turns : goal.returns-clause-turns
+returns-clause-turns g c =
     (take_turned c.step_on-turn.new.self c.self.invariant c.show.ensures c.self.view_is c.is_kept.ensures.board c.is_kept.ensures.kept
     c.args.place c.args.walk c.walk_after.result c.number_at-line.result c.step_on-turn.result c.requires.walk c.requires.due
     c.requires.next c.number_at-line.ensures c.walk_after.ensures c.step_on-turn.ensures.steps).1
     c.chain_turn_of.result c.chain_turn_of.ensures
+
+pub returns-clause-heard : goal.returns-clause-heard
+returns-clause-heard g c = heard_told g.H.Handler.hears c.self.invariant c.self.view_is c.step_on-turn.result c.chain_turn_of.result
+    c.chain_turn_of.ensures _ _ c.step_on-turn.ensures.heard
+
+pub returns-clause-memory : goal.returns-clause-memory
+returns-clause-memory g c = take_wants g.L.IrqLine.may_want c.self.invariant c.self.view_is c.is_kept.ensures.board c.is_kept.ensures.kept
+    c.args.place c.number_at-line.result c.step_on-turn.result c.chain_turn_of.result c.chain_turn_of.ensures c.requires.due c.requires.next
+    c.requires.line c.number_at-line.ensures c.step_on-turn.ensures.memory

@@ -1,5 +1,7 @@
 use Rattle.irq_chained.proofs.SeenTurns.{other_turned}
 use Rattle.irq_chained.proofs.Turning.{level_cell}
+use Rattle.irq_chained.proofs.Hearing.{heard_told}
+use Rattle.irq_chained.proofs.Wanting.{other_wants}
 use Rattle.irq_chained.proofs.demux.Demux.turn_other.Goals as goal
 
 pub show-requires-clause-level : goal.show-requires-clause-level
@@ -10,8 +12,16 @@ invariant_of-self g c =
     (other_turned c.turn-turn.new.self c.self.invariant c.show.ensures c.self.view_is c.is_kept.ensures.board c.is_kept.ensures.kept
     c.args.actor c.turn-turn.result c.requires c.turn-turn.ensures.turns).0
 
-pub returns : goal.returns
-returns g c =
+pub returns-clause-turns : goal.returns-clause-turns
+returns-clause-turns g c =
     (other_turned c.turn-turn.new.self c.self.invariant c.show.ensures c.self.view_is c.is_kept.ensures.board c.is_kept.ensures.kept
     c.args.actor c.turn-turn.result c.requires c.turn-turn.ensures.turns).1
     c.chain_turn_of.result c.chain_turn_of.ensures
+
+pub returns-clause-heard : goal.returns-clause-heard
+returns-clause-heard g c = heard_told g.H.Handler.hears c.self.invariant c.self.view_is c.turn-turn.result c.chain_turn_of.result
+    c.chain_turn_of.ensures _ _ c.turn-turn.ensures.heard
+
+pub returns-clause-memory : goal.returns-clause-memory
+returns-clause-memory g c = other_wants g.L.IrqLine.may_want c.self.invariant c.self.view_is c.turn-turn.new.self c.args.actor c.turn-turn.result
+    c.chain_turn_of.result c.chain_turn_of.ensures c.requires c.turn-turn.ensures.turns c.turn-turn.ensures.memory

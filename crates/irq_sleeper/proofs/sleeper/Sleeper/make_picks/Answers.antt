@@ -1,11 +1,27 @@
 use Rattle.irq_sleeper.proofs.Phased.{first_pick, pick_done, pick_stops}
+use Rattle.irq_sleeper.proofs.Hearing.{hears_none, hears_then}
+use Rattle.irq_sleeper.proofs.Wanting.{pick_wants}
 use Rattle.irq_sleeper.proofs.sleeper.Sleeper.make_picks.Goals as goal
 
 pub loop-pick-init : goal.loop-pick-init
-loop-pick-init g c = first_pick c.args.self.now c.args.picks.now c.requires
+loop-pick-init g c = record {
+  goes = first_pick c.args.self.now c.args.picks.now c.requires;
+  heard = hears_none g.H.Handler.hears c.args.self.now c.args.handlers.now;
+}
 
 pub returns-in-Err-clause-ends : goal.returns-in-Err-clause-ends
-returns-in-Err-clause-ends g c = pick_stops _ c.loop-pick-test.true c.loop-pick.invariant c.step.ensures c.in-Err.is
+returns-in-Err-clause-ends g c = pick_stops _ c.loop-pick-test.true c.loop-pick.invariant.goes c.step.ensures.steps c.in-Err.is
 
 pub loop-pick-preserved : goal.loop-pick-preserved
-loop-pick-preserved g c = pick_done _ c.loop-pick-test.true c.loop-pick.invariant c.step.ensures c.in-Ok.is
+loop-pick-preserved g c = record {
+  goes = pick_done _ c.loop-pick-test.true c.loop-pick.invariant.goes c.step.ensures.steps c.in-Ok.is;
+  heard = hears_then g.H.Handler.hears _ _ _ _ _ _ c.loop-pick.invariant.heard c.loop-pick.invariant.goes.1.told c.step.ensures.heard;
+}
+
+pub returns-in-Err-clause-heard : goal.returns-in-Err-clause-heard
+returns-in-Err-clause-heard g c =
+    hears_then g.H.Handler.hears _ _ _ _ _ _ c.loop-pick.invariant.heard c.loop-pick.invariant.goes.1.told c.step.ensures.heard
+
+pub returns-in-Err-clause-memory : goal.returns-in-Err-clause-memory
+returns-in-Err-clause-memory g c = pick_wants g.L.IrqLine.may_want _ c.loop-pick-test.true c.loop-pick.invariant.goes c.step.ensures.steps
+    c.in-Err.is c.step.ensures.memory

@@ -2,6 +2,8 @@ use Rattle.std.proofs.Common.{◌≡◌, None, sym, ap, ◌∙◌}
 use Rattle.irq_pm.specs.Phases.{Asleep}
 use Rattle.irq_sleeper.specs.Seen.{SleeperSeen}
 use Rattle.irq_sleeper.proofs.Phased.{SleepStep, sleeping_step, ok_is, no_line, falls, stops, went, wakes_by_line, wakes_by_none}
+use Rattle.irq_sleeper.proofs.Hearing.{hears_then, hears_woken}
+use Rattle.irq_sleeper.proofs.Wanting.{stop_wants}
 use Rattle.irq_sleeper.proofs.sleeper.Sleeper.sleep.Given as given
 use Rattle.irq_sleeper.proofs.sleeper.Sleeper.sleep.Goals as goal
 use Rattle.irq_sleeper.proofs.sleeper.Sleeper.sleep.Goals.{After-step_asleep}
@@ -13,22 +15,41 @@ not_woken g c = sym (ap (λ (s : SleeperSeen). s.watch.woken) c.self.view_is) �
 -- the loop's step
 step : (g : given.Over) (c : After-step_asleep g)
     → SleepStep c.args.self.now c.loop-line.self c.step_asleep.new.self c.args.picks.now Asleep Asleep c.step_asleep.result
-step g c = sleeping_step c.loop-line.invariant (not_woken g c) c.step_asleep.ensures
+step g c = sleeping_step c.loop-line.invariant.goes (not_woken g c) c.step_asleep.ensures.steps
 
 pub returns-in-Some-clause-goes : goal.returns-in-Some-clause-goes
 returns-in-Some-clause-goes g c =
-    wakes_by_line c.loop-line.invariant (sym (ap (λ (s : SleeperSeen). s.watch.woken) c.self.view_is) ∙ (sym c.woken.ensures ∙ c.in-Some.is)) c.wake_by.ensures
+    wakes_by_line c.loop-line.invariant.goes (sym (ap (λ (s : SleeperSeen). s.watch.woken) c.self.view_is) ∙ (sym c.woken.ensures ∙ c.in-Some.is)) c.wake_by.ensures
 
 pub loop-line-smaller : goal.loop-line-smaller
 loop-line-smaller g c = falls (step g (goal.at.loop-line-smaller g c).After-step_asleep) (ok_is c.in-Ok-true.is c.in-Ok-true.field-0-test)
 
 pub loop-line-preserved : goal.loop-line-preserved
-loop-line-preserved g c = went (step g (goal.at.loop-line-preserved g c).After-step_asleep) (ok_is c.in-Ok-true.is c.in-Ok-true.field-0-test)
+loop-line-preserved g c = record {
+  goes = went (step g (goal.at.loop-line-preserved g c).After-step_asleep) (ok_is c.in-Ok-true.is c.in-Ok-true.field-0-test);
+  heard = hears_then g.H.Handler.hears _ _ _ _ _ _ c.loop-line.invariant.heard c.loop-line.invariant.goes.1.told c.step_asleep.ensures.heard;
+}
 
 pub returns-in-Ok-false-clause-goes : goal.returns-in-Ok-false-clause-goes
 returns-in-Ok-false-clause-goes g c =
-    wakes_by_none c.step_asleep.new.self c.loop-line.invariant (not_woken g (goal.at.returns-in-Ok-false-clause-goes g c).After-step_asleep)
-    (ok_is c.in-Ok-false.is c.in-Ok-false.field-0-test) c.step_asleep.ensures c.wake_by-in-Ok-false.ensures
+    wakes_by_none c.step_asleep.new.self c.loop-line.invariant.goes (not_woken g (goal.at.returns-in-Ok-false-clause-goes g c).After-step_asleep)
+    (ok_is c.in-Ok-false.is c.in-Ok-false.field-0-test) c.step_asleep.ensures.steps c.wake_by-in-Ok-false.ensures
 
 pub returns-in-Err-clause-ends : goal.returns-in-Err-clause-ends
 returns-in-Err-clause-ends g c = stops (step g (goal.at.returns-in-Err-clause-ends g c).After-step_asleep) c.in-Err.is
+
+pub returns-in-Err-clause-heard : goal.returns-in-Err-clause-heard
+returns-in-Err-clause-heard g c =
+    hears_then g.H.Handler.hears _ _ _ _ _ _ c.loop-line.invariant.heard c.loop-line.invariant.goes.1.told c.step_asleep.ensures.heard
+
+pub returns-in-Err-clause-memory : goal.returns-in-Err-clause-memory
+returns-in-Err-clause-memory g c =
+    stop_wants g.L.IrqLine.may_want (step g (goal.at.returns-in-Err-clause-memory g c).After-step_asleep) c.in-Err.is c.step_asleep.ensures.memory
+
+pub returns-in-Some-clause-heard : goal.returns-in-Some-clause-heard
+returns-in-Some-clause-heard g c = hears_woken g.H.Handler.hears _ _ _ _ _ _ c.loop-line.invariant.heard c.wake_by.ensures
+
+pub returns-in-Ok-false-clause-heard : goal.returns-in-Ok-false-clause-heard
+returns-in-Ok-false-clause-heard g c = hears_woken g.H.Handler.hears _ _ _ _ _ _
+    (hears_then g.H.Handler.hears _ _ _ _ _ _ c.loop-line.invariant.heard c.loop-line.invariant.goes.1.told c.step_asleep.ensures.heard)
+    c.wake_by-in-Ok-false.ensures

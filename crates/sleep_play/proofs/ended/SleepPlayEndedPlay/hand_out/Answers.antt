@@ -4,7 +4,7 @@ use Rattle.board_def.specs.Rules.{IsBoard}
 use Rattle.board_def.specs.Seen.{BoardSeen}
 use Rattle.play_report.proofs.Handed.{Reported}
 use Rattle.sleep_play.specs.Played.{HandsOutSleep, SleepPlaySeen}
-use Rattle.sleep_play.proofs.Finished.{hands_out}
+use Rattle.sleep_play.proofs.Finished.{hands_out, hands_out_step}
 use Rattle.sleep_play.proofs.ended.SleepPlayEndedPlay.hand_out.Goals as goal
 
 pub returns : goal.returns
@@ -13,11 +13,13 @@ returns g c =
     let lines = c.into_system.result.lines in
     let reports = c.hand_out.result.reports in
     let same = sym (ap (λ (p : SleepPlaySeen). p.sleeper.system.board) c.self.view_is ∙ c.requires.board) in
-    subst (λ (p : SleepPlaySeen). HandsOutSleep p.sleeper p.end reports) c.self.view_is
-    (λ b armed of. hands_out b armed s of (subst IsBoard same c.is_board.ensures.board) c.self.invariant.told c.self.inside.end
-    c.self.invariant.sleep lines (ap (λ x. x.lines) c.into_system.ensures) reports
+    subst (λ (p : SleepPlaySeen). HandsOutSleep g.L.IrqLine.may_want p.sleeper p.end reports) c.self.view_is
+    (λ b armed of. hands_out_step g.L.IrqLine.may_want b armed s of c.self.inside.end c.self.invariant.1 lines (ap (λ x. x.lines) c.into_system.ensures)
+    reports c.hand_out.ensures.room
+    (hands_out b armed s of (subst IsBoard same c.is_board.ensures.board) c.self.invariant.0.told c.self.inside.end
+    c.self.invariant.0.sleep lines (ap (λ x. x.lines) c.into_system.ensures) reports
     (subst (λ (x : BoardSeen). Reported x (board_lines lines) reports) same
-    (record { so_far = c.hand_out.ensures.so_far; done = c.hand_out.ensures.done; full = c.hand_out.ensures.full })))
+    (record { so_far = c.hand_out.ensures.so_far; done = c.hand_out.ensures.done; full = c.hand_out.ensures.full }))))
 
 pub hand_out-requires-clause-board : goal.hand_out-requires-clause-board
 hand_out-requires-clause-board g c =

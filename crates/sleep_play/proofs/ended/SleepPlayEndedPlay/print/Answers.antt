@@ -16,7 +16,7 @@ print_rows-requires g c =
     let s = c.self.inside.sleeper in
     subst (λ (log : List SleepEntry). All (HasRow told) log) (sym c.entries-steps.ensures)
     (rows_done s (subst (λ (end : PlayEnd). IsSleep s s.system.board.picks end)
-    (ap (λ (p : SleepPlaySeen). p.end) c.self.view_is ∙ c.requires) c.self.invariant.sleep))
+    (ap (λ (p : SleepPlaySeen). p.end) c.self.view_is ∙ c.requires) c.self.invariant.0.sleep))
 
 pub returns-clause-content : goal.returns-clause-content
 returns-clause-content g c =
