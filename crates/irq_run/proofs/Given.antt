@@ -1,13 +1,11 @@
 -- Each run that ended in the histories of a run was given.
-use Rattle.std.proofs.Common.{◌≡◌, ℕ, zero, suc, Bool, true, false, cond, IfSome, Option, Some, None, List, [], ◌∷◌, ◌++◌}
+use Rattle.std.proofs.Common.{◌≡◌, ℕ, suc, Bool, true, false, cond, IfSome, Option, Some, None, List, [], ◌∷◌, ◌++◌}
 use Rattle.std.proofs.Common.{drop, length, map, reverse, slice_get, refl, sym, ap, ◌∙◌, subst}
 use Rattle.std.proofs.lemmas.List.{reverse-reverse}
 use Rattle.irq_base.specs.declared.devices.Answer.{Answer}
 use Rattle.irq_base.specs.declared.devices.Run.{Run}
 use Rattle.irq_base.specs.declared.entries.Entry.{Entry}
 use Rattle.irq_base.specs.declared.lines.LineDef.{LineDef}
-use Rattle.irq_base.specs.declared.numbers.LineNo.{LineNo}
-use Rattle.irq_laws.proofs.Chosen.{the_same}
 use Rattle.irq_model.specs.Kinds.{same_line}
 use Rattle.irq_steps.proofs.Same.{line_from_same}
 use Rattle.callbacks.specs.Heard.{Heard, one_run}
