@@ -1,13 +1,11 @@
 -- Each run that ended in the histories of a run was given.
-use Rattle.std.proofs.Common.{◌≡◌, ℕ, zero, suc, Bool, true, false, cond, IfSome, Option, Some, None, List, [], ◌∷◌, ◌++◌}
+use Rattle.std.proofs.Common.{◌≡◌, ℕ, suc, Bool, true, false, cond, IfSome, Option, Some, None, List, [], ◌∷◌, ◌++◌}
 use Rattle.std.proofs.Common.{drop, length, map, reverse, slice_get, refl, sym, ap, ◌∙◌, subst}
 use Rattle.std.proofs.lemmas.List.{reverse-reverse}
 use Rattle.irq_base.specs.declared.devices.Answer.{Answer}
 use Rattle.irq_base.specs.declared.devices.Run.{Run}
 use Rattle.irq_base.specs.declared.entries.Entry.{Entry}
 use Rattle.irq_base.specs.declared.lines.LineDef.{LineDef}
-use Rattle.irq_base.specs.declared.numbers.LineNo.{LineNo}
-use Rattle.irq_laws.proofs.Chosen.{the_same}
 use Rattle.irq_model.specs.Kinds.{same_line}
 use Rattle.irq_steps.proofs.Same.{line_from_same}
 use Rattle.callbacks.specs.Heard.{Heard, one_run}
@@ -108,10 +106,10 @@ module _ (gave : Run → Answer → Type 0) where
 pub settled_given : (gave : Run → Answer → Type 0) (b : BoardSeen) (locks : List LockSeen) (jobs : JobsSeen) (lines : List LineSeen)
     (old new : SystemSeen) → IsBoard b → jobs.board ≡ b → Fit locks jobs → AreJobsGiven gave jobs
     → AreKept jobs.board (board_lines lines) → AreGathered jobs lines → old.board ≡ b → old.lines ≡ lines → old.log ≡ []
-    → (s : Settles old new) → {E : Type 0} {hears : E → Run → E → Type 0} {first after : E}
+    → (s : Settles old new) → {E : Type 0} (hears : E → Run → E → Type 0) (first after : E)
     → ((run : Run) (new : E) → hears first run new → gave run (answer_to run) × (new ≡ first))
     → Heard hears (runs_since old new) first after → EachGiven gave (lines_with b (entries_in (board_lines new.lines)))
-settled_given gave b locks jobs lines old new isb of_board fit given kept gathered same are log s {E} {hears} {first} {after} each heard =
+settled_given gave b locks jobs lines old new isb of_board fit given kept gathered same are log s {E} hears first after each heard =
     subst (EachGiven gave) (sym (with_same b (board_lines new.lines) defs_new (subst AreApart (sym (defs_new ∙ sym defs_lines)) apart)))
     (subst (EachGiven gave) (sym lines_are) (moves_given gave s.moves (board_lines lines) apart each_gathered runs))
   where

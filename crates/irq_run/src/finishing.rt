@@ -30,7 +30,7 @@ pub(crate) fn print_run<O: Sink, L: IrqLine>(
 ) -> Printed
     requires ran { IsRun board.now system PlayEnd.Done }
     requires room { HasRoom (length board.now.lines) room }
-    ensures printed { IsPrinted board.now summary (entries_in (board_lines system.lines))
+    ensures printed { IsPrinted board.now summary (entries_in (board_lines system.entry.lines))
         result.reports.reports (O.written out.old) (O.written out.new) result.end }
     ensures emptied { KeepsNone (O.kept out.new) result.end }
     ensures cause { Counts (O.faults out.old) (O.faults out.new) (writing_failed result.end) }

@@ -137,7 +137,7 @@ fn report_run<O: Sink, L: IrqLine>(
     out: &mut O,
 ) -> RanBoard
     requires { IsRun board.now system end }
-    ensures runs { ReportsRun board.now summary (entries_in (board_lines system.lines))
+    ensures runs { ReportsRun board.now summary (entries_in (board_lines system.entry.lines))
         result.reports.reports (O.written out.old) (O.written out.new) result.end }
     ensures emptied { result.end ≡ RunEnd.Done → O.kept out.new ≡ [] }
     ensures write_fault { Counts (O.faults out.old) (O.faults out.new) (is_write_fault result.end) }
@@ -164,7 +164,7 @@ fn print_done<O: Sink, L: IrqLine>(
     requires ran { IsRun board.now system PlayEnd.Done }
     requires room { HasRoom (length board.now.lines) room }
     ensures printing { IsTrue (is_printing result.end) }
-    ensures runs { ReportsRun board.now summary (entries_in (board_lines system.lines))
+    ensures runs { ReportsRun board.now summary (entries_in (board_lines system.entry.lines))
         result.reports.reports (O.written out.old) (O.written out.new) result.end }
     ensures emptied { result.end ≡ RunEnd.Done → O.kept out.new ≡ [] }
     ensures write_fault { Counts (O.faults out.old) (O.faults out.new) (is_write_fault result.end) }
@@ -187,7 +187,7 @@ fn report_full<L: IrqLine>(
     requires ran { IsRun board.now system (PlayEnd.Full line len) }
     requires room { HasRoom (length board.now.lines) room }
     ensures end { result.end ≡ RunEnd.LogFull line len }
-    ensures full { IsRunFull board.now (entries_in (board_lines system.lines))
+    ensures full { IsRunFull board.now (entries_in (board_lines system.entry.lines))
         result.reports.reports line len }
 {
     board.is_board();

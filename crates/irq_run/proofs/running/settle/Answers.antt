@@ -19,4 +19,4 @@ returns-clause-given g c =
     settled_given (g.H.SharedHandler.gave c.args.handlers.now) c.args.board.now c.args.lines c.args.jobs (map g.L.IrqLine.seen c.in_ok-lines.lines.items)
     c.in_ok-system.system c.settle-end.new.self c.is_board.ensures.board c.requires.board c.requires.fit c.requires.given
     c.in_ok-lines.ensures.kept c.in_ok-lines.ensures.gathered c.in_ok-system.ensures.board c.in_ok-system.ensures.lines c.in_ok-system.ensures.log
-    c.settle-end.ensures.moves (λ run new heard. heard) c.settle-end.ensures.heard
+    c.settle-end.ensures.moves _ _ _ (λ run new heard. heard) c.settle-end.ensures.heard
