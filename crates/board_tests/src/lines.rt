@@ -5,6 +5,7 @@ ghost use Rattle.irq_base.specs.declared.lines.Trigger.TheVariants as triggers;
 ghost use Rattle.line_makers.specs.Chips.{HasChips, cell_of_line};
 
 use board_lines::MakesChainLine;
+use callbacks::ByKind;
 use chip_msi::Message;
 use domain_chain::Chain;
 use domain_hier::{AllocAnswer, Hierarchy};
@@ -109,7 +110,7 @@ fn message_of_a_line(rt: HostRuntime) -> Result<(), NoMemory> {
     }
     let mut line = second_line(rt.alloc(), &domains, &def)?;
     assert!(rt; line.chip().message().is_none());
-    let step = line.step(Actor::Driver(DriverNo(1)), None);
+    let step = line.step(Actor::Driver(DriverNo(1)), &mut ByKind);
     assert!(rt; matches!(&step, Ok(Stepped::Added(_))));
     let message = Message {
         address: 0xFEE0_1000,

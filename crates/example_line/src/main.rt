@@ -7,7 +7,6 @@ mod describing;
 mod lines;
 mod stepping;
 
-use counting::Counting;
 use irq_base::NoMemory;
 use irq_line::MakesLine;
 use line_core::MakesCellLine;
@@ -15,28 +14,25 @@ use line_valid::is_valid;
 use lines::one_line;
 use std::alloc::Global;
 use std::io;
-use std::sync::atomic::{AtomicU64, Ordering};
-use stepping::ten_steps;
+use stepping::count_ten_steps;
 
 fn main(rt: HostRuntime) -> io::Result<()> {
-    let calls = AtomicU64::new(0);
-    let mut rows = [""; 10];
-    if play(rt.alloc(), &calls, &mut rows).is_err() {
+    let Ok((rows, calls)) = play(rt.alloc()) else {
         return println!(rt; "out of memory");
-    }
+    };
     for row in rows {
         println!(rt; "{row}")?;
     }
-    println!(rt; "calls of the handler: {}", calls.load(Ordering::SeqCst))
+    println!(rt; "calls of the handler: {calls}")
 }
 
 /// Makes the line and has it step; the rows say what each step came to. The only error is
 /// `NoMemory`.
-fn play(alloc: Global, calls: &AtomicU64, rows: &mut [&'static str; 10]) -> Result<(), NoMemory> {
+fn play(alloc: Global) -> Result<([&'static str; 10], u64), NoMemory> {
     let def = one_line(alloc)?;
-    if is_valid(&def) {
-        let mut line = MakesCellLine.make(alloc, 1, &def)?;
-        *rows = ten_steps(&mut line, Counting { calls });
+    if !is_valid(&def) {
+        return Ok(([""; 10], 0));
     }
-    Ok(())
+    let mut line = MakesCellLine.make(alloc, 1, &def)?;
+    Ok(count_ten_steps(&mut line))
 }

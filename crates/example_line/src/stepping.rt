@@ -1,8 +1,13 @@
 //! Ten steps of a line.
+ghost use Rattle.std.specs.Prelude.{◌≡◌, [], length};
+ghost use Rattle.callbacks.specs.Heard.{Heard};
+ghost use Rattle.example_line.specs.Runs.{runs_on};
+
+use crate::counting::Counting;
 use crate::describing::said;
-use callbacks::{Callbacks, Handler};
+use callbacks::Handler;
 use irq_base::{Actor, CpuNo, DriverNo};
-use irq_line::{IrqLine, StepRefused, step_heard};
+use irq_line::{IrqLine, StepRefused, Stepped};
 
 const DRIVER: Actor = Actor::Driver(DriverNo(1));
 
@@ -11,17 +16,42 @@ const CPU: Actor = Actor::Cpu(CpuNo(0));
 /// Who makes each step.
 const STEPS: [Actor; 10] = [DRIVER, CPU, DRIVER, CPU, CPU, CPU, DRIVER, CPU, CPU, CPU];
 
-/// Makes the steps, of any line and with any handlers, and says what each came to.
-pub fn ten_steps<L: IrqLine, H: Handler + Drop>(line: &mut L, handler: H) -> [&'static str; 10] {
-    let handlers = Callbacks::new(handler);
+/// Makes a step of any line, with any handlers, and says what it came to. What was called before
+/// and is called now are the runs that have ended on the line.
+fn step<L: IrqLine, H: Handler>(line: &mut L, actor: Actor, handlers: &mut H) -> &'static str
+    ensures def { (L.seen line.new).def ≡ (L.seen line.old).def }
+    ensures heard { (first : H) → Heard H.hears (runs_on (L.seen line.old)) first handlers.old
+        → Heard H.hears (runs_on (L.seen line.new)) first handlers.new }
+{
+    match line.step(actor, handlers) {
+        Ok(Stepped::Added(entry)) => said(&entry),
+        Ok(Stepped::NotYet) => "nothing is due",
+        Err(StepRefused::Full { .. }) => "the log is full",
+        Err(StepRefused::NoMemory) => "out of memory",
+    }
+}
+
+/// Makes the ten steps of a new line, and says what each came to. The handlers are called once for
+/// each run that ended on the line, in the order of the line's history, and for nothing else.
+fn ten_steps<L: IrqLine, H: Handler>(line: &mut L, handlers: &mut H) -> [&'static str; 10]
+    requires { (L.seen line.old).entries ≡ [] }
+    ensures { Heard H.hears (runs_on (L.seen line.new)) handlers.old handlers.new }
+{
     let mut rows = [""; 10];
     for i in 0..10 {
-        rows[i] = match step_heard(line, STEPS[i], &handlers) {
-            Ok(Some(entry)) => said(&entry),
-            Ok(None) => "nothing is due",
-            Err(StepRefused::Full { .. }) => "the log is full",
-            Err(StepRefused::NoMemory) => "out of memory",
-        };
+        rows[i] = step(line, STEPS[i], handlers);
     }
     rows
+}
+
+/// Makes the ten steps of a new line with a handler that counts its calls. The answer is what each
+/// step came to, and how often the handler was called: as often as a run ended on the line.
+pub fn count_ten_steps<L: IrqLine>(line: &mut L) -> ([&'static str; 10], u64)
+    requires { (L.seen line.old).entries ≡ [] }
+    ensures { result.1 ≡ length (runs_on (L.seen line.new)) }
+{
+    let mut counting = Counting { calls: 0 };
+    let rows = ten_steps(line, &mut counting);
+    line.is_sound();
+    (rows, counting.calls)
 }

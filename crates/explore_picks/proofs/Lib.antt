@@ -1,3 +1,7 @@
-pub mod Rows
-pub mod Printable
-pub mod Playing
+mod Rows
+mod Printable
+mod Playing
+mod Bytes
+mod Stating
+mod Named
+pub mod Lawful

@@ -1,2 +1,4 @@
 pub mod Rows
+pub mod Small
+pub mod Stated
 pub mod Printed

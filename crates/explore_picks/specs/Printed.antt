@@ -1,5 +1,6 @@
 -- A play to a line's history, as it is printed.
 use Rattle.std.specs.Prelude.{◌≡◌, ◌≤◌, Bool, true, false, ℕ, Option, List, ◌++◌, length, reverse}
+use Rattle.irq_base.specs.declared.devices.Run.{Run}
 use Rattle.irq_base.specs.declared.entries.Actor.{Actor}
 use Rattle.irq_base.specs.declared.entries.Entry.{Entry}
 use Rattle.irq_base.specs.declared.numbers.LineNo.{LineNo}
@@ -8,11 +9,15 @@ use Rattle.irq_io.specs.declared.whole.WriteEnd.TheVariants as writes
 use Rattle.board_def.specs.Seen.{BoardSeen}
 use Rattle.board_play.specs.Lines.{Move, part}
 use Rattle.board_play.specs.Play.{End, Plays}
+use Rattle.board_core.specs.Runs.{runs_of}
 use Rattle.irq_play.specs.Report.{moves_text}
+use Rattle.log_check.specs.Verdicts.{ChecksLog}
+use Rattle.log_check.specs.declared.verdict.Verdict.TheVariants as verdicts
 use Rattle.explore_picks.specs.Rows.{picks_text}
+use Rattle.explore_picks.specs.Stated.{AreStated}
 use Rattle.explore_picks.specs.declared.making.PlayToEnd.{PlayToEnd}
 use Rattle.explore_picks.specs.declared.making.PlayToEnd.TheVariants as ends
-use Rattle.explore_play.specs.Made.{ArePicked}
+use Rattle.explore_play.specs.Made.{ArePicked, IsHeardPlay}
 
 -- with these picks in place of the board's, whatever picks come after them, each play of the board
 -- begins with these moves
@@ -21,28 +26,41 @@ BeginPlays b picks g = (more : List Actor) (h : List Move) (end : End)
     → Plays b (picks ++ more) (reverse h) end → (k : List Move) × (h ≡ g ++ k)
 
 -- These moves are a play of the board so far, each made by the pick at its place, and the line's
--- part of them is this history. All oldest first.
+-- part of them is this history. A board's reader takes the rows of the picks as these picks. All
+-- oldest first.
 pub record IsPlayTo (b : BoardSeen) (line : LineNo) (es : List Entry) (picks : List Actor)
     (g : List Move) : Type 0 where
   pub picked : ArePicked b (reverse picks) (reverse g)
   pub begin : BeginPlays b picks g
   pub part : part line (reverse g) ≡ reverse es
   pub few : length picks ≤ 65536
+  pub stated : AreStated picks
 
--- such a play's moves and its picks are printed, or a beginning of them
+-- such a play's moves and its picks are printed, or a beginning of them; `check` says of all of it,
+-- behind the board, that it is lawful; and the runs that the moves ended were heard
 pub record PrintsPlayTo (b : BoardSeen) (line : LineNo) (es : List Entry)
-    (old new : Option (List ℕ)) (end : writes.the_data) : Type 0 where
+    (heard : List Run → Type 0) (old new : Option (List ℕ)) (end : writes.the_data)
+    : Type 0 where
   pub moves : List Move
   pub picks : List Actor
   pub play : IsPlayTo b line es picks moves
+  pub runs : heard (runs_of b (reverse moves))
+  pub lawful : ChecksLog b (moves_text moves ++ picks_text picks) verdicts.Lawful
   pub printed : WritesAll old new (moves_text moves ++ picks_text picks) end
 
-abbrev pub PlaysTo : BoardSeen → LineNo → List Entry → Option (List ℕ) → Option (List ℕ)
-    → PlayToEnd → Type 0
-PlaysTo b line es old new ends.Done = PrintsPlayTo b line es old new writes.Done
-PlaysTo b line es old new ends.WriteFault = PrintsPlayTo b line es old new writes.Failed
-PlaysTo b line es old new ends.NoneFound = new ≡ old
-PlaysTo b line es old new ends.NoMemory = new ≡ old
+-- the runs of some play of the board so far were heard
+abbrev pub HeardSome : BoardSeen → (List Run → Type 0) → Type 0
+HeardSome b heard = (g : List Move) × IsHeardPlay b heard g
+
+-- The play is printed, or a beginning of it. Or nothing is, and what was heard is of a play that
+-- was tried.
+abbrev pub PlaysTo : BoardSeen → LineNo → List Entry → (List Run → Type 0) → Option (List ℕ)
+    → Option (List ℕ) → PlayToEnd → Type 0
+PlaysTo b line es heard old new ends.Done = PrintsPlayTo b line es heard old new writes.Done
+PlaysTo b line es heard old new ends.WriteFault =
+    PrintsPlayTo b line es heard old new writes.Failed
+PlaysTo b line es heard old new ends.NoneFound = (new ≡ old) × HeardSome b heard
+PlaysTo b line es heard old new ends.NoMemory = (new ≡ old) × HeardSome b heard
 
 abbrev pub is_write_fault : PlayToEnd → Bool
 is_write_fault ends.WriteFault = true

@@ -11,6 +11,11 @@ pick_text (actors.Thread dev) = codes " t" ++ decimal dev.0
 pick_text (actors.Cpu cpu) = codes " c" ++ decimal cpu.0
 pick_text (actors.Driver driver) = codes " d" ++ decimal driver.0
 
+-- the picks as a text line of a board has them
+abbrev pub picks_line : List Actor → List ℕ
+picks_line picks = codes "picks" ++ flat_map pick_text picks
+
+-- they stand behind `# `, so that a log may have them, too
 abbrev pub picks_row : List Actor → List ℕ
 picks_row picks = codes "# picks" ++ flat_map pick_text picks ++ 10 ∷ []
 

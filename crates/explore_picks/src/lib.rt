@@ -5,6 +5,7 @@
 
 mod making;
 mod picks;
+mod small;
 
 pub use making::{PlayToEnd, play_to_and_print};
 pub use picks::print_picks;

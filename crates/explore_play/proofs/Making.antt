@@ -3,6 +3,7 @@ use Rattle.std.proofs.Common.{◌≡◌, ℕ, zero, suc, ◌+◌, ◌<◌, Bool,
 use Rattle.std.proofs.Common.{reverse, take, slice_get, add-one, refl, sym, ap, ◌∙◌, subst}
 use Rattle.std.proofs.lemmas.Option.{none-some}
 use Rattle.std.proofs.lemmas.List.{append_assoc, reverse-append}
+use Rattle.irq_base.specs.declared.devices.Run.{Run}
 use Rattle.irq_base.specs.declared.entries.Actor.{Actor}
 use Rattle.irq_base.specs.declared.entries.Entry.{Entry}
 use Rattle.irq_base.specs.declared.numbers.LineNo.{LineNo}
@@ -14,9 +15,14 @@ use Rattle.board_play.specs.Play.{IsChosen, choice, with_picks, or_choice}
 use Rattle.board_play.proofs.Moving.{lines_more}
 use Rattle.board_core.specs.Playing.{IsFresh}
 use Rattle.board_core.specs.Seen.{SystemSeen, board_lines}
-use Rattle.board_core.specs.Turns.{move_of, Moves}
+use Rattle.board_core.specs.Turns.{move_of, Moves, Turns}
+use Rattle.board_core.specs.Runs.{runs_by_turn, runs_of}
+use Rattle.board_core.specs.declared.turns.Turn.{Turn}
+use Rattle.board_core.specs.declared.turns.Turn.TheVariants as turns
 use Rattle.board_core.proofs.Underway.{part_in}
-use Rattle.explore_play.specs.Made.{ArePicked, IsMade}
+use Rattle.board_core.proofs.Hearing.{heard_turned, step_of_turn}
+use Rattle.callbacks.specs.Heard.{Heard}
+use Rattle.explore_play.specs.Made.{ArePicked, IsHeardPlay, IsMade}
 
 -- the entry at a place follows those before it
 one_suc : (es : List Entry) (i : ℕ) (e : Entry) → slice_get es i ≡ Some e → take (suc i) es ≡ take i es ++ e ∷ []
@@ -39,51 +45,83 @@ none_made s picks line f none =
       part = ap (λ (g : List Move). part line g) empty;
     }
 
-module _ (old new : SystemSeen) (picks after : List Actor) (a : Actor) (line : LineNo) (es : List Entry) (of : LineNo) (e : Entry)
-    (made : IsMade old picks line es) (moves : Moves old (move_of old a) (of, e) new) (pushed : after ≡ picks ++ a ∷ []) where
-  abbrev g : List Move
-  g = reverse old.log
-
+module _ (old new : SystemSeen) (picks : List Actor) (a : Actor) (line : LineNo) (es : List Entry) (of : LineNo) (e : Entry)
+    (made : IsMade old picks line es) (moves : Moves old (move_of old a) (of, e) new) where
   log : reverse new.log ≡ (of, e) ∷ reverse old.log
   log = ap (λ (h : List Move). reverse h) moves.log ∙ reverse-append old.log ((of, e) ∷ [])
-
-  back : reverse after ≡ a ∷ reverse picks
-  back = ap (λ (ps : List Actor). reverse ps) pushed ∙ reverse-append picks (a ∷ [])
 
   lines : board_lines new.lines ≡ lines_of new.board (reverse new.log)
   lines =
       moves.lines ∙ (ap (λ (ls : List BoardLine). lines_after (of, e) ls) made.lines ∙ sym (lines_more (defs_of old.board) (of, e) (reverse old.log)))
       ∙ (ap (λ (h : List Move). lines_of old.board h) (sym log) ∙ ap (λ (b : BoardSeen). lines_of b (reverse new.log)) (sym moves.board))
 
-  picked : ArePicked new.board (reverse after) (reverse new.log)
-  picked =
+  -- its pick is one more
+  picked_more : ArePicked new.board (a ∷ reverse picks) (reverse new.log)
+  picked_more =
       let due : due_move old.board (lines_of old.board (reverse old.log)) a ≡ Some (of, e)
       = ap (λ (ls : List BoardLine). due_move old.board ls a) (sym made.lines) ∙ moves.is in
       let room : length (part of (reverse old.log)) < old.board.log = part_in old of (λ past. length past < old.board.log) made.lines moves.room in
       let all : ArePicked old.board (a ∷ reverse picks) ((of, e) ∷ reverse old.log) = (made.picked, due, room) in
-      subst (λ (b : BoardSeen). ArePicked b (reverse after) (reverse new.log)) (sym moves.board)
-      (subst (λ (ps : List Actor). ArePicked old.board ps (reverse new.log)) (sym back)
-      (subst (λ (h : List Move). ArePicked old.board (a ∷ reverse picks) h) (sym log) all))
+      subst (λ (b : BoardSeen). ArePicked b (a ∷ reverse picks) (reverse new.log)) (sym moves.board)
+      (subst (λ (h : List Move). ArePicked old.board (a ∷ reverse picks) h) (sym log) all)
 
-  -- a move on another line
-  pub made_elsewhere : same_line line of ≡ false → IsMade new after line es
-  made_elsewhere other = record {
-    lines = lines;
-    picked = picked;
-    part = ap (λ (h : List Move). part line h) log
-        ∙ (ap (λ (b : Bool). cond b (e ∷ part line (reverse old.log)) (part line (reverse old.log))) other ∙ made.part);
-  }
+  module _ (after : List Actor) (pushed : after ≡ picks ++ a ∷ []) where
+    picked : ArePicked new.board (reverse after) (reverse new.log)
+    picked =
+        let back : reverse after ≡ a ∷ reverse picks = ap (λ (ps : List Actor). reverse ps) pushed ∙ reverse-append picks (a ∷ []) in
+        subst (λ (ps : List Actor). ArePicked new.board ps (reverse new.log)) (sym back) picked_more
 
-  -- the next entry of the line
-  pub made_here : same_line line of ≡ true → (more : List Entry) → more ≡ es ++ e ∷ [] → IsMade new after line more
-  made_here same more is = record {
-    lines = lines;
-    picked = picked;
-    part = ap (λ (h : List Move). part line h) log
-        ∙ (ap (λ (b : Bool). cond b (e ∷ part line (reverse old.log)) (part line (reverse old.log))) same
-        ∙ (ap (λ (xs : List Entry). e ∷ xs) made.part
-        ∙ sym (ap (λ (xs : List Entry). reverse xs) is ∙ reverse-append es (e ∷ []))));
-  }
+    -- a move on another line
+    pub made_elsewhere : same_line line of ≡ false → IsMade new after line es
+    made_elsewhere other = record {
+      lines = lines;
+      picked = picked;
+      part = ap (λ (h : List Move). part line h) log
+          ∙ (ap (λ (b : Bool). cond b (e ∷ part line (reverse old.log)) (part line (reverse old.log))) other ∙ made.part);
+    }
+
+    -- the next entry of the line
+    pub made_here : same_line line of ≡ true → (more : List Entry) → more ≡ es ++ e ∷ [] → IsMade new after line more
+    made_here same more is = record {
+      lines = lines;
+      picked = picked;
+      part = ap (λ (h : List Move). part line h) log
+          ∙ (ap (λ (b : Bool). cond b (e ∷ part line (reverse old.log)) (part line (reverse old.log))) same
+          ∙ (ap (λ (xs : List Entry). e ∷ xs) made.part
+          ∙ sym (ap (λ (xs : List Entry). reverse xs) is ∙ reverse-append es (e ∷ []))));
+    }
+
+-- ---- the runs that the moves ended were heard
+
+module _ {H : Type 0} (hears : H → Run → H → Type 0) (first before : H) (old : SystemSeen) (picks : List Actor) (line : LineNo) (es : List Entry)
+    (made : IsMade old picks line es) (so_far : Heard hears (runs_of old.board (reverse old.log)) first before) where
+  pub heard_now : IsHeardPlay old.board (λ (runs : List Run). Heard hears runs first before) (reverse old.log)
+  heard_now = record { picks = reverse picks; picked = made.picked; runs = so_far }
+
+  module _ (after : H) (new : SystemSeen) where
+    abbrev IsHeardNow : Type 0
+    IsHeardNow = IsHeardPlay new.board (λ (runs : List Run). Heard hears runs first after) (reverse new.log)
+
+    still : Heard hears (runs_of new.board (reverse new.log)) first after → new ≡ old → IsHeardNow
+    still runs same = record {
+      picks = reverse picks;
+      picked = subst (λ (s : SystemSeen). ArePicked s.board (reverse picks) (reverse s.log)) (sym same) made.picked;
+      runs = runs;
+    }
+
+    by_turn : (a : Actor) (t : Turn) → Turns old a t new → Heard hears (runs_of new.board (reverse new.log)) first after → IsHeardNow
+    by_turn a (turns.Moved of e) moves runs = record {
+      picks = a ∷ reverse picks;
+      picked = picked_more old new picks a line es of e made moves;
+      runs = runs;
+    }
+    by_turn a turns.NotYet turn runs = still runs turn.1
+    by_turn a (turns.Full of len) turn runs = still runs turn.1
+    by_turn a turns.NoMemory turn runs = still runs turn.1
+
+    pub heard_after : (a : Actor) (t : Turn) → Turns old a t new → Heard hears (runs_by_turn old t) before after → IsHeardNow
+    heard_after a t turn heard =
+        by_turn a t turn (heard_turned hears old new (move_of old a) t (step_of_turn old new a t turn) made.lines first before after so_far heard)
 
 -- ---- put in place of the board's picks, they make each play begin with these moves
 

@@ -1,5 +1,6 @@
 -- A play that is made pick by pick, and its part on one line.
 use Rattle.std.specs.Prelude.{◌≡◌, ◌<◌, ◌≤◌, Some, List, [], ◌∷◌, length, reverse}
+use Rattle.irq_base.specs.declared.devices.Run.{Run}
 use Rattle.irq_base.specs.declared.entries.Actor.{Actor}
 use Rattle.irq_base.specs.declared.entries.Entry.{Entry}
 use Rattle.irq_base.specs.declared.lines.LineDef.{LineDef}
@@ -8,6 +9,7 @@ use Rattle.irq_model.specs.Legal.{IsLegal}
 use Rattle.board_def.specs.Seen.{BoardSeen}
 use Rattle.board_play.specs.Lines.{Move, part, defs_of, lines_of}
 use Rattle.board_play.specs.Order.{due_move}
+use Rattle.board_core.specs.Runs.{runs_of}
 use Rattle.board_core.specs.Seen.{SystemSeen, board_lines}
 
 -- each of the moves was due of the pick at its place, and its line had room for it; none of the
@@ -37,3 +39,11 @@ pub record IsMade (s : SystemSeen) (picks : List Actor) (line : LineNo) (es : Li
   pub lines : board_lines s.lines ≡ lines_of s.board (reverse s.log)
   pub picked : ArePicked s.board (reverse picks) (reverse s.log)
   pub part : part line (reverse s.log) ≡ reverse es
+
+-- The moves, the newest first, are a play of the board so far, each made by a pick, and these runs
+-- were heard: those that the moves ended.
+pub record IsHeardPlay (board : BoardSeen) (heard : List Run → Type 0) (g : List Move)
+    : Type 0 where
+  pub picks : List Actor
+  pub picked : ArePicked board picks g
+  pub runs : heard (runs_of board g)

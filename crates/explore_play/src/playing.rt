@@ -11,12 +11,14 @@ ghost use Rattle.board_def.specs.Seen.{BoardSeen};
 ghost use Rattle.board_play.specs.Lines.{Move, defs_of};
 ghost use Rattle.board_play.specs.Play.{End, IsChosen, Plays};
 ghost use Rattle.board_core.specs.Playing.{IsFresh};
+ghost use Rattle.board_core.specs.Runs.{runs_by_turn};
 ghost use Rattle.board_core.specs.Turns.{Turns, move_of};
-ghost use Rattle.explore_play.specs.Made.{ArePicked, IsAlone, IsMade};
+ghost use Rattle.callbacks.specs.Heard.{Heard};
+ghost use Rattle.explore_play.specs.Made.{ArePicked, IsAlone, IsHeardPlay, IsMade};
 
 use crate::others::{is_elsewhere, others_of};
 use board_core::{System, Turn};
-use callbacks::{Callbacks, Handler};
+use callbacks::Handler;
 use irq_base::{Actor, Entry, LineNo, NoMemory};
 use irq_line::IrqLine;
 use std::alloc::Global;
@@ -31,9 +33,10 @@ fn turn_of<L: IrqLine, H: Handler>(
     line: LineNo,
     actor: Actor,
     others: &[Actor],
-    handlers: &Callbacks<H>,
+    handlers: &mut H,
 ) -> (Actor, Turn)
     ensures turns { Turns system.old result.0 result.1 system.new }
+    ensures heard { Heard H.hears (runs_by_turn system.old result.1) handlers.old handlers.new }
     ensures first { IsSome (move_of system.old actor) → result.0 ≡ actor }
 {
     match system.turn(actor, handlers) {
@@ -63,7 +66,8 @@ fn is_at(wanted: &[Entry], place: usize, entry: Entry) -> bool
 
 /// Makes moves until the line's history is `wanted`, and tells in `picks` whose moves they are.
 /// False if that wasn't done: nobody could move on, a log was full, or it took more than `PICKS`
-/// moves. It is done if no other line takes part, and there is room for the history. The only error
+/// moves. It is done if no other line takes part, and there is room for the history. However it
+/// ends, the handlers are called for the runs that the moves end, and for no other. The only error
 /// is `NoMemory`.
 pub fn play_to<L: IrqLine, H: Handler>(
     alloc: Global,
@@ -71,7 +75,7 @@ pub fn play_to<L: IrqLine, H: Handler>(
     line: LineNo,
     wanted: &[Entry],
     picks: &mut Vec<Actor>,
-    handlers: &Callbacks<H>,
+    handlers: &mut H,
 ) -> Result<bool, NoMemory>
     requires fresh { IsFresh system.old }
     requires empty { picks.old.items ≡ [] }
@@ -79,6 +83,8 @@ pub fn play_to<L: IrqLine, H: Handler>(
     ensures layout { system.new.layout ≡ system.old.layout }
     ensures play { IfOk result (λ found. found ≡ true
         → IsMade system.new picks.new.items line wanted.now) }
+    ensures heard { IsHeardPlay system.new.board
+        (λ runs. Heard H.hears runs handlers.old handlers.new) (reverse system.new.log) }
     ensures few { IfOk result (λ found. length picks.new.items ≤ 65536) }
     ensures alone { IsAlone system.old.board line wanted.now
         → IfOk result (λ found. found ≡ true) }

@@ -1,8 +1,10 @@
-//! The program `genirq-explore`: it hands its arguments, standard streams and the maker of its
-//! lines, those over the chips of their whole paths, to the body, and ends with the body's status.
+//! The program `genirq-explore`: it hands its arguments, standard streams, the maker of its lines,
+//! those over the chips of their whole paths, and handlers that answer by their devices' kinds to
+//! the body, and ends with the body's status.
 #![tactic(auto)]
 
 use board_lines::MakesChainLine;
+use callbacks::ByKind;
 use explore_top::run;
 use std::env;
 use std::process::ExitCode;
@@ -16,6 +18,7 @@ fn main(rt: HostRuntime) -> ExitCode {
             rt.stdout(),
             rt.stderr(),
             &MakesChainLine,
+            &mut ByKind,
         )
         .status,
     )

@@ -1,12 +1,15 @@
 -- What is done with a board that was read.
-use Rattle.std.proofs.Common.{◌≡◌, ℕ, false, Option, Some, None, Ok, List, refl, sym, ap, subst, ◌∙◌}
+use Rattle.std.proofs.Common.{◌≡◌, ◌⊎◌, inl, inr, ℕ, false, Option, Some, None, Ok, List, refl, sym, ap, subst, ◌∙◌}
 use Rattle.board_def.specs.Rules.{IsBoard}
 use Rattle.board_def.specs.Seen.{BoardSeen}
 use Rattle.explore_words.specs.declared.Asked.{Asked}
+use Rattle.explore_words.specs.declared.What.{What}
+use Rattle.explore_words.specs.declared.What.TheVariants as whats
+use Rattle.irq_base.specs.declared.devices.Run.{Run}
 use Rattle.irq_explore.specs.declared.exploring.ExploreEnd.{ExploreEnd}
 use Rattle.irq_explore.specs.declared.exploring.ExploreEnd.TheVariants as ends
 use Rattle.program_io.specs.Reading.{IsStated, ReadsBoard}
-use Rattle.explore_top.specs.Does.{Does, ExploresAs, ExploresInput, ExploresWhat, IsReadToEnd}
+use Rattle.explore_top.specs.Does.{Does, ExploresAs, ExploresInput, ExploresWhat, HeardBefore, IsReadToEnd}
 use Rattle.explore_top.specs.Ending.{ending_of, is_read_fault_end}
 use Rattle.explore_top.specs.declared.ending.Ending.{Ending}
 
@@ -14,10 +17,10 @@ read_to_end : (told left : Option (List ℕ)) (b : BoardSeen) → ReadsBoard tol
 read_to_end None left b read = tt
 read_to_end (Some bytes) left b read = read.1
 
-module _ (asked : Asked) (told left before now : Option (List ℕ)) (b : BoardSeen)
+module _ (asked : Asked) (heard : List Run → Type 0) (told left before now : Option (List ℕ)) (b : BoardSeen)
     (read : ReadsBoard told left (Ok b)) (stated : IsStated told b) (keeps : IsBoard b) where
-  input : (end : ExploreEnd) → ExploresWhat asked.states asked.what b before now end
-      → ExploresInput asked told left before now (ending_of asked.states end)
+  input : (end : ExploreEnd) → ExploresWhat asked.states asked.what heard b before now end
+      → ExploresInput asked heard told left before now (ending_of asked.states end)
   input end done = record {
     board = b;
     stated = stated;
@@ -26,17 +29,25 @@ module _ (asked : Asked) (told left before now : Option (List ℕ)) (b : BoardSe
     done = (end, refl, done);
   }
 
-  by_end : (end : ExploreEnd) → ExploresWhat asked.states asked.what b before now end → Does asked told left before now (ending_of asked.states end)
+  -- what was heard of the board where memory was refused
+  some_heard : (what : What) → ExploresWhat asked.states what heard b before now ends.NoMemory → HeardBefore heard told
+  some_heard whats.Survey done = inl done.1
+  some_heard (whats.Line line) done = inl done.1
+  some_heard (whats.Row line wanted) done = inl done.1
+  some_heard (whats.Play line wanted) done = inr (b, stated, done)
+
+  by_end : (end : ExploreEnd) → ExploresWhat asked.states asked.what heard b before now end
+      → Does asked heard told left before now (ending_of asked.states end)
   by_end ends.Done done = input ends.Done done
   by_end ends.Never done = input ends.Never done
   by_end (ends.Cut line) done = input (ends.Cut line) done
   by_end ends.NoPlay done = input ends.NoPlay done
   by_end ends.NotThere done = input ends.NotThere done
   by_end ends.WriteFault done = input ends.WriteFault done
-  by_end ends.NoMemory done = tt
+  by_end ends.NoMemory done = some_heard asked.what done
 
-  pub explored : (ending : Ending) → ExploresAs asked b before now ending → Does asked told left before now ending
-  explored ending (end, is, done) = subst (λ (e : Ending). Does asked told left before now e) (sym is) (by_end end done)
+  pub explored : (ending : Ending) → ExploresAs asked heard b before now ending → Does asked heard told left before now ending
+  explored ending (end, is, done) = subst (λ (e : Ending). Does asked heard told left before now e) (sym is) (by_end end done)
 
 no_read_fault : (states : ℕ) (end : ExploreEnd) → is_read_fault_end (ending_of states end) ≡ false
 no_read_fault states ends.Done = refl
@@ -48,6 +59,6 @@ no_read_fault states ends.WriteFault = refl
 no_read_fault states ends.NoMemory = refl
 
 -- it came without a read fault
-pub explored_unread : (asked : Asked) (b : BoardSeen) (before now : Option (List ℕ)) (ending : Ending) → ExploresAs asked b before now ending
-    → is_read_fault_end ending ≡ false
-explored_unread asked b before now ending (end, is, done) = ap is_read_fault_end is ∙ no_read_fault asked.states end
+pub explored_unread : (asked : Asked) (heard : List Run → Type 0) (b : BoardSeen) (before now : Option (List ℕ)) (ending : Ending)
+    → ExploresAs asked heard b before now ending → is_read_fault_end ending ≡ false
+explored_unread asked heard b before now ending (end, is, done) = ap is_read_fault_end is ∙ no_read_fault asked.states end

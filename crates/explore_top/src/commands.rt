@@ -1,5 +1,6 @@
 //! The top call over the arguments as they come.
 ghost use Rattle.std.specs.Prelude.{◌≡◌, ◌⊎◌, [], false, true, map, string_bytes};
+ghost use Rattle.callbacks.specs.Heard.{Heard};
 ghost use Rattle.explore_words.specs.Words.{Asks, AsksNothing};
 ghost use Rattle.explore_words.specs.declared.Asked.{Asked};
 ghost use Rattle.irq_io.specs.Faults.{Counts};
@@ -12,7 +13,7 @@ ghost use Rattle.explore_top.specs.Ending.{is_read_fault_end, is_write_fault_end
 
 use crate::ending::Ending;
 use crate::top::{end_early, explore_main};
-use callbacks::{ByKind, Callbacks};
+use callbacks::Handler;
 use irq_io::{Sink, Source};
 use line_makers::MakesDomainLine;
 use program_io::{ArgumentsRefused, lend, words_of};
@@ -21,24 +22,27 @@ use std::env::Args;
 use std::io;
 
 /// Does what the arguments say: reads `src`, prints to `out`, and says on `err` what went wrong.
-/// The handlers answer by their devices' kinds, and the maker makes the lines that are played.
+/// The maker makes the lines that are played, and these handlers are called for the runs that a
+/// play ends.
 /// Unless memory is refused, arguments that ask for nothing end as a fault of usage; so do
 /// arguments that aren't all UTF-8.
-pub fn command<S: Source, O: Sink, E: Sink, M: MakesDomainLine>(
+pub fn command<S: Source, O: Sink, E: Sink, M: MakesDomainLine, H: Handler>(
     alloc: Global,
     args: io::Result<Args>,
     src: &mut S,
     out: &mut O,
     err: &mut E,
     maker: &M,
+    handlers: &mut H,
 ) -> Ending
     ensures form { (asked : Asked) → IsForm args asked → result ≡ Ending.Usage → ⊥ }
     ensures usage { IsNoForm args → (result ≡ Ending.Usage) ⊎ (result ≡ Ending.NoMemory) }
     ensures not_text { IsNotText args → result ≡ Ending.Usage }
     ensures unread { IsNoForm args → src.new ≡ src.old }
+    ensures unheard { IsNoForm args → handlers.new ≡ handlers.old }
     ensures does { (asked : Asked) → IsForm args asked
-        → Does asked (S.left src.old) (S.left src.new) (O.written out.old) (O.written out.new)
-        result }
+        → Does asked (λ runs. Heard H.hears runs handlers.old handlers.new) (S.left src.old)
+        (S.left src.new) (O.written out.old) (O.written out.new) result }
     ensures read_fault { Counts (S.faults src.old) (S.faults src.new) (is_read_fault_end result) }
 
     ensures emptied { is_printed result ≡ true → O.kept out.new ≡ [] }
@@ -52,29 +56,31 @@ pub fn command<S: Source, O: Sink, E: Sink, M: MakesDomainLine>(
     ensures quiet { is_quiet result ≡ true → err.new ≡ err.old }
 {
     match words_of(alloc, args) {
-        Ok(words) => with_words(alloc, words.as_slice(), src, out, err, maker),
+        Ok(words) => with_words(alloc, words.as_slice(), src, out, err, maker, handlers),
         Err(ArgumentsRefused::NotText) => ended(Ending::Usage, err),
         Err(ArgumentsRefused::NoMemory) => ended(Ending::NoMemory, err),
     }
 }
 
 /// The top call over these words.
-fn with_words<S: Source, O: Sink, E: Sink, M: MakesDomainLine>(
+fn with_words<S: Source, O: Sink, E: Sink, M: MakesDomainLine, H: Handler>(
     alloc: Global,
     words: &[String],
     src: &mut S,
     out: &mut O,
     err: &mut E,
     maker: &M,
+    handlers: &mut H,
 ) -> Ending
     ensures form { (asked : Asked) → Asks (map string_bytes words.now) asked
         → result ≡ Ending.Usage → ⊥ }
     ensures usage { AsksNothing (map string_bytes words.now)
         → (result ≡ Ending.Usage) ⊎ (result ≡ Ending.NoMemory) }
     ensures unread { AsksNothing (map string_bytes words.now) → src.new ≡ src.old }
+    ensures unheard { AsksNothing (map string_bytes words.now) → handlers.new ≡ handlers.old }
     ensures does { (asked : Asked) → Asks (map string_bytes words.now) asked
-        → Does asked (S.left src.old) (S.left src.new) (O.written out.old) (O.written out.new)
-        result }
+        → Does asked (λ runs. Heard H.hears runs handlers.old handlers.new) (S.left src.old)
+        (S.left src.new) (O.written out.old) (O.written out.new) result }
     ensures read_fault { Counts (S.faults src.old) (S.faults src.new) (is_read_fault_end result) }
     ensures emptied { is_printed result ≡ true → O.kept out.new ≡ [] }
     ensures write_fault { Counts (O.faults out.old) (O.faults out.new)
@@ -86,15 +92,7 @@ fn with_words<S: Source, O: Sink, E: Sink, M: MakesDomainLine>(
     ensures quiet { is_quiet result ≡ true → err.new ≡ err.old }
 {
     match lend(alloc, words) {
-        Ok(lent) => explore_main(
-            alloc,
-            lent.as_slice(),
-            src,
-            out,
-            err,
-            maker,
-            &Callbacks::new(ByKind),
-        ),
+        Ok(lent) => explore_main(alloc, lent.as_slice(), src, out, err, maker, handlers),
         Err(_) => ended(Ending::NoMemory, err),
     }
 }

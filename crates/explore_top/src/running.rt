@@ -1,6 +1,7 @@
 //! The body of `main`.
 ghost use Rattle.std.specs.Prelude.{◌≡◌, ◌⊎◌, [], None, IsSome, IfSome, false, true};
 ghost use Rattle.std.specs.Io.Buffered.{writer_buffer, writer_contents, writer_inner};
+ghost use Rattle.callbacks.specs.Heard.{Heard};
 ghost use Rattle.explore_words.specs.declared.Asked.{Asked};
 ghost use Rattle.irq_io.specs.Faults.{Counts};
 ghost use Rattle.program_io.specs.Arguments.{IsNotText};
@@ -12,6 +13,7 @@ ghost use Rattle.explore_top.specs.Ending.{is_read_fault_end, is_write_fault_end
 
 use crate::commands::{command, ended};
 use crate::ending::Ending;
+use callbacks::Handler;
 use irq_base::NoMemory;
 use irq_io::{StdSink, StdSource};
 use line_makers::MakesDomainLine;
@@ -37,14 +39,16 @@ pub struct Ended<R: Read + Drop, O: Write + Drop, E: Write + Drop> {
 
 /// Runs the program over its arguments as they come, its input, its output and its error stream.
 /// The output gets a buffer. If the status is 0, 1 or 8, nothing is kept back there, and the writer
-/// has all of the output. The maker makes the lines that are played.
-pub fn run<R: Read + Drop, O: Write + Drop, E: Write + Drop, M: MakesDomainLine>(
+/// has all of the output. The maker makes the lines that are played, and these handlers are called
+/// for the runs that a play ends.
+pub fn run<R: Read + Drop, O: Write + Drop, E: Write + Drop, M: MakesDomainLine, H: Handler>(
     alloc: Global,
     args: io::Result<Args>,
     input: R,
     output: O,
     error: E,
     maker: &M,
+    handlers: &mut H,
 ) -> Ended<R, O, E>
     ensures status { result.status ≡ status_of result.ending }
     ensures buffer { result.output ≡ None → result.ending ≡ Ending.NoMemory }
@@ -53,10 +57,12 @@ pub fn run<R: Read + Drop, O: Write + Drop, E: Write + Drop, M: MakesDomainLine>
         → (result.ending ≡ Ending.Usage) ⊎ (result.ending ≡ Ending.NoMemory) }
     ensures not_text { IsNotText args → IsSome result.output → result.ending ≡ Ending.Usage }
     ensures unread { IsNoForm args → result.input.reader ≡ input }
+    ensures unheard { IsNoForm args → handlers.new ≡ handlers.old }
     ensures does { (asked : Asked) → IsForm args asked
         → IfSome result.output
-        (λ out. Does asked (R.remaining input) (R.remaining result.input.reader)
-        (O.contents output) (writer_contents O.contents out.writer) result.ending) }
+        (λ out. Does asked (λ runs. Heard H.hears runs handlers.old handlers.new)
+        (R.remaining input) (R.remaining result.input.reader) (O.contents output)
+        (writer_contents O.contents out.writer) result.ending) }
     ensures read_fault { Counts 0 result.input.faults (is_read_fault_end result.ending) }
 
     ensures emptied { is_printed result.ending ≡ true
@@ -81,7 +87,7 @@ pub fn run<R: Read + Drop, O: Write + Drop, E: Write + Drop, M: MakesDomainLine>
     let mut error = without_buffer(alloc, error);
     match with_buffer(alloc, output) {
         Ok(mut output) => {
-            let ending = command(alloc, args, &mut input, &mut output, &mut error, maker);
+            let ending = command(alloc, args, &mut input, &mut output, &mut error, maker, handlers);
             Ended {
                 status: ending.status(),
                 ending,

@@ -1,5 +1,6 @@
 //! The top call.
 ghost use Rattle.std.specs.Prelude.{◌≡◌, ◌↔◌, [], false, true, map};
+ghost use Rattle.callbacks.specs.Heard.{Heard};
 ghost use Rattle.explore_words.specs.Words.{Asks, AsksNothing, IsCount};
 ghost use Rattle.explore_words.specs.declared.Asked.{Asked};
 ghost use Rattle.irq_io.specs.Faults.{Counts};
@@ -13,7 +14,7 @@ ghost use Rattle.irq_explore.specs.Explored.{is_write_fault};
 use crate::ending::Ending;
 use crate::error_rows::error_row;
 use board_def::Board;
-use callbacks::{Callbacks, Handler};
+use callbacks::Handler;
 use explore_words::{Asked, What, read_words};
 use irq_explore::{ExploreEnd, explore_play, explore_row, explore_survey};
 use irq_io::{Sink, Source};
@@ -25,9 +26,9 @@ use text_row::TextRow;
 /// Does what the words ask for: reads a board from `src`, and looks through the states of its
 /// lines: it surveys all lines, or one, or looks for a shortest log of a line that ends with the
 /// row, or that leaves the line so, and prints it, or a play of the board that comes to it: the
-/// maker makes the lines that are played, with these handlers. Other words are refused before
-/// anything is read. What went wrong is told on `err`, in one row; a fault of `err` itself changes
-/// nothing.
+/// maker makes the lines that are played, and these handlers are called for the runs that the play
+/// ends. Other words are refused before anything is read. What went wrong is told on `err`, in one
+/// row; a fault of `err` itself changes nothing.
 pub fn explore_main<S: Source, O: Sink, E: Sink, M: MakesDomainLine, H: Handler>(
     alloc: Global,
     words: &[&str],
@@ -35,13 +36,14 @@ pub fn explore_main<S: Source, O: Sink, E: Sink, M: MakesDomainLine, H: Handler>
     out: &mut O,
     err: &mut E,
     maker: &M,
-    handlers: &Callbacks<H>,
+    handlers: &mut H,
 ) -> Ending
     ensures usage { (result ≡ Ending.Usage) ↔ AsksNothing (map (λ w. w.now) words.now) }
     ensures unread { AsksNothing (map (λ w. w.now) words.now) → src.new ≡ src.old }
+    ensures unheard { AsksNothing (map (λ w. w.now) words.now) → handlers.new ≡ handlers.old }
     ensures does { (asked : Asked) → Asks (map (λ w. w.now) words.now) asked
-        → Does asked (S.left src.old) (S.left src.new) (O.written out.old) (O.written out.new)
-        result }
+        → Does asked (λ runs. Heard H.hears runs handlers.old handlers.new) (S.left src.old)
+        (S.left src.new) (O.written out.old) (O.written out.new) result }
     ensures read_fault { Counts (S.faults src.old) (S.faults src.new) (is_read_fault_end result) }
 
     ensures emptied { is_printed result ≡ true → O.kept out.new ≡ [] }
@@ -68,13 +70,14 @@ fn work<S: Source, O: Sink, M: MakesDomainLine, H: Handler>(
     src: &mut S,
     out: &mut O,
     maker: &M,
-    handlers: &Callbacks<H>,
+    handlers: &mut H,
 ) -> Ending
     ensures usage { (result ≡ Ending.Usage) ↔ AsksNothing (map (λ w. w.now) words.now) }
     ensures unread { AsksNothing (map (λ w. w.now) words.now) → src.new ≡ src.old }
+    ensures unheard { AsksNothing (map (λ w. w.now) words.now) → handlers.new ≡ handlers.old }
     ensures does { (asked : Asked) → Asks (map (λ w. w.now) words.now) asked
-        → Does asked (S.left src.old) (S.left src.new) (O.written out.old) (O.written out.new)
-        result }
+        → Does asked (λ runs. Heard H.hears runs handlers.old handlers.new) (S.left src.old)
+        (S.left src.new) (O.written out.old) (O.written out.new) result }
     ensures read_fault { Counts (S.faults src.old) (S.faults src.new) (is_read_fault_end result) }
     ensures emptied { is_printed result ≡ true → O.kept out.new ≡ [] }
     ensures write_fault { Counts (O.faults out.old) (O.faults out.new)
@@ -94,11 +97,11 @@ fn act<S: Source, O: Sink, M: MakesDomainLine, H: Handler>(
     src: &mut S,
     out: &mut O,
     maker: &M,
-    handlers: &Callbacks<H>,
+    handlers: &mut H,
 ) -> Ending
     requires { IsCount asked.states }
-    ensures does { Does asked (S.left src.old) (S.left src.new) (O.written out.old)
-        (O.written out.new) result }
+    ensures does { Does asked (λ runs. Heard H.hears runs handlers.old handlers.new)
+        (S.left src.old) (S.left src.new) (O.written out.old) (O.written out.new) result }
     ensures read_fault { Counts (S.faults src.old) (S.faults src.new) (is_read_fault_end result) }
     ensures emptied { is_printed result ≡ true → O.kept out.new ≡ [] }
     ensures write_fault { Counts (O.faults out.old) (O.faults out.new)
@@ -121,10 +124,11 @@ fn explore<O: Sink, M: MakesDomainLine, H: Handler>(
     asked: Asked,
     out: &mut O,
     maker: &M,
-    handlers: &Callbacks<H>,
+    handlers: &mut H,
 ) -> Ending
     requires { IsCount asked.states }
-    ensures does { ExploresAs asked board.now (O.written out.old) (O.written out.new) result }
+    ensures does { ExploresAs asked (λ runs. Heard H.hears runs handlers.old handlers.new)
+        board.now (O.written out.old) (O.written out.new) result }
     ensures emptied { is_printed result ≡ true → O.kept out.new ≡ [] }
     ensures write_fault { Counts (O.faults out.old) (O.faults out.new)
         (is_write_fault_end result) }
@@ -142,11 +146,12 @@ fn explore_what<O: Sink, M: MakesDomainLine, H: Handler>(
     what: What,
     out: &mut O,
     maker: &M,
-    handlers: &Callbacks<H>,
+    handlers: &mut H,
 ) -> ExploreEnd
     requires { IsCount states }
-    ensures does { ExploresWhat states what board.now (O.written out.old) (O.written out.new)
-        result }
+    ensures does { ExploresWhat states what
+        (λ runs. Heard H.hears runs handlers.old handlers.new) board.now (O.written out.old)
+        (O.written out.new) result }
     ensures emptied { is_whole result ≡ true → O.kept out.new ≡ [] }
     ensures write_fault { Counts (O.faults out.old) (O.faults out.new) (is_write_fault result) }
     ensures silent { is_saying result ≡ false → out.new ≡ out.old }

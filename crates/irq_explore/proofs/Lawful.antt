@@ -1,6 +1,6 @@
 -- A log that was found is lawful: its text is that of a log of the board, on which `check` says so.
 use Rattle.std.proofs.Common.{◌≡◌, ℕ, ◌<◌, Bool, true, false, not, ◌&&◌, cond, eqb, ltb, Some, None, List, [], ◌∷◌, ◌++◌}
-use Rattle.std.proofs.Common.{length, map, slice_get, reverse, codes, All, refl, sym, ap, subst, ◌∙◌, append_assoc, arith}
+use Rattle.std.proofs.Common.{Vec, Global, length, map, slice_get, reverse, codes, All, refl, sym, ap, subst, ◌∙◌, append_assoc, arith}
 use Rattle.std.specs.List.{AllZip, filter, join_with_byte}
 use Rattle.std.specs.Option.{option_map}
 use Rattle.std.proofs.lemmas.Bool.{and_parts, ltb-true, ne_eqb, eqb-true}
@@ -35,8 +35,8 @@ use Rattle.log_text.proofs.Splitting.{are_above, row_within, row_words}
 use Rattle.log_text.specs.EntryWords.{IsPrintable}
 use Rattle.log_text.specs.Formed.{HasSmallNumbers, IsSmall, IsWritable}
 use Rattle.log_text.specs.Rows.{entry_text, history_text}
-use Rattle.explore_words.proofs.Dashes.{begins_so}
-use Rattle.irq_explore.specs.Answered.{Answered, AnsweredLine, IsLawful}
+use Rattle.explore_picks.proofs.Lawful.{no_hash, row_first}
+use Rattle.irq_explore.specs.Answered.{Answered, AnsweredLine, AnsweredRefused, IsLawful}
 use Rattle.irq_explore.specs.Printing.{HasSmallAnswer, IsPrintableAnswer}
 
 -- ---- the entries can be written
@@ -60,15 +60,6 @@ all_writable (e ∷ es) p s =
 
 -- ---- the rows of the text
 
-row_first : (xs rest : List ℕ) → are_above 10 xs ≡ true → rows_of (xs ++ 10 ∷ rest) ≡ (xs ++ 10 ∷ []) ∷ rows_of rest
-row_first [] rest above = refl
-row_first (b ∷ bs) rest above =
-    let both = and_parts (ltb 10 b) (are_above 10 bs) above in
-    let more = ltb-true 10 b both.0 in
-    let no : is_feed b ≡ false = ne_eqb b 10 (λ same. omega (arith, more, same)) in
-    ap (λ t. cond t ((b ∷ []) ∷ rows_of (bs ++ 10 ∷ rest)) (onto_first b (rows_of (bs ++ 10 ∷ rest)))) no
-    ∙ ap (onto_first b) (row_first bs rest both.1)
-
 module _ (line : LineNo) (number : IsSmall line.0) where
   abbrev words : Entry → List ℕ
   words e = join_with_byte 32 (row_words line e)
@@ -80,15 +71,8 @@ module _ (line : LineNo) (number : IsSmall line.0) where
       ∙ (row_first (words e) (history_text line es) (row_within line e number (All-head IsWritable e es w))
       ∙ ap (λ rows. entry_text line e ∷ rows) (text_rows es (All-tail IsWritable e es w)))
 
-  no_hash : (e : Entry) → IsWritable e → begins_with_hash (entry_text line e) ≡ false
-  no_hash e w =
-      let so = begins_so (words e) line (wants.Row e) (record { text = refl; number = number; has_row = w }) in
-      let above = ltb-true 45 so.0 so.3 in
-      let other : eqb so.0 35 ≡ false = ne_eqb so.0 35 (λ same. omega (arith, above, same)) in
-      ap (λ (xs : List ℕ). begins_with_hash (xs ++ codes "\n")) so.2 ∙ other
-
   unpassed : (e : Entry) → IsWritable e → is_passed_over (entry_text line e) ≡ false
-  unpassed e w = ap (λ t. t && is_whole (entry_text line e)) (no_hash e w)
+  unpassed e w = ap (λ t. t && is_whole (entry_text line e)) (no_hash line e number)
 
   all_say : (es : List Entry) → All IsWritable es → saying (map (entry_text line) es) ≡ map (entry_text line) es
   all_say [] w = refl
@@ -139,11 +123,16 @@ line_no n = record { 0 = n }
 
 -- ---- the verdict
 
+-- of a line that the layout refuses nothing but the empty history is found
+none_found : (wanted : Wanted) (v : Vec Entry Global) → AnsweredRefused wanted (answers.Found v) → v.items ≡ []
+none_found (wants.Row e) v says = let no : answers.Found v ≡ answers.Never = says in cc
+none_found (wants.Rest left) v says = says.1
+
 on_own : (states : ℕ) (b : BoardSeen) (row : LineRow) (placement : Placement) (wanted : Wanted) (answer : Answer) (es : List Entry) → IsFound answer es
     → AnsweredLine states b row placement wanted answer → JudgedLine b row placement es None
 on_own states b row (placements.Mapped virq path) wanted (answers.Found v) es found says =
     subst (IsLegal (line_of_row b row)) found (legal_of (line_of_row b row) wanted (reverse v.items) says.meets)
-on_own states b row (placements.Refused why) wanted (answers.Found v) es found says = let no : answers.Found v ≡ answers.Never = says in cc
+on_own states b row (placements.Refused why) wanted (answers.Found v) es found says = sym found ∙ none_found wanted v says
 on_own states b row placement wanted answers.Never es found says = absurd found
 on_own states b row placement wanted (answers.NotWithin n) es found says = absurd found
 

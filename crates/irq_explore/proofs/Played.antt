@@ -1,10 +1,11 @@
 -- A play that comes to a log, ending by ending.
-use Rattle.std.proofs.Common.{◌≡◌, ℕ, ◌⊎◌, inl, inr, true, Option, Some, List, refl, sym, ap, subst}
+use Rattle.std.proofs.Common.{◌≡◌, ℕ, ◌⊎◌, inl, inr, true, Option, Some, List, [], refl, sym, ap, subst}
 use Rattle.board_def.specs.Seen.{BoardSeen}
 use Rattle.explore_picks.specs.Printed.{PlaysTo}
 use Rattle.explore_picks.specs.declared.making.PlayToEnd.{PlayToEnd}
 use Rattle.explore_picks.specs.declared.making.PlayToEnd.TheVariants as plays
 use Rattle.explore_play.specs.Made.{IsAlone}
+use Rattle.irq_base.specs.declared.devices.Run.{Run}
 use Rattle.irq_base.specs.declared.entries.Entry.{Entry}
 use Rattle.irq_base.specs.declared.numbers.LineNo.{LineNo}
 use Rattle.irq_io.specs.Whole.{WritesAll}
@@ -22,11 +23,12 @@ IsLog (answers.Found v) es = v.items ≡ es
 IsLog answers.Never es = ⊥
 IsLog (answers.NotWithin n) es = ⊥
 
-module _ (states : ℕ) (b : BoardSeen) (line : LineNo) (wanted : Wanted) (before now : Option (List ℕ))
+module _ (states : ℕ) (b : BoardSeen) (line : LineNo) (wanted : Wanted) (heard : List Run → Type 0) (before now : Option (List ℕ))
     (there : has_all b line wanted ≡ true) where
   -- a log was found, and the play to it ended so
   pub played : (answer : Answer) (es : List Entry) → IsLog answer es → Answered states b line wanted answer → (end : PlayToEnd)
-      → PlaysTo b line es before now end → (IsAlone b line es → end ≡ plays.NoneFound → ⊥) → ExploresPlay states b line wanted before now (end_of_play end)
+      → PlaysTo b line es heard before now end → (IsAlone b line es → end ≡ plays.NoneFound → ⊥)
+      → ExploresPlay states b line wanted heard before now (end_of_play end)
   played answers.Never es log answered end plays alone = absurd log
   played (answers.NotWithin n) es log answered end plays alone = absurd log
   played (answers.Found v) es log answered plays.Done is alone = (
@@ -35,7 +37,7 @@ module _ (states : ℕ) (b : BoardSeen) (line : LineNo) (wanted : Wanted) (befor
     record {
       there = there;
       answered = answered;
-      written = subst (λ (xs : List Entry). PlaysTo b line xs before now plays.Done) (sym log) is;
+      written = subst (λ (xs : List Entry). PlaysTo b line xs heard before now plays.Done) (sym log) is;
     },
   )
   played (answers.Found v) es log answered plays.WriteFault is alone = (
@@ -43,23 +45,32 @@ module _ (states : ℕ) (b : BoardSeen) (line : LineNo) (wanted : Wanted) (befor
     record {
       there = there;
       answered = answered;
-      written = subst (λ (xs : List Entry). PlaysTo b line xs before now plays.WriteFault) (sym log) is;
+      written = subst (λ (xs : List Entry). PlaysTo b line xs heard before now plays.WriteFault) (sym log) is;
     },
   )
-  played (answers.Found v) es log answered plays.NoneFound is alone = record {
-    there = there;
-    answer = answers.Found v;
-    answered = answered;
-    entries = es;
-    found = ap Some log;
-    not_alone = λ fits. alone fits refl;
-  }
-  played (answers.Found v) es log answered plays.NoMemory is alone = tt
+  played (answers.Found v) es log answered plays.NoneFound is alone = (
+    record {
+      there = there;
+      answer = answers.Found v;
+      answered = answered;
+      entries = es;
+      found = ap Some log;
+      not_alone = λ fits. alone fits refl;
+    },
+    is.1,
+  )
+  played (answers.Found v) es log answered plays.NoMemory is alone = is.1
 
   -- a fault came as it was printed that none was found
   pub unsaid : (answer : Answer) → (answer ≡ answers.Never) ⊎ ((n : ℕ) × (answer ≡ answers.NotWithin n)) → Answered states b line wanted answer
-      → WritesAll before now (answer_text line answer) writes.Failed → (a : Answer) × SaysPlay states b line wanted before now writes.Failed a
-  unsaid answers.Never none answered written = (answers.Never, record { there = there; answered = answered; written = written })
-  unsaid (answers.NotWithin n) none answered written = (answers.NotWithin n, record { there = there; answered = answered; written = written })
-  unsaid (answers.Found v) (inl is) answered written = cc
-  unsaid (answers.Found v) (inr is) answered written = let same = is.1 in cc
+      → WritesAll before now (answer_text line answer) writes.Failed → heard [] → (a : Answer) × SaysPlay states b line wanted heard before now writes.Failed a
+  unsaid answers.Never none answered written none_heard = (
+    answers.Never,
+    record { there = there; answered = answered; written = (written, none_heard) },
+  )
+  unsaid (answers.NotWithin n) none answered written none_heard = (
+    answers.NotWithin n,
+    record { there = there; answered = answered; written = (written, none_heard) },
+  )
+  unsaid (answers.Found v) (inl is) answered written none_heard = cc
+  unsaid (answers.Found v) (inr is) answered written none_heard = let same = is.1 in cc

@@ -1,5 +1,5 @@
 -- The answer to what is wanted of a board's line.
-use Rattle.std.specs.Prelude.{◌≡◌, ℕ, Some, List, ◌++◌, codes, decimal, slice_get}
+use Rattle.std.specs.Prelude.{◌≡◌, ℕ, Some, List, [], ◌++◌, codes, decimal, false, slice_get}
 use Rattle.board_def.specs.Layout.{layout_of}
 use Rattle.board_def.specs.LineOf.{line_of_row}
 use Rattle.board_def.specs.Seen.{BoardSeen}
@@ -10,19 +10,33 @@ use Rattle.irq_base.specs.declared.numbers.LineNo.{LineNo}
 use Rattle.line_survey.specs.declared.answer.Answer.{Answer}
 use Rattle.line_survey.specs.declared.answer.Answer.TheVariants as answers
 use Rattle.line_survey.specs.Answers.{IsAnswer}
+use Rattle.line_wanted.specs.declared.left.Left.{Left}
+use Rattle.line_wanted.specs.declared.left.Standing.TheVariants as standings
 use Rattle.line_wanted.specs.declared.wanted.Wanted.{Wanted}
+use Rattle.line_wanted.specs.declared.wanted.Wanted.TheVariants as wants
 use Rattle.log_check.specs.Verdicts.{ChecksLog}
 use Rattle.log_check.specs.declared.verdict.Verdict.TheVariants as verdicts
 use Rattle.log_text.specs.Rows.{history_text}
 
+-- as a line is left to which nothing has happened
+abbrev pub untouched : Left
+untouched =
+    record { standing = standings.Stopped; unserved = 0; stored = false; pending = false }
+
+-- of a line that the layout refuses: it has the empty history alone, at rest from the beginning
+abbrev pub AnsweredRefused : Wanted → Answer → Type 0
+AnsweredRefused (wants.Row e) answer = answer ≡ answers.Never
+AnsweredRefused (wants.Rest left) (answers.Found es) = (left ≡ untouched) × (es.items ≡ [])
+AnsweredRefused (wants.Rest left) answers.Never = left ≡ untouched → ⊥
+AnsweredRefused (wants.Rest left) (answers.NotWithin n) = ⊥
+
 -- by a search through at most `states` states of the line
 module _ (states : ℕ) where
-  -- the answer for a line of the board, by whether it is mapped or refused: a refused line has no
-  -- history
+  -- the answer for a line of the board, by whether it is mapped or refused
   abbrev pub AnsweredLine : BoardSeen → LineRow → Placement → Wanted → Answer → Type 0
   AnsweredLine b row (placements.Mapped virq path) wanted answer =
       IsAnswer states (line_of_row b row) wanted answer
-  AnsweredLine b row (placements.Refused why) wanted answer = answer ≡ answers.Never
+  AnsweredLine b row (placements.Refused why) wanted answer = AnsweredRefused wanted answer
 
   -- the answer for the board's line at index i
   abbrev pub AnsweredAt : BoardSeen → ℕ → Wanted → Answer → Type 0

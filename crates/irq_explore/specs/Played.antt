@@ -1,10 +1,11 @@
 -- What the exploring of a board says when a play is asked for that comes to a log, by how it ended.
-use Rattle.std.specs.Prelude.{◌≡◌, ℕ, true, false, Option, Some, None, List}
+use Rattle.std.specs.Prelude.{◌≡◌, ℕ, true, false, Option, Some, None, List, []}
 use Rattle.board_def.specs.Seen.{BoardSeen}
-use Rattle.explore_picks.specs.Printed.{PrintsPlayTo}
+use Rattle.explore_picks.specs.Printed.{HeardSome, PrintsPlayTo}
 use Rattle.explore_picks.specs.declared.making.PlayToEnd.{PlayToEnd}
 use Rattle.explore_picks.specs.declared.making.PlayToEnd.TheVariants as plays
 use Rattle.explore_play.specs.Made.{IsAlone}
+use Rattle.irq_base.specs.declared.devices.Run.{Run}
 use Rattle.irq_base.specs.declared.entries.Entry.{Entry}
 use Rattle.irq_base.specs.declared.numbers.LineNo.{LineNo}
 use Rattle.irq_io.specs.Whole.{WritesAll}
@@ -19,23 +20,24 @@ use Rattle.irq_explore.specs.Present.{has_all}
 use Rattle.irq_explore.specs.declared.exploring.ExploreEnd.{ExploreEnd}
 use Rattle.irq_explore.specs.declared.exploring.ExploreEnd.TheVariants as ends
 
--- what is written of an answer: of a log that was found a play of the board whose part on the line
--- it is; else the answer's text
-abbrev pub WritesPlay : BoardSeen → LineNo → Option (List ℕ) → Option (List ℕ) → WriteEnd → Answer
-    → Type 0
-WritesPlay b line before now write (answers.Found es) =
-    PrintsPlayTo b line es.items before now write
-WritesPlay b line before now write answers.Never =
-    WritesAll before now (answer_text line answers.Never) write
-WritesPlay b line before now write (answers.NotWithin n) =
-    WritesAll before now (answer_text line (answers.NotWithin n)) write
+-- What is written of an answer, and which runs are heard. Of a log that was found a play of the
+-- board whose part on the line it is, and the runs that it ends; else the answer's text, and none.
+abbrev pub WritesPlay : BoardSeen → LineNo → (List Run → Type 0) → Option (List ℕ)
+    → Option (List ℕ) → WriteEnd → Answer → Type 0
+WritesPlay b line heard before now write (answers.Found es) =
+    PrintsPlayTo b line es.items heard before now write
+WritesPlay b line heard before now write answers.Never =
+    WritesAll before now (answer_text line answers.Never) write × heard []
+WritesPlay b line heard before now write (answers.NotWithin n) =
+    WritesAll before now (answer_text line (answers.NotWithin n)) write × heard []
 
 -- this is the answer, and the output gained the play, or that there is none
 pub record SaysPlay (states : ℕ) (b : BoardSeen) (line : LineNo) (wanted : Wanted)
-    (before now : Option (List ℕ)) (write : WriteEnd) (answer : Answer) : Type 0 where
+    (heard : List Run → Type 0) (before now : Option (List ℕ)) (write : WriteEnd)
+    (answer : Answer) : Type 0 where
   pub there : has_all b line wanted ≡ true
   pub answered : Answered states b line wanted answer
-  pub written : WritesPlay b line before now write answer
+  pub written : WritesPlay b line heard before now write answer
 
 -- the log that was found
 abbrev pub log_of : Answer → Option (List Entry)
@@ -53,23 +55,27 @@ pub record FindsLog (states : ℕ) (b : BoardSeen) (line : LineNo) (wanted : Wan
   pub not_alone : IsAlone b line entries → ⊥
 
 -- all of it is printed, with this end
-abbrev pub EndsPlay : ℕ → BoardSeen → LineNo → Wanted → Option (List ℕ) → Option (List ℕ)
-    → ExploreEnd → Type 0
-EndsPlay states b line wanted before now end =
+abbrev pub EndsPlay : ℕ → BoardSeen → LineNo → Wanted → (List Run → Type 0) → Option (List ℕ)
+    → Option (List ℕ) → ExploreEnd → Type 0
+EndsPlay states b line wanted heard before now end =
     (answer : Answer) × (end ≡ end_of line answer)
-    × SaysPlay states b line wanted before now writes.Done answer
+    × SaysPlay states b line wanted heard before now writes.Done answer
 
 -- What is wanted of a line was looked for, through its states up to a limit, and of a log that
 -- was found a play. It is printed, or after a fault of the output a beginning of it; or no play was
--- found; or the board lacks what the row names; or memory was refused.
-abbrev pub ExploresPlay : ℕ → BoardSeen → LineNo → Wanted → Option (List ℕ) → Option (List ℕ)
-    → ExploreEnd → Type 0
-ExploresPlay states b line wanted before now ends.NotThere = has_all b line wanted ≡ false
-ExploresPlay states b line wanted before now ends.WriteFault =
-    (answer : Answer) × SaysPlay states b line wanted before now writes.Failed answer
-ExploresPlay states b line wanted before now ends.NoMemory = Unit {0}
-ExploresPlay states b line wanted before now ends.NoPlay = FindsLog states b line wanted
-ExploresPlay states b line wanted before now end = EndsPlay states b line wanted before now end
+-- found; or the board lacks what the row names; or memory was refused. Where no play is printed,
+-- the runs are heard that a play ended which was tried, or none.
+abbrev pub ExploresPlay : ℕ → BoardSeen → LineNo → Wanted → (List Run → Type 0)
+    → Option (List ℕ) → Option (List ℕ) → ExploreEnd → Type 0
+ExploresPlay states b line wanted heard before now ends.NotThere =
+    (has_all b line wanted ≡ false) × heard []
+ExploresPlay states b line wanted heard before now ends.WriteFault =
+    (answer : Answer) × SaysPlay states b line wanted heard before now writes.Failed answer
+ExploresPlay states b line wanted heard before now ends.NoMemory = HeardSome b heard
+ExploresPlay states b line wanted heard before now ends.NoPlay =
+    FindsLog states b line wanted × HeardSome b heard
+ExploresPlay states b line wanted heard before now end =
+    EndsPlay states b line wanted heard before now end
 
 -- the end with this end of the play and its printing
 abbrev pub end_of_play : PlayToEnd → ExploreEnd

@@ -1,7 +1,7 @@
 //! The answer of a line's search.
 ghost use Rattle.std.specs.Prelude.{◌≡◌, ◌≤◌, ◌<◌, IfOk, Some, length, slice_get};
 ghost use Rattle.explore_words.specs.Words.{IsCount};
-ghost use Rattle.irq_explore.specs.Answered.{AnsweredAt};
+ghost use Rattle.irq_explore.specs.Answered.{AnsweredAt, AnsweredRefused};
 ghost use Rattle.irq_explore.specs.Printing.{IsPrintableAnswer};
 
 use board_def::Board;
@@ -9,11 +9,30 @@ use board_layout::lay;
 use domain_rules::Placement;
 use irq_base::NoMemory;
 use line_survey::{Answer, shortest};
-use line_wanted::Wanted;
+use line_wanted::{Left, Standing, Wanted};
 use std::alloc::Global;
 
+/// As a line is left to which nothing has happened.
+const UNTOUCHED: Left = Left {
+    standing: Standing::Stopped,
+    unserved: 0,
+    stored: false,
+    pending: false,
+};
+
+/// What is said of a line that the layout refuses: it has the empty history alone.
+fn answer_of_refused(alloc: Global, wanted: Wanted) -> Answer
+    ensures answered { AnsweredRefused wanted result }
+    ensures rows { IsPrintableAnswer result }
+{
+    match wanted {
+        Wanted::Rest(left) if left == UNTOUCHED => Answer::Found(Vec::new(alloc)),
+        _ => Answer::Never,
+    }
+}
+
 /// What a search through at most `states` states of the board's line at index `place` says of what
-/// is wanted. A line that the layout refuses has no history. The only error is `NoMemory`.
+/// is wanted. The only error is `NoMemory`.
 pub(crate) fn answer_at(
     alloc: Global,
     board: &Board,
@@ -28,7 +47,7 @@ pub(crate) fn answer_at(
 {
     let (_, layout) = lay(alloc, board)?;
     let Some(Placement::Mapped { .. }) = layout.get(place) else {
-        return Ok(Answer::Never);
+        return Ok(answer_of_refused(alloc, wanted));
     };
     let defs = board.line_defs(alloc)?;
     shortest(alloc, &defs[place], wanted, states as usize)

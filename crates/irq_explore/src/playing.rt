@@ -1,5 +1,6 @@
 //! A play of the board that comes to a log that was found.
 ghost use Rattle.std.specs.Prelude.{◌≡◌, [], false, true};
+ghost use Rattle.callbacks.specs.Heard.{Heard};
 ghost use Rattle.explore_words.specs.Words.{IsCount};
 ghost use Rattle.irq_explore.specs.Answered.{Answered};
 ghost use Rattle.irq_explore.specs.Explored.{is_printed, is_printing, is_write_fault};
@@ -13,7 +14,7 @@ use crate::exploring::{ExploreEnd, end_of};
 use crate::present::has_named;
 use crate::printing::print_answer;
 use board_def::Board;
-use callbacks::{Callbacks, Handler};
+use callbacks::Handler;
 use explore_picks::{PlayToEnd, play_to_and_print};
 use irq_base::{LineNo, NoMemory};
 use irq_io::{Sink, WriteEnd};
@@ -25,7 +26,8 @@ use std::alloc::Global;
 
 /// Looks for a shortest log of the board's line that is as wanted, as `explore_row` does, and
 /// prints a play of the board whose part on the line it is, and the picks that make the play. The
-/// maker makes the lines that are played, with these handlers.
+/// maker makes the lines that are played; these handlers are called for the runs that the play
+/// ends.
 pub fn explore_play<M: MakesDomainLine, H: Handler, O: Sink>(
     alloc: Global,
     board: &Board,
@@ -33,11 +35,12 @@ pub fn explore_play<M: MakesDomainLine, H: Handler, O: Sink>(
     line: LineNo,
     wanted: Wanted,
     maker: &M,
-    handlers: &Callbacks<H>,
+    handlers: &mut H,
     out: &mut O,
 ) -> ExploreEnd
     requires { IsCount states }
-    ensures explores { ExploresPlay states board.now line wanted (O.written out.old)
+    ensures explores { ExploresPlay states board.now line wanted
+        (λ runs. Heard H.hears runs handlers.old handlers.new) (O.written out.old)
         (O.written out.new) result }
     ensures emptied { is_printed result ≡ true → O.kept out.new ≡ [] }
     ensures write_fault { Counts (O.faults out.old) (O.faults out.new) (is_write_fault result) }
@@ -68,13 +71,14 @@ fn say_play<M: MakesDomainLine, H: Handler, O: Sink>(
     wanted: Wanted,
     answer: &Answer,
     maker: &M,
-    handlers: &Callbacks<H>,
+    handlers: &mut H,
     out: &mut O,
 ) -> ExploreEnd
     requires there { has_all board.now line wanted ≡ true }
     requires answered { Answered states board.now line wanted answer.now }
     requires rows { IsPrintableAnswer answer.now }
-    ensures explores { ExploresPlay states board.now line wanted (O.written out.old)
+    ensures explores { ExploresPlay states board.now line wanted
+        (λ runs. Heard H.hears runs handlers.old handlers.new) (O.written out.old)
         (O.written out.new) result }
     ensures emptied { is_printed result ≡ true → O.kept out.new ≡ [] }
     ensures write_fault { Counts (O.faults out.old) (O.faults out.new) (is_write_fault result) }

@@ -1,7 +1,8 @@
 //! Two lines that take the same steps.
-use callbacks::{ByKind, Callbacks};
-use irq_base::{Actor, Entry, NoMemory};
-use irq_line::{IrqLine, StepRefused, step_heard};
+use callbacks::ByKind;
+use irq_base::{Actor, NoMemory};
+use irq_line::{IrqLine, StepRefused, Stepped};
+use std::convert::Infallible;
 
 /// What a step of both lines did.
 #[derive(Clone, Copy, PartialEq, Eq)]
@@ -23,9 +24,8 @@ pub(crate) struct Pair<L: Drop, M: Drop> {
 impl<L: IrqLine, M: IrqLine> Pair<L, M> {
     /// Makes the step of the actor on both.
     pub(crate) fn step(&mut self, actor: Actor) -> Result<Both, NoMemory> {
-        let handlers = Callbacks::new(ByKind);
-        let stepped = step_heard(&mut self.line, actor, &handlers);
-        let other = step_heard(&mut self.other, actor, &handlers);
+        let stepped = self.line.step(actor, &mut ByKind);
+        let other = self.other.step(actor, &mut ByKind);
         if is_want(&stepped) || is_want(&other) {
             return Err(NoMemory);
         }
@@ -33,7 +33,7 @@ impl<L: IrqLine, M: IrqLine> Pair<L, M> {
             return Ok(Both::Differ);
         }
         match stepped {
-            Ok(Some(_)) => Ok(Both::Moved),
+            Ok(Stepped::Added(_)) => Ok(Both::Moved),
             _ => Ok(Both::Rested),
         }
     }
@@ -59,6 +59,6 @@ impl<L: IrqLine, M: IrqLine> Pair<L, M> {
     }
 }
 
-fn is_want(stepped: &Result<Option<Entry>, StepRefused>) -> bool {
+fn is_want(stepped: &Result<Stepped<Infallible>, StepRefused>) -> bool {
     *stepped == Err(StepRefused::NoMemory)
 }

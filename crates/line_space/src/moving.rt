@@ -89,7 +89,7 @@ pub(crate) fn push_due(
         ≡ filter (is_due_in def.now scratch.now.state.state scratch.now.scripts) asked.now) }
 {
     for actor in asked {
-        if due_by(def, &scratch.state, &scratch.scripts, *actor).is_some() {
+        if due_by(&scratch.state, &scratch.scripts, *actor).is_some() {
             due.push(*actor)?;
         }
     }

@@ -23,7 +23,8 @@ use Rattle.state_search.specs.Paths.{IsPath, AreSteps}
 use Rattle.line_survey.proofs.Rests.{settled_none, none_settled}
 use Rattle.line_survey.specs.Kept.{same_entry}
 use Rattle.line_survey.specs.Rests.{Leaves}
-use Rattle.line_survey.specs.Wanting.{IsMetBy, WantedSeen}
+use Rattle.line_survey.specs.Answers.{IsMetBy}
+use Rattle.line_survey.specs.Wanting.{WantedSeen}
 
 -- ---- what was found has the entry
 

@@ -21,10 +21,10 @@ use Rattle.state_search.specs.Paths.{IsPath, IsBelow, IsNearest, LeavesOut, None
 use Rattle.state_search.specs.Seen.{SearchSeen, cut_of}
 use Rattle.line_survey.proofs.Lists.{no_items}
 use Rattle.line_survey.proofs.Rests.{settled_none}
-use Rattle.line_survey.specs.Answers.{IsAnswer, known_within}
+use Rattle.line_survey.specs.Answers.{IsAnswer, IsMetBy, known_within}
 use Rattle.line_survey.specs.Searched.{IsSearchOf}
 use Rattle.line_survey.specs.Seen.{LineSearchSeen}
-use Rattle.line_survey.specs.Wanting.{IsMetBy, unmet_answer, whole_past}
+use Rattle.line_survey.specs.Wanting.{unmet_answer, whole_past}
 use Rattle.line_survey.specs.declared.answer.Answer.TheVariants as answers
 
 module _ (def : LineDef) where
@@ -121,7 +121,7 @@ module _ (def : LineDef) where
               cut = if_some_from (λ d. length s.paths ≡ most) (cut_of s) (λ d is. all);
               left_out = left_out;
             } in
-            (is_not_within, search, of, sym (ap (option_map (known_within w)) cut))
+            (is_not_within, search, of, none.passed, sym (ap (option_map (known_within w)) cut))
 
       -- what is said where it isn't met
       pub unmet_said : (most : ℕ) → IsValid def → length s.paths ≤ most → LeavesOut (IsDue def) (node def) s.paths s.looked

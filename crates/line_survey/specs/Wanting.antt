@@ -2,13 +2,11 @@
 use Rattle.std.specs.Prelude.{ℕ, Option, None, Some, List, ◌∷◌}
 use Rattle.irq_base.specs.declared.entries.Entry.{Entry}
 use Rattle.irq_base.specs.declared.lines.LineDef.{LineDef}
-use Rattle.irq_model.specs.Legal.{IsDue}
 use Rattle.irq_model.specs.Valid.{IsValid}
 use Rattle.line_wanted.specs.declared.wanted.Wanted.{Wanted}
 use Rattle.line_wanted.specs.declared.wanted.Wanted.TheVariants as wants
 use Rattle.line_survey.specs.Answers.{known_within}
 use Rattle.line_survey.specs.Kept.{IsReader}
-use Rattle.line_survey.specs.Rests.{Leaves}
 use Rattle.line_survey.specs.declared.answer.Answer.{Answer}
 use Rattle.line_survey.specs.declared.answer.Answer.TheVariants as answers
 use Rattle.line_survey.specs.declared.wanting.WantedSpace.TheInside.{Inside}
@@ -16,11 +14,6 @@ use Rattle.line_survey.specs.declared.wanting.WantedSpace.TheInside.{Inside}
 pub record WantedSeen : Type 0 where
   pub def : LineDef
   pub wanted : Wanted
-
--- the row is due after the past; or nothing can happen after it, and it leaves the line so
-abbrev pub IsMetBy : LineDef → Wanted → List Entry → Type 0
-IsMetBy def (wants.Row e) past = IsDue def e past
-IsMetBy def (wants.Rest left) past = Leaves def left past
 
 -- the history as wanted that comes of the past by which it is met
 abbrev pub whole_past : Wanted → List Entry → List Entry

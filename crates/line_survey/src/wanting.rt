@@ -2,7 +2,7 @@
 ghost use Rattle.std.specs.Prelude.{◌≡◌, true, false, IfOk, map, Contains};
 ghost use Rattle.irq_model.specs.Legal.{IsDue};
 ghost use Rattle.irq_model.specs.Valid.{IsValid};
-ghost use Rattle.line_survey.specs.Wanting.{IsMetBy};
+ghost use Rattle.line_survey.specs.Answers.{IsMetBy};
 ghost use Rattle.line_words.specs.Node.{node};
 
 use crate::reader::Reader;

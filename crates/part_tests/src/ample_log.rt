@@ -2,6 +2,7 @@
 ghost use Rattle.std.specs.Prelude.{◌≡◌, IfOk};
 ghost use Rattle.part_tests.specs.AskedLine.{asked_line};
 
+use callbacks::ByKind;
 use irq_base::{
     Actor, Call, CallList, CpuNo, DevNo, DeviceDef, DeviceList, DriverEntry, DriverNo, Entry,
     FlowKind, Kind, LineDef, LineNo, NoMemory, Trigger,
@@ -55,7 +56,7 @@ fn asked(alloc: Global) -> Result<LineDef, NoMemory>
 fn a_step_comes(rt: HostRuntime) -> Result<(), Fail> {
     let def = asked(rt.alloc())?;
     let mut line = PlainLine::new(rt.alloc(), &def)?;
-    let first = step_within_bound(&mut line, Actor::Driver(DRIVER), None)?;
+    let first = step_within_bound(&mut line, Actor::Driver(DRIVER), &mut ByKind)?;
     assert!(&rt;
         first
             == Stepped::Added(Entry::Driver(
@@ -66,7 +67,7 @@ fn a_step_comes(rt: HostRuntime) -> Result<(), Fail> {
                 }
             ))
     );
-    let next = step_within_bound(&mut line, Actor::Cpu(CpuNo(0)), None)?;
+    let next = step_within_bound(&mut line, Actor::Cpu(CpuNo(0)), &mut ByKind)?;
     assert!(&rt; next == Stepped::NotYet);
     Ok(())
 }

@@ -1,8 +1,8 @@
-//! A handler in a box is called once for each `Callbacks::call`.
+//! A function in a box is called once for each answer, at hand and shared.
 ghost use Rattle.std.specs.Prelude.{◌≡◌};
-ghost use Rattle.irq_base.specs.Handlers.{answer_of};
+ghost use Rattle.callbacks.specs.Seen.{answer_to};
 
-use callbacks::{Boxed, ByKind, Callbacks, Handler};
+use callbacks::{Boxed, ByKind, Handler, Said, SharedHandler};
 use irq_base::{Answer, DevNo, DeviceDef, Kind, LineNo, Part, Run};
 use std::alloc::{AllocError, Global};
 use std::sync::Arc;
@@ -22,25 +22,26 @@ const RUN: Run = Run {
 
 /// Handlers that count how often they are called.
 fn counting(alloc: Global, calls: Arc<AtomicU64>) -> Result<Boxed, AllocError> {
-    let handler = Box::new(
+    let handling = Box::new(
         alloc,
-        move |def: DeviceDef, part: Part, unserved: u32| -> Answer
-            ensures { result ≡ answer_of def.kind part unserved }
+        move |run: Run| -> Answer
+            ensures { result ≡ answer_to run }
         {
             calls.fetch_add(1, Ordering::SeqCst);
-            ByKind.answer(def, part, unserved)
+            SharedHandler::answer(&ByKind, run)
         },
     )?;
-    Ok(Boxed::new(handler))
+    Ok(Boxed::new(handling))
 }
 
 #[test]
-fn each_call_calls_the_kept_handler_once(rt: HostRuntime) -> Result<(), Fail> {
+fn each_answer_calls_the_kept_function_once(rt: HostRuntime) -> Result<(), Fail> {
     let calls = Arc::new(rt.alloc(), AtomicU64::new(0))?;
-    let handlers = Callbacks::new(counting(rt.alloc(), Arc::try_clone(&calls)?)?);
+    let mut handlers = counting(rt.alloc(), Arc::try_clone(&calls)?)?;
     for made in 0..5 {
-        assert_eq!(rt; calls.load(Ordering::SeqCst), made);
-        assert!(rt; handlers.call(RUN).answer() == Answer::Wake);
+        assert_eq!(rt; calls.load(Ordering::SeqCst), 2 * made);
+        assert!(rt; Handler::answer(&mut handlers, RUN) == Answer::Wake);
+        assert!(rt; Said::of(&handlers, RUN).answer() == Answer::Wake);
     }
     Ok(())
 }

@@ -30,10 +30,12 @@ loop-made-preserved-then-eq g c =
       board = moves.board ∙ c.loop-made.invariant.board;
       layout = moves.layout ∙ c.loop-made.invariant.layout;
       is_board = c.loop-made.invariant.is_board;
-      made = made_here old new c.loop-made.picks.items c.push.new.self.items mover c.args.line (take c.loop-made.made c.args.wanted.now)
-          c.in_default-Moved.of c.in_default-Moved.entry c.loop-made.invariant.made moves c.in_ok-push-in_default-Moved.ensures.items same
+      made = made_here old new c.loop-made.picks.items mover c.args.line (take c.loop-made.made c.args.wanted.now)
+          c.in_default-Moved.of c.in_default-Moved.entry c.loop-made.invariant.made moves c.push.new.self.items
+          c.in_ok-push-in_default-Moved.ensures.items same
           (take (c.loop-made.made + 1) c.args.wanted.now)
           (one_more c.args.wanted.now c.loop-made.made c.in_default-Moved.entry (c.is_at.ensures.0 c.if-not-is_at.false));
+      heard = (heard_turn (goal.at.loop-made-preserved-then-eq g c).After-turn_of).runs;
       few = omega (arith, count, c.len.ensures, c.if-len-ge-PICKS.false);
       within = omega (arith, c.loop-made-test.true);
       alone = λ alone. omega (arith, count, c.loop-made.invariant.alone alone);
@@ -53,8 +55,9 @@ loop-made-preserved g c =
       board = moves.board ∙ c.loop-made.invariant.board;
       layout = moves.layout ∙ c.loop-made.invariant.layout;
       is_board = c.loop-made.invariant.is_board;
-      made = made_elsewhere old new c.loop-made.picks.items c.push.new.self.items mover c.args.line (take c.loop-made.made c.args.wanted.now)
-          c.in_default-Moved.of c.in_default-Moved.entry c.loop-made.invariant.made moves c.in_ok-push-in_default-Moved.ensures.items other;
+      made = made_elsewhere old new c.loop-made.picks.items mover c.args.line (take c.loop-made.made c.args.wanted.now)
+          c.in_default-Moved.of c.in_default-Moved.entry c.loop-made.invariant.made moves c.push.new.self.items
+          c.in_ok-push-in_default-Moved.ensures.items other;
       few = omega (arith, count, c.len.ensures, c.if-len-ge-PICKS.false);
       within = c.loop-made.invariant.within;
       alone = λ alone. absurd (

@@ -1,5 +1,7 @@
-use Rattle.std.proofs.Common.{length, ◌-◌, ◌≡◌, ◌≤◌, take}
+use Rattle.std.proofs.Common.{length, ◌-◌, ◌≡◌, ◌≤◌, reverse, take}
+use Rattle.board_core.specs.Runs.{runs_of}
 use Rattle.board_def.specs.Rules.{IsBoard}
+use Rattle.callbacks.specs.Heard.{Heard}
 use Rattle.explore_play.specs.Made.{IsAlone, IsMade}
 use Rattle.explore_play.proofs.playing.play_to.Given as goal
 
@@ -9,6 +11,7 @@ invariant-loop-made g l = record {
   layout : l.system.layout ≡ l.fn.system.layout;
   is_board : IsBoard l.fn.system.board;
   made : IsMade l.system l.picks.items l.line (take l.made l.wanted);
+  heard : Heard g.H.Handler.hears (runs_of l.system.board (reverse l.system.log)) l.fn.handlers l.handlers;
   few : length l.picks.items ≤ 65536;
   within : l.made ≤ length l.wanted;
   alone : IsAlone l.fn.system.board l.line l.wanted → length l.picks.items ≡ l.made;

@@ -4,7 +4,8 @@ use Rattle.irq_model.specs.Legal.{IsDue}
 use Rattle.line_words.specs.Node.{node}
 use Rattle.state_search.specs.Paths.{Searches, LeavesOut, IsNearest, NoneWanted}
 use Rattle.state_search.specs.Seen.{cut_of}
-use Rattle.line_survey.specs.Wanting.{WantedSeen, IsMetBy}
+use Rattle.line_survey.specs.Answers.{IsMetBy}
+use Rattle.line_survey.specs.Wanting.{WantedSeen}
 use Rattle.line_survey.proofs.seeking.seek.Goals as goal
 
 pub returns-clause-paths : goal.returns-clause-paths
