@@ -1,5 +1,5 @@
-//! Tests of who calls the kept handlers, and how often: in plays, where memory is refused, and in
-//! the threads of a run. No contract says that a kept handler is called.
+//! Tests of how often handlers are called: in plays, where memory is refused, and in the threads of
+//! a run. That each run of a play is one call its contract says; of a run's threads none says it.
 #![tactic(auto)]
 
 #[cfg(test)]

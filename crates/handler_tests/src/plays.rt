@@ -1,17 +1,15 @@
 //! A play calls the caller's handlers, once for each run; and what isn't a step is refused memory
 //! before the first step, so none was called: `rt try --test --fail-alloc N` refuses the Nth.
-ghost use Rattle.std.specs.Prelude.{◌≡◌};
-ghost use Rattle.irq_base.specs.Handlers.{answer_of};
+ghost use Rattle.std.specs.Prelude.{◌≡◌, ◌+◌, ◌-◌, ◌^◌, min};
+ghost use Rattle.handler_tests.specs.Counts.{count_of};
 
 use board_lines::MakesChainLine;
 use board_text::read_board;
-use callbacks::{Boxed, ByKind, Callbacks, Handler};
-use irq_base::{Answer, DeviceDef, NoMemory, Part};
+use callbacks::{ByKind, Handler};
+use irq_base::{Answer, NoMemory, Part, Run};
 use irq_io::MemSink;
 use irq_play::{PlayedEnd, WantedFor, play_and_print};
-use std::alloc::{AllocError, Global};
-use std::sync::Arc;
-use std::sync::atomic::{AtomicU64, Ordering};
+use std::alloc::Global;
 use std::test::Fail;
 
 /// The device's handler is called once, and its thread's function once. There are no picks, so the
@@ -36,35 +34,43 @@ ask 1
 picks d1*2 c0*3 t1*2
 ";
 
-/// What the calls of a play add up to: one of the handler, ten for one of the thread's function.
+/// What the calls of a play add up to.
 const ALL: u64 = 11;
 
+/// What a call of the handler counts, and what one of the thread's function.
+fn count_of(part: Part) -> u64
+    ensures { result ≡ count_of part }
+{
+    match part {
+        Part::Primary => 1,
+        Part::Thread => 10,
+    }
+}
+
 /// Handlers that answer by their devices' kinds, and add up their calls.
-fn counting(alloc: Global, calls: &Arc<AtomicU64>) -> Result<Callbacks<Boxed>, AllocError> {
-    let calls = Arc::try_clone(calls)?;
-    let handler = Box::new(
-        alloc,
-        move |def: DeviceDef, part: Part, unserved: u32| -> Answer
-            ensures { result ≡ answer_of def.kind part unserved }
-        {
-            let count = if part == Part::Primary { 1 } else { 10 };
-            calls.fetch_add(count, Ordering::SeqCst);
-            ByKind.answer(def, part, unserved)
-        },
-    )?;
-    Ok(Callbacks::new(Boxed::new(handler)))
+#[derive(Clone, Copy)]
+struct Counting {
+    calls: u64,
+}
+
+impl Handler for Counting {
+    ghost hears = { λ old run new. new.calls ≡ min (old.calls + count_of run.part) (2 ^ 64 - 1) };
+
+    fn answer(&mut self, run: Run) -> Answer {
+        self.calls = self.calls.saturating_add(count_of(run.part));
+        ByKind.answer(run)
+    }
 }
 
 /// Whether the calls in a play of the board add up to what its end says of them.
 fn adds_up(alloc: Global, text: &[u8]) -> Result<bool, NoMemory> {
-    let calls = Arc::new(alloc, AtomicU64::new(0))?;
-    let handlers = counting(alloc, &calls)?;
+    let mut handlers = Counting { calls: 0 };
     let Ok(board) = read_board(alloc, text) else {
         return Err(NoMemory);
     };
     let mut out = MemSink::new(alloc, &[], 1000)?;
-    let played = play_and_print(alloc, &board, false, &MakesChainLine, &handlers, &mut out);
-    let all = calls.load(Ordering::SeqCst);
+    let played = play_and_print(alloc, &board, false, &MakesChainLine, &mut handlers, &mut out);
+    let all = handlers.calls;
     Ok(match played.end {
         PlayedEnd::Done => all == ALL,
         PlayedEnd::NoMemory(WantedFor::Making) => all == 0,

@@ -5,8 +5,8 @@
 //! worker that never looks again, nobody would serve it.
 use board_lines::MakesChainLine;
 use board_text::read_board;
-use callbacks::{ByKind, Callbacks, Handler};
-use irq_base::{Actor, Answer, CpuNo, DevNo, DeviceDef, Part, Reports};
+use callbacks::{ByKind, SharedHandler};
+use irq_base::{Actor, Answer, CpuNo, DevNo, Part, Reports, Run};
 use irq_io::MemSink;
 use irq_run::{RunEnd, run_and_print};
 use std::hint::spin_loop;
@@ -132,14 +132,16 @@ struct Tells<'p> {
     progress: &'p Progress,
 }
 
-impl Handler for Tells<'_> {
-    fn answer(&self, def: DeviceDef, part: Part, unserved: u32) -> Answer {
-        let calls = match part {
+impl SharedHandler for Tells<'_> {
+    ghost gave = { λ handlers run answer. Unit {0} };
+
+    fn answer(&self, run: Run) -> Answer {
+        let calls = match run.part {
             Part::Primary => &self.progress.called,
             Part::Thread => &self.progress.served,
         };
         calls.fetch_add(1, Ordering::SeqCst);
-        ByKind.answer(def, part, unserved)
+        ByKind.answer(run)
     }
 }
 
@@ -170,9 +172,9 @@ fn each_worker_makes_its_steps(rt: HostRuntime) -> Result<(), Fail> {
         panic!(rt; "the board has a fault")
     };
     let progress = Progress::new();
-    let handlers = Callbacks::new(Tells {
+    let handlers = Tells {
         progress: &progress,
-    });
+    };
     let mut out = MemSink::new(rt.alloc(), &[], 1000)?;
     let ran = run_and_print(
         &rt,

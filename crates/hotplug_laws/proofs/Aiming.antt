@@ -36,8 +36,8 @@ use Rattle.hotplug_laws.proofs.Settled.{first_all, settled_all}
 
 -- the line's target after a row, if it was this
 abbrev pub target_by : LineNo → Option CpuNo → FleetRow → Option CpuNo
-target_by line t (rows.Placed l v queue true) = cond (l.0 == line.0) (Some v.cpu) t
-target_by line t (rows.Placed l v queue false) = t
+target_by line t (rows.Placed l v queues queue true) = cond (l.0 == line.0) (Some v.cpu) t
+target_by line t (rows.Placed l v queues queue false) = t
 target_by line t _ = t
 
 -- the line's target after all rows
@@ -49,15 +49,15 @@ pub target_both : (line : LineNo) (t : Option CpuNo) (xs ys : List FleetRow) →
 target_both line t [] ys = refl
 target_both line t (x ∷ xs) ys = target_both line (target_by line t x) xs ys
 
-other_move : (l line : LineNo) (v : Vector) (queue : ℕ) (t : Option CpuNo) (moved : Bool) → (l.0 == line.0) ≡ false
-    → target_by line t (rows.Placed l v queue moved) ≡ t
-other_move l line v queue t true other = ap (λ same. cond same (Some v.cpu) t) other
-other_move l line v queue t false other = refl
+other_move : (l line : LineNo) (v : Vector) (queues queue : ℕ) (t : Option CpuNo) (moved : Bool) → (l.0 == line.0) ≡ false
+    → target_by line t (rows.Placed l v queues queue moved) ≡ t
+other_move l line v queues queue t true other = ap (λ same. cond same (Some v.cpu) t) other
+other_move l line v queues queue t false other = refl
 
 -- a row of another line puts nothing in force
 other_rows : (m : Moving) (x : Berth) (p : Option Vector) (line : LineNo) (t : Option CpuNo) → (x.line.0 == line.0) ≡ false
     → target_after line t (rows_for m x p) ≡ t
-other_rows m x (Some v) line t other = other_move x.line line v (v.cpu.0 % x.queues) t (is_move x.target v.cpu) other
+other_rows m x (Some v) line t other = other_move x.line line v x.queues (v.cpu.0 % x.queues) t (is_move x.target v.cpu) other
 other_rows moving.All x None line t other = refl
 other_rows (moving.From cpu) x None line t other = refl
 
@@ -81,13 +81,13 @@ stays (Some c) cpu none = let named : ℕ → CpuNo = λ n. record { 0 = n } in 
     is true none = refl
     is false none = absurd cc
 
-own_move : (x : Berth) (v : Vector) (queue : ℕ) (moved : Bool) → is_move x.target v.cpu ≡ moved
-    → target_by x.line x.target (rows.Placed x.line v queue moved) ≡ Some v.cpu
-own_move x v queue true is = ap (λ same. cond same (Some v.cpu) x.target) (equals_itself x.line.0)
-own_move x v queue false is = stays x.target v.cpu is
+own_move : (x : Berth) (v : Vector) (queues queue : ℕ) (moved : Bool) → is_move x.target v.cpu ≡ moved
+    → target_by x.line x.target (rows.Placed x.line v queues queue moved) ≡ Some v.cpu
+own_move x v queues queue true is = ap (λ same. cond same (Some v.cpu) x.target) (equals_itself x.line.0)
+own_move x v queues queue false is = stays x.target v.cpu is
 
 own_rows : (m : Moving) (x : Berth) (p : Option Vector) → target_after x.line x.target (rows_for m x p) ≡ (settled p x).target
-own_rows m x (Some v) = own_move x v (v.cpu.0 % x.queues) (is_move x.target v.cpu) refl
+own_rows m x (Some v) = own_move x v x.queues (v.cpu.0 % x.queues) (is_move x.target v.cpu) refl
 own_rows moving.All x None = refl
 own_rows (moving.From cpu) x None = refl
 

@@ -73,8 +73,8 @@ module _ (b : BoardSeen) where
 
   placing : (m : Moving) (x : Berth) (p : Option Vector) → HasQueues x → IsIn p → All (IsPlacing b) (rows_for m x p)
   placing m x (Some v) own inside =
-      all_of (IsPlacing b) (rows.Placed x.line v (v.cpu.0 % x.queues) (is_move x.target v.cpu)) []
-      (inside, ap (λ n. v.cpu.0 % n) own) (λ k d h. absurd (omega arith))
+      all_of (IsPlacing b) (rows.Placed x.line v x.queues (v.cpu.0 % x.queues) (is_move x.target v.cpu)) []
+      (inside, own, ap (λ n. v.cpu.0 % n) own) (λ k d h. absurd (omega arith))
   placing moving.All x None own inside = all_of (IsPlacing b) (rows.Unplaced x.line) [] tt (λ k d h. absurd (omega arith))
   placing (moving.From cpu) x None own inside = λ k d h. absurd (omega arith)
 

@@ -99,18 +99,18 @@ own_then line (m ∷ ms) = by (own_then line ms) (m.line.0 == line.0)
 pub mask_aims : (b : BoardSeen) (line : LineNo) (m : ℕ) (said : List FleetRow) → All (IsPlacing b) said
     → lowest_in b.cpus (last_mask m (calls_on line (moves_of said))) ≡ target_after line (lowest_in b.cpus m) said
 mask_aims b line m [] all = refl
-mask_aims b line m (rows.Placed l v queue true ∷ said) all =
-    by (λ n. mask_aims b line n said (tail_of (IsPlacing b) (rows.Placed l v queue true) said all)) (l.0 == line.0)
+mask_aims b line m (rows.Placed l v queues queue true ∷ said) all =
+    by (λ n. mask_aims b line n said (tail_of (IsPlacing b) (rows.Placed l v queues queue true) said all)) (l.0 == line.0)
   where
     here : lowest_in b.cpus (2 ^ v.cpu.0) ≡ Some v.cpu
-    here = lowest_of_power b.cpus v.cpu.0 (head_of (IsPlacing b) (rows.Placed l v queue true) said all).0
+    here = lowest_of_power b.cpus v.cpu.0 (head_of (IsPlacing b) (rows.Placed l v queues queue true) said all).0
 
     by : ((n : ℕ) → lowest_in b.cpus (last_mask n (calls_on line (moves_of said))) ≡ target_after line (lowest_in b.cpus n) said) → (t : Bool)
         → lowest_in b.cpus (last_mask m (cond t (calls.Affinity (2 ^ v.cpu.0) ∷ calls_on line (moves_of said)) (calls_on line (moves_of said))))
         ≡ target_after line (cond t (Some v.cpu) (lowest_in b.cpus m)) said
     by rest true = rest (2 ^ v.cpu.0) ∙ ap (λ t. target_after line t said) here
     by rest false = rest m
-mask_aims b line m (rows.Placed l v queue false ∷ said) all = mask_aims b line m said (tail_of (IsPlacing b) (rows.Placed l v queue false) said all)
+mask_aims b line m (rows.Placed l v queues queue false ∷ said) all = mask_aims b line m said (tail_of (IsPlacing b) (rows.Placed l v queues queue false) said all)
 mask_aims b line m (row ∷ said) all = mask_aims b line m said (tail_of (IsPlacing b) row said all)
 
 -- ---- no other call moves a line
@@ -164,10 +164,10 @@ module _ (b : BoardSeen) (isb : IsBoard b) (fits : IsForHotplug b) where
   scripted_board k d h = inr (others k d h, no_move k d h)
 
   scripted_move : (row : FleetRow) → IsPlacing b row → All (λ c. IsScripted b.cpus (with_driver (by_last c))) (move_of row)
-  scripted_move (rows.Placed line v queue true) is =
+  scripted_move (rows.Placed line v queues queue true) is =
       all_of (λ c. IsScripted b.cpus (with_driver (by_last c))) (record { line = line; call = calls.Affinity (2 ^ v.cpu.0) }) []
       (inl (same_self_driver last_driver, ap is_some (lowest_of_power b.cpus v.cpu.0 is.0))) (λ k d h. absurd (omega arith))
-  scripted_move (rows.Placed line v queue false) is = λ k d h. absurd (omega arith)
+  scripted_move (rows.Placed line v queues queue false) is = λ k d h. absurd (omega arith)
   scripted_move row is = λ k d h. absurd (omega arith)
 
   scripted_moves : (said : List FleetRow) → All (IsPlacing b) said → All (λ c. IsScripted b.cpus (with_driver (by_last c))) (moves_of said)

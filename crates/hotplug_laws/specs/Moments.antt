@@ -14,11 +14,11 @@ use Rattle.irq_hotplug.specs.declared.rows.FleetRow.TheVariants as rows
 abbrev pub queues_of : BoardSeen → LineNo → ℕ
 queues_of b line = max 1 (length (filter (λ x. x.line.0 == line.0) b.devices))
 
--- what is said of a placing: it names a processor of the machine, and the queue of the line that
--- this processor serves, which is the processor modulo the queues
+-- what is said of a placing: it names a processor of the machine, how many queues the line has, and
+-- the queue that this processor serves, which is the processor modulo the queues
 abbrev pub IsPlacing : BoardSeen → FleetRow → Type 0
-IsPlacing b (rows.Placed line v queue moved) =
-    (v.cpu.0 < b.cpus) × (queue ≡ v.cpu.0 % queues_of b line)
+IsPlacing b (rows.Placed line v queues queue moved) =
+    (v.cpu.0 < b.cpus) × (queues ≡ queues_of b line) × (queue ≡ v.cpu.0 % queues_of b line)
 IsPlacing b _ = Unit {0}
 
 -- The lines have places of their own.
@@ -30,7 +30,7 @@ pub record ArePlaced (b : BoardSeen) (vectors : ℕ) (f : FleetSeen) : Type 0 wh
   pub differ : (v : Vector) → count_by (stands_at v) f.berths ≤ 1
   -- each line that has a vector has one of an online processor
   pub online : All (IsPlaced vectors f.online) f.berths
-  -- each placing was told with its queue
+  -- each placing is said with its line's queues, and with the queue that is served there
   pub queues : All (IsPlacing b) f.said
 
 -- the lines have places of their own at each moment

@@ -20,7 +20,8 @@ ghost use Rattle.hotplug_laws.specs.Aims.{AimsAt};
 ghost use Rattle.hotplug_laws.specs.Moments.{KeepPlaces};
 
 /// At each moment no two lines have the same vector, each that has one has one of an online
-/// processor, and each placing was told with the queue that its processor serves.
+/// processor, and each placing is said with the number of its line's queues and the queue that its
+/// processor serves.
 pub fn keep_places()
     ensures law { (b : BoardSeen) (vectors : ℕ) (es : List Event) → KeepPlaces b vectors es }
 {}

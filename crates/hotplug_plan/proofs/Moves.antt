@@ -1,7 +1,7 @@
 -- The moves that are said.
-use Rattle.std.proofs.Common.{◌≡◌, ℕ, zero, suc, ◌+◌, ◌*◌, ◌<◌, ◌≤◌, ◌==◌, Bool, true, false, ◌||◌, ◌^◌, List, [], ◌∷◌}
-use Rattle.std.proofs.Common.{◌++◌, length, All, refl, subst, arith, eqb-true}
-use Rattle.std.specs.List.{flat_map, list_any}
+use Rattle.std.proofs.Common.{◌≡◌, ℕ, ◌==◌, Bool, true, false, ◌||◌, ◌^◌, List, [], ◌∷◌}
+use Rattle.std.proofs.Common.{All, refl, subst, arith, eqb-true}
+use Rattle.std.specs.List.{list_any}
 use Rattle.std.proofs.lemmas.Bool.{false≢true}
 use Rattle.std.proofs.lemmas.List.Elements.{All-append, All-weaker}
 use Rattle.board_def.proofs.Rising.{head_of, tail_of, all_of}
@@ -9,10 +9,8 @@ use Rattle.board_def.specs.Rules.{has_line}
 use Rattle.board_def.specs.Seen.{BoardSeen}
 use Rattle.board_def.specs.declared.rows.LineRow.{LineRow}
 use Rattle.board_driver.specs.Longer.{IsOfALine}
-use Rattle.board_driver.specs.declared.adding.LineCall.{LineCall}
 use Rattle.irq_base.specs.declared.calls.Call.TheVariants as calls
 use Rattle.irq_base.specs.declared.numbers.LineNo.{LineNo}
-use Rattle.vector_matrix.specs.declared.view.Vector.{Vector}
 use Rattle.irq_hotplug.specs.Kept.{IsSaidOf, has_berth}
 use Rattle.hotplug_plan.specs.Planned.{AreLinesOf, HasCpu, move_of, moves_of}
 use Rattle.irq_hotplug.specs.declared.berths.Berth.{Berth}
@@ -20,7 +18,7 @@ use Rattle.irq_hotplug.specs.declared.rows.FleetRow.{FleetRow}
 use Rattle.irq_hotplug.specs.declared.rows.FleetRow.TheVariants as rows
 
 cpu_of : (berths : List Berth) (row : FleetRow) → IsSaidOf berths row → HasCpu row
-cpu_of berths (rows.Placed line v queue moved) is = is.1
+cpu_of berths (rows.Placed line v queues queue moved) is = is.1
 cpu_of berths (rows.Unplaced line) is = tt
 cpu_of berths (rows.Off cpu answer) is = tt
 cpu_of berths (rows.On cpu answer) is = tt
@@ -44,10 +42,10 @@ line_there b (x ∷ xs) line are has = by (x.line.0 == line.0) refl has
     by false same h rest = rest h
 
 move_ok : (b : BoardSeen) (berths : List Berth) (row : FleetRow) → AreLinesOf b berths → IsSaidOf berths row → All (IsOfALine b) (move_of row)
-move_ok b berths (rows.Placed line v queue true) are is =
+move_ok b berths (rows.Placed line v queues queue true) are is =
     all_of (IsOfALine b) (record { line = line; call = calls.Affinity (2 ^ v.cpu.0) }) []
     (record { line = line_there b berths line are is.0; no_device = refl }) (λ k d h. absurd (omega arith))
-move_ok b berths (rows.Placed line v queue false) are is = λ k d h. absurd (omega arith)
+move_ok b berths (rows.Placed line v queues queue false) are is = λ k d h. absurd (omega arith)
 move_ok b berths (rows.Unplaced line) are is = λ k d h. absurd (omega arith)
 move_ok b berths (rows.Off cpu answer) are is = λ k d h. absurd (omega arith)
 move_ok b berths (rows.On cpu answer) are is = λ k d h. absurd (omega arith)

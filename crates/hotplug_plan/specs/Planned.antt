@@ -1,5 +1,5 @@
 -- Which boards fit, and the board with the moves of its lines.
-use Rattle.std.specs.Prelude.{◌≡◌, ℕ, ◌^◌, ◌<◌, ◌≤◌, Bool, true, false, List, [], ◌∷◌, length, All}
+use Rattle.std.specs.Prelude.{◌≡◌, ◌^◌, ◌<◌, ◌≤◌, Bool, true, false, List, [], ◌∷◌, length, All}
 use Rattle.std.specs.List.{flat_map, list_any}
 use Rattle.irq_base.specs.declared.calls.Call.{Call}
 use Rattle.irq_base.specs.declared.calls.Call.TheVariants as calls
@@ -11,6 +11,8 @@ use Rattle.board_driver.specs.Longer.{last_driver, with_last_driver}
 use Rattle.board_driver.specs.declared.adding.LineCall.{LineCall}
 use Rattle.irq_hotplug.specs.Fleet.{FleetSeen}
 use Rattle.irq_hotplug.specs.declared.berths.Berth.{Berth}
+use Rattle.irq_hotplug.specs.declared.events.Event.{Event}
+use Rattle.irq_hotplug.specs.declared.events.Event.TheVariants as events
 use Rattle.irq_hotplug.specs.declared.rows.FleetRow.{FleetRow}
 use Rattle.irq_hotplug.specs.declared.rows.FleetRow.TheVariants as rows
 
@@ -39,9 +41,9 @@ pub record IsForHotplug (b : BoardSeen) : Type 0 where
 
 -- a placing on another processor than the line's target by then is a move there
 abbrev pub move_of : FleetRow → List LineCall
-move_of (rows.Placed line v queue true) =
+move_of (rows.Placed line v queues queue true) =
     record { line = line; call = calls.Affinity (2 ^ v.cpu.0) } ∷ []
-move_of (rows.Placed line v queue false) = []
+move_of (rows.Placed line v queues queue false) = []
 move_of _ = []
 
 abbrev pub moves_of : List FleetRow → List LineCall
@@ -51,9 +53,14 @@ moves_of said = flat_map move_of said
 abbrev pub planned : BoardSeen → FleetSeen → BoardSeen
 planned b f = with_last_driver b (moves_of f.said)
 
+-- a processor is to go offline
+abbrev pub is_off : Event → Bool
+is_off (events.Off cpu) = true
+is_off (events.On cpu) = false
+
 -- a row of a placing names a processor that a machine may have
 abbrev pub HasCpu : FleetRow → Type 0
-HasCpu (rows.Placed line v queue moved) = v.cpu.0 < 32
+HasCpu (rows.Placed line v queues queue moved) = v.cpu.0 < 32
 HasCpu _ = Unit {0}
 
 -- each of the lines is the board's

@@ -1,2 +1,3 @@
 mod OfBoard
+mod Placings
 mod Finished

@@ -1,17 +1,24 @@
 -- What a board's play on processors that go offline and come online answers, and what is printed.
 -- The events come first, and then the board with the moves of its lines is played.
-use Rattle.std.specs.Prelude.{◌≡◌, ℕ, Option, List}
+use Rattle.std.specs.Prelude.{◌≡◌, ℕ, ◌⊎◌, Option, List, [], ◌++◌, reverse}
+use Rattle.irq_base.specs.declared.devices.Run.{Run}
+use Rattle.irq_base.specs.declared.entries.Entry.{Entry}
 use Rattle.irq_base.specs.declared.numbers.LineNo.{LineNo}
 use Rattle.irq_base.specs.declared.reporting.LineReport.{LineReport}
+use Rattle.board_core.specs.Runs.{runs_of}
 use Rattle.board_core.specs.Seen.{SystemSeen}
 use Rattle.board_core.specs.declared.turns.PlayEnd.{PlayEnd}
 use Rattle.board_core.specs.declared.turns.PlayEnd.TheVariants as plays
 use Rattle.board_def.specs.Rules.{IsBoard}
 use Rattle.board_def.specs.Seen.{BoardSeen}
 use Rattle.board_play.specs.Lines.{Move, part}
-use Rattle.irq_play.specs.Headline.{CutShort, FullLog, Headline}
+use Rattle.irq_play.specs.Headline.{CutShort, FullLog, Headline, RefusedStep}
 use Rattle.irq_play.specs.declared.ending.PlayedEnd.{PlayedEnd}
+use Rattle.irq_play.specs.declared.ending.PlayedEnd.TheVariants as ends
+use Rattle.irq_play.specs.declared.ending.WantedFor.TheVariants as wants
+use Rattle.notifiers.specs.Told.{Notice}
 use Rattle.irq_hotplug.specs.Fleet.{FleetSeen, fleet_after}
+use Rattle.irq_hotplug.specs.Notices.{notices_of}
 use Rattle.irq_hotplug.specs.declared.events.Event.{Event}
 use Rattle.hotplug_plan.specs.Planned.{IsForHotplug, planned}
 use Rattle.hotplug_laws.specs.Aims.{AimEach}
@@ -30,7 +37,8 @@ pub record HotplugHeadline (b : BoardSeen) (vectors : ℕ) (es : List Event) (mo
   pub headline : Headline (planned_after b vectors es) moves reports
   -- at each moment the lines have places of their own, on online processors
   pub places : KeepPlaces b vectors es
-  -- the interrupts of each placed line go where it is placed at last
+  -- each placed line is aimed at last where it is placed, and each take after its last move is
+  -- there; in a play its moves come last, so none comes after them
   pub aims : AimEach b (fleet_after b vectors es) (λ line. part line moves)
 
 -- the planned board was played until a line's history had the greatest length
@@ -55,10 +63,40 @@ HotplugHandsOut b vectors es moves plays.NoMemory reports = HotplugCut b vectors
 
 -- What the play of these events answers and prints, by how it ended; the number is that of each
 -- processor's vectors. What was said of the lines is printed between the layout and the play.
-abbrev pub HotplugsBoard : BoardSeen → ℕ → List Event → List LineReport → Option (List ℕ)
-    → Option (List ℕ) → PlayedEnd → Type 0
-HotplugsBoard b vectors es = AnswersOfSome (hotplug_text b (fleet_after b vectors es).said)
-    (HotplugHandsOut b vectors es)
+-- `heard` says of runs that handlers were called for these.
+abbrev pub PlaysPlan : BoardSeen → ℕ → List Event → (List Run → Type 0) → List LineReport
+    → Option (List ℕ) → Option (List ℕ) → PlayedEnd → Type 0
+PlaysPlan b vectors es heard = AnswersOfSome (hotplug_text b (fleet_after b vectors es).said)
+    (HotplugHandsOut b vectors es) (λ moves. runs_of (planned_after b vectors es) (reverse moves))
+    heard
+
+-- the placings of the lines, at first and at these events, in the order of their rows
+abbrev pub placings_after : BoardSeen → ℕ → List Event → List Notice
+placings_after b vectors es = notices_of (fleet_after b vectors es).said
+
+-- The placings at first were told, and those at a beginning of the events.
+pub record TellsUpTo (told : List Notice → Type 0) (b : BoardSeen) (vectors : ℕ) (es : List Event)
+    : Type 0 where
+  pub taken : List Event
+  pub left : List Event
+  pub parts : es ≡ taken ++ left
+  pub placings : told (placings_after b vectors taken)
+
+-- Which placings were told, by how the play ended: all of them. If memory was refused before the
+-- play, those up to some event, or none. `told` says of placings that notifiers were told of
+-- these, in this order, and of no other.
+abbrev pub TellsPlacings : (List Notice → Type 0) → BoardSeen → ℕ → List Event → PlayedEnd → Type 0
+TellsPlacings told b vectors es (ends.NoMemory wants.Making) =
+    TellsUpTo told b vectors es ⊎ told []
+TellsPlacings told b vectors es end = told (placings_after b vectors es)
+
+-- what the play of these events comes to: what it answers and prints, for which runs handlers were
+-- called, and of which placings notifiers were told
+pub record HotplugsBoard (b : BoardSeen) (vectors : ℕ) (es : List Event)
+    (heard : List Run → Type 0) (told : List Notice → Type 0) (reports : List LineReport)
+    (before now : Option (List ℕ)) (end : PlayedEnd) : Type 0 where
+  pub plays : PlaysPlan b vectors es heard reports before now end
+  pub placings : TellsPlacings told b vectors es end
 
 -- these lines, and this longer board, come of the board and the events
 pub record IsPlanOf (b : BoardSeen) (vectors : ℕ) (es : List Event) (f : FleetSeen)
@@ -75,6 +113,14 @@ pub record PlugPlaySeen : Type 0 where
   pub board : BoardSeen
   pub system : SystemSeen
   pub end : PlayEnd
+
+-- if a step was refused memory, which step it was; `may_want` says for which entry that is due a
+-- line may want memory though there is room
+abbrev pub HandsOutStep : (Option Entry → Type 0) → BoardSeen → List Move → PlayEnd
+    → List LineReport → Type 0
+HandsOutStep may_want longer moves plays.NoMemory reports =
+    RefusedStep may_want longer moves reports
+HandsOutStep may_want longer moves end reports = Unit {0}
 
 -- what the reports hand out, whichever board and events it is of
 abbrev pub HandsOutPlan : FleetSeen → BoardSeen → List Move → PlayEnd → List LineReport → Type 0

@@ -20,6 +20,7 @@ pub(crate) struct PlugPlay<'p, L: IrqLine> {
 }
 
 impl<'p, L: IrqLine> Model for PlugPlay<'p, L> {
+    ghost use Rattle.board_core.specs.Wanted.{PlayWants};
     ghost use Rattle.irq_play.specs.Played.{IsPlayed};
     ghost use Rattle.hotplug_play.specs.Played.{PlugPlaySeen};
 
@@ -32,13 +33,14 @@ impl<'p, L: IrqLine> Model for PlugPlay<'p, L> {
       end = p.end;
     } };
 
-    ghost invariant = { λ p. IsPlayed p.plan.now.board p.system p.end };
+    ghost invariant = { λ p. IsPlayed p.plan.now.board p.system p.end
+        × PlayWants L.may_want p.system p.plan.now.board.picks p.end };
 }
 
 impl<'p, L: IrqLine> EndedPlay for PlugPlay<'p, L> {
     ghost use Rattle.std.specs.Prelude.{◌++◌};
     ghost use Rattle.irq_play.specs.Report.{moves_text};
-    ghost use Rattle.hotplug_play.specs.Played.{HandsOutPlan};
+    ghost use Rattle.hotplug_play.specs.Played.{HandsOutPlan, HandsOutStep};
     ghost use Rattle.hotplug_play.specs.Texts.{fleet_text};
 
     ghost board_of = { λ p. p.board };
@@ -47,7 +49,8 @@ impl<'p, L: IrqLine> EndedPlay for PlugPlay<'p, L> {
 
     ghost text = { λ p. fleet_text p.fleet.said ++ moves_text p.system.log };
 
-    ghost hands_out = { λ p. HandsOutPlan p.fleet p.board p.system.log };
+    ghost hands_out = { λ p end reports. HandsOutPlan p.fleet p.board p.system.log end reports
+        × HandsOutStep L.may_want p.board p.system.log end reports };
 
     fn end(&self) -> PlayEnd {
         self.end

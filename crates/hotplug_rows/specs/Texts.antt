@@ -23,7 +23,7 @@ on_text ons.IsOnline = codes " refused is-online"
 
 -- `# vector LINE CPU VECTOR QUEUE`, or `# vector LINE none`; `# off N` and `# on N` with the answer
 abbrev pub row_text : FleetRow → List ℕ
-row_text (rows.Placed line v queue moved) =
+row_text (rows.Placed line v queues queue moved) =
     codes "# vector " ++ decimal line.0 ++ codes " " ++ decimal v.cpu.0
     ++ codes " " ++ decimal v.number ++ codes " " ++ decimal queue ++ codes "\n"
 row_text (rows.Unplaced line) = codes "# vector " ++ decimal line.0 ++ codes " none" ++ codes "\n"

@@ -2,7 +2,7 @@
 //! come last.
 use board_lines::MakesChainLine;
 use board_text::read_board;
-use callbacks::{ByKind, Callbacks};
+use callbacks::ByKind;
 use irq_base::{CpuEntry, CpuNo, DriverEntry, Entry, LineNo, NoMemory, Reports};
 use irq_io::MemSink;
 use irq_run::{RunEnd, run_and_print};
@@ -75,7 +75,6 @@ fn run_once<R: Threads + Wait + Sync>(rt: &R, alloc: Global) -> Result<Option<Ta
     let Ok(board) = read_board(alloc, PLANNED) else {
         return Ok(None);
     };
-    let handlers = Callbacks::new(ByKind);
     let mut out = MemSink::new(alloc, &[], 10_000)?;
     let ran = run_and_print(
         rt,
@@ -84,7 +83,7 @@ fn run_once<R: Threads + Wait + Sync>(rt: &R, alloc: Global) -> Result<Option<Ta
         false,
         &MakesChainLine,
         &NoGate,
-        &handlers,
+        &ByKind,
         &mut out,
     );
     if ran.end != RunEnd::Done {

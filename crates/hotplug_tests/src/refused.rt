@@ -4,7 +4,7 @@ use board_layout::lay;
 use board_text::read_board;
 use irq_base::{CpuNo, LineNo, NoMemory};
 use irq_hotplug::{Fleet, OffAnswer, Place};
-use notifiers::{ByProcessor, Notifiers};
+use notifiers::ByProcessor;
 use std::test::Fail;
 
 /// Both lines prefer processor 1; line 1 has three queues.
@@ -32,13 +32,13 @@ fn all_lines_move_or_none(rt: HostRuntime) -> Result<(), Fail> {
     let Ok(board) = read_board(rt.alloc(), BOARD) else {
         panic!(rt; "the board has a fault")
     };
-    let notify = Notifiers::new(ByProcessor);
+    let mut notify = ByProcessor;
     let (_domains, layout) = lay(rt.alloc(), &board)?;
-    let mut fleet = Fleet::new(rt.alloc(), &board, &layout, 3, &notify)?;
+    let mut fleet = Fleet::new(rt.alloc(), &board, &layout, 3, &mut notify)?;
     let (one, two) = (LineNo(1), LineNo(2));
     assert!(rt; fleet.place(one) == at(1, 0, 1) && fleet.place(two) == at(1, 1, 0));
     assert!(rt; fleet.place(LineNo(3)) == None);
-    match fleet.offline(rt.alloc(), CpuNo(1), &notify) {
+    match fleet.offline(rt.alloc(), CpuNo(1), &mut notify) {
         Ok(answer) => {
             assert!(rt; answer == OffAnswer::Ok);
             assert!(rt; fleet.place(one) == at(0, 0, 0) && fleet.place(two) == at(0, 1, 0));

@@ -1,18 +1,15 @@
-//! Each placing is told to the kept notifier, once.
-ghost use Rattle.std.specs.Prelude.{◌≡◌, ◌≤◌, ◌%◌};
+//! Each placing is told to the notifier, once.
+ghost use Rattle.std.specs.Prelude.{◌≡◌, ◌+◌, ◌-◌, ◌*◌, ◌^◌, min};
 
 use board_lines::MakesChainLine;
 use board_text::read_board;
-use callbacks::{ByKind, Callbacks};
+use callbacks::ByKind;
 use hotplug_play::hotplug_and_print;
 use irq_base::{CpuNo, LineNo};
 use irq_hotplug::Event;
 use irq_io::MemSink;
 use irq_play::PlayedEnd;
-use notifiers::{BoxedNotifier, Notifiers};
-use std::alloc::{AllocError, Global};
-use std::sync::Arc;
-use std::sync::atomic::{AtomicU64, Ordering};
+use notifiers::Notifier;
 use std::test::Fail;
 
 /// Line 1 prefers processor 1, and line 2 takes any.
@@ -62,28 +59,28 @@ const PRINTED: &[u8] = b"# irq 1 virq 1 intc:2
 
 /// A notifier that counts how often it is called, and adds up the lines and processors that it is
 /// told of: a call is 1, a line's number counts hundreds, a processor's ten thousands.
-fn counting(alloc: Global, calls: Arc<AtomicU64>) -> Result<BoxedNotifier, AllocError> {
-    let notifying = Box::new(
-        alloc,
-        move |line: LineNo, cpu: CpuNo, queues: u32| -> u32
-            ensures { 1 ≤ queues → result ≡ cpu.0 % queues }
-        {
-            let told = 1 + 100 * u64::from(line.0) + 10_000 * u64::from(cpu.0);
-            calls.fetch_add(told, Ordering::SeqCst);
-            if queues == 0 { 0 } else { cpu.0 % queues }
-        },
-    )?;
-    Ok(BoxedNotifier::new(notifying))
+#[derive(Clone, Copy)]
+struct Counting {
+    told: u64,
+}
+
+impl Notifier for Counting {
+    ghost tells = { λ old line cpu queues new.
+        new.told ≡ min (old.told + (1 + 100 * line.0 + 10000 * cpu.0)) (2 ^ 64 - 1) };
+
+    fn queue(&mut self, line: LineNo, cpu: CpuNo, queues: u32) -> u32 {
+        let told = 1 + 100 * u64::from(line.0) + 10_000 * u64::from(cpu.0);
+        self.told = self.told.saturating_add(told);
+        cpu.0 % queues
+    }
 }
 
 #[test]
 fn each_placing_is_told_once(rt: HostRuntime) -> Result<(), Fail> {
-    let calls = Arc::new(rt.alloc(), AtomicU64::new(0))?;
-    let notify = Notifiers::new(counting(rt.alloc(), Arc::try_clone(&calls)?)?);
+    let mut notify = Counting { told: 0 };
     let Ok(board) = read_board(rt.alloc(), BOARD) else {
         panic!(rt; "the board has a fault")
     };
-    let handlers = Callbacks::new(ByKind);
     let mut out = MemSink::new(rt.alloc(), &[], 1000)?;
     let played = hotplug_and_print(
         rt.alloc(),
@@ -91,8 +88,8 @@ fn each_placing_is_told_once(rt: HostRuntime) -> Result<(), Fail> {
         2,
         &EVENTS,
         &MakesChainLine,
-        &handlers,
-        &notify,
+        &mut ByKind,
+        &mut notify,
         &mut out,
     );
     let Ok(played) = played else {
@@ -100,6 +97,6 @@ fn each_placing_is_told_once(rt: HostRuntime) -> Result<(), Fail> {
     };
     assert!(rt; played.end == PlayedEnd::Done && played.reports.len() == 2);
     assert!(rt; out.written() == PRINTED);
-    assert_eq!(rt; calls.load(Ordering::SeqCst), 30_705);
+    assert_eq!(rt; notify.told, 30_705);
     Ok(())
 }

@@ -6,3 +6,4 @@ pub mod Saying
 pub mod Taking
 pub mod Leaving
 pub mod FirstPlace
+pub mod Telling

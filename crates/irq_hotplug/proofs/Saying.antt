@@ -25,7 +25,7 @@ has_settled line (b ∷ bs) (p ∷ ps) same =
     by None = refl
 
 one_kept : (bs : List Berth) (ps : List (Option Vector)) → length ps ≡ length bs → (row : FleetRow) → IsSaidOf bs row → IsSaidOf (all_settled bs ps) row
-one_kept bs ps same (rows.Placed line v queue moved) is = (has_settled line bs ps same ∙ is.0, is.1)
+one_kept bs ps same (rows.Placed line v queues queue moved) is = (has_settled line bs ps same ∙ is.0, is.1)
 one_kept bs ps same (rows.Unplaced line) is = tt
 one_kept bs ps same (rows.Off cpu answer) is = tt
 one_kept bs ps same (rows.On cpu answer) is = tt

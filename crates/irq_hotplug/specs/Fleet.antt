@@ -1,6 +1,6 @@
 -- All lines, what they are said to do, and what becomes of them as processors go offline and come
 -- online.
-use Rattle.std.specs.Prelude.{ℕ, nat_lt, nat_le, max, Bool, true, false, if◌then◌else◌, Option}
+use Rattle.std.specs.Prelude.{◌≡◌, ℕ, nat_lt, nat_le, max, Bool, true, false, if◌then◌else◌, Option}
 use Rattle.std.specs.Prelude.{Some, None, unwrap_or, option_to_list, List, [], ◌∷◌, ◌++◌, length}
 use Rattle.std.specs.Prelude.{replicate, count_by, slice_set}
 use Rattle.irq_base.specs.declared.lines.LineDef.{LineDef}
@@ -158,6 +158,13 @@ after_event f (events.On cpu) = after_on f cpu
 abbrev pub after_events : FleetSeen → List Event → FleetSeen
 after_events f [] = f
 after_events f (e ∷ es) = after_events (after_event f e) es
+
+-- a beginning of the events was taken
+pub record IsAfterSome (f : FleetSeen) (es : List Event) (now : FleetSeen) : Type 0 where
+  pub taken : List Event
+  pub left : List Event
+  pub parts : es ≡ taken ++ left
+  pub after : now ≡ after_events f taken
 
 abbrev pub fleet_after : BoardSeen → ℕ → List Event → FleetSeen
 fleet_after b vectors es = after_events (first_fleet b vectors) es

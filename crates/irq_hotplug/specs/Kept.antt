@@ -24,7 +24,8 @@ has_berth berths line = list_any (λ b. b.line.0 == line.0) berths
 
 -- what is said of a placing is said of a line that takes part, and of a processor of the machine
 abbrev pub IsSaidOf : List Berth → FleetRow → Type 0
-IsSaidOf berths (rows.Placed line v queue moved) = (has_berth berths line ≡ true) × (v.cpu.0 < 32)
+IsSaidOf berths (rows.Placed line v queues queue moved) =
+    (has_berth berths line ≡ true) × (v.cpu.0 < 32)
 IsSaidOf berths _ = Unit {0}
 
 -- The vectors that are held are those of the lines, and each is one of an online processor's.

@@ -3,6 +3,7 @@ pub mod Held
 pub mod Rooms
 pub mod Berths
 pub mod Rows
+pub mod Notices
 pub mod Fleet
 pub mod Kept
 pub mod First

@@ -13,9 +13,9 @@ abbrev pub is_move : Option CpuNo → CpuNo → Bool
 is_move (Some now) cpu = not (now.0 == cpu.0)
 is_move None cpu = true
 
--- a placed line: its vector and its queue, which is the processor modulo the queues
+-- a placed line: its vector, its queues, and its queue, which is the processor modulo the queues
 abbrev pub placed_row : Berth → Vector → FleetRow
-placed_row b v = rows.Placed b.line v (v.cpu.0 % b.queues) (is_move b.target v.cpu)
+placed_row b v = rows.Placed b.line v b.queues (v.cpu.0 % b.queues) (is_move b.target v.cpu)
 
 -- what is said of the line; of one that isn't placed anew nothing
 abbrev pub rows_for : Moving → Berth → Option Vector → List FleetRow

@@ -1,10 +1,12 @@
 //! Events, one after another.
-ghost use Rattle.std.specs.Prelude.{◌≡◌, OnOk};
-ghost use Rattle.irq_hotplug.specs.Fleet.{after_event, after_events};
+ghost use Rattle.std.specs.Prelude.{◌≡◌, OnErr, OnOk};
+ghost use Rattle.notifiers.specs.Told.{Told};
+ghost use Rattle.irq_hotplug.specs.Fleet.{IsAfterSome, after_event, after_events};
+ghost use Rattle.irq_hotplug.specs.Notices.{TellsMore};
 
 use crate::fleet::Fleet;
 use irq_base::{CpuNo, NoMemory};
-use notifiers::{Notifier, Notifiers};
+use notifiers::Notifier;
 use std::alloc::Global;
 
 /// What happens to a processor.
@@ -16,14 +18,18 @@ pub enum Event {
     On(CpuNo),
 }
 
-/// Takes the event. Adds the rows of its answer and of the lines that move.
+/// Takes the event. Adds the rows of its answer and of the lines that move. If it is refused
+/// memory, nothing changes.
 fn take_event<N: Notifier>(
     alloc: Global,
     fleet: &mut Fleet,
     event: Event,
-    notify: &Notifiers<N>,
+    notify: &mut N,
 ) -> Result<(), NoMemory>
-    ensures { OnOk result (fleet.new ≡ after_event fleet.old event) }
+    ensures after { OnOk result (fleet.new ≡ after_event fleet.old event) }
+    ensures refused { OnErr result (fleet.new ≡ fleet.old) }
+    ensures told { TellsMore (λ placings. Told N.tells placings notify.old notify.new)
+        fleet.old.said fleet.new.said }
 {
     match event {
         Event::Off(cpu) => {
@@ -36,14 +42,18 @@ fn take_event<N: Notifier>(
     Ok(())
 }
 
-/// Takes the events in order. The only error is `NoMemory`.
+/// Takes the events in order, and tells each placing to the notifier. The only error is `NoMemory`,
+/// at one of the events; those before it were taken.
 pub fn take_events<N: Notifier>(
     alloc: Global,
     fleet: &mut Fleet,
     events: &[Event],
-    notify: &Notifiers<N>,
+    notify: &mut N,
 ) -> Result<(), NoMemory>
-    ensures { OnOk result (fleet.new ≡ after_events fleet.old events.now) }
+    ensures after { OnOk result (fleet.new ≡ after_events fleet.old events.now) }
+    ensures some { OnErr result (IsAfterSome fleet.old events.now fleet.new) }
+    ensures told { TellsMore (λ placings. Told N.tells placings notify.old notify.new)
+        fleet.old.said fleet.new.said }
 {
     for event in events {
         take_event(alloc, fleet, *event, notify)?;

@@ -3,6 +3,7 @@ ghost use Rattle.std.specs.Prelude.{◌≡◌, ℕ, ◌≤◌, ◌<◌, [], true
 ghost use Rattle.std.specs.Prelude.{length, count_by, slice_index, slice_set};
 ghost use Rattle.board_def.specs.Layout.{layout_of};
 ghost use Rattle.irq_base.specs.declared.numbers.CpuNo.{CpuNo};
+ghost use Rattle.notifiers.specs.Told.{Told};
 ghost use Rattle.vector_matrix.specs.Steps.{has};
 ghost use Rattle.vector_matrix.specs.Vectors.{vector_of};
 ghost use Rattle.vector_matrix.specs.declared.view.Vector.{Vector};
@@ -11,6 +12,7 @@ ghost use Rattle.irq_hotplug.specs.Fleet.{after_off, after_on, first_fleet, off_
 ghost use Rattle.irq_hotplug.specs.Fleet.{off_refusal, on_answer, placed_fleet, says};
 ghost use Rattle.irq_hotplug.specs.Kept.{IsBare, IsSaidOf};
 ghost use Rattle.irq_hotplug.specs.Held.{IsSized};
+ghost use Rattle.irq_hotplug.specs.Notices.{TellsMore, notices_of};
 ghost use Rattle.std.specs.List.{list_any};
 
 use crate::berths::{Berth, Moving, Place, left_out, place_of};
@@ -21,7 +23,7 @@ use crate::rows::{FleetRow, OffAnswer, OnAnswer};
 use crate::vectors::Vectors;
 use board_def::{Board, Layout};
 use irq_base::{CpuNo, LineNo, NoMemory};
-use notifiers::{Notifier, Notifiers};
+use notifiers::Notifier;
 use std::alloc::Global;
 use std::marker::Model;
 
@@ -56,17 +58,20 @@ impl Fleet {
     /// Gives each processor 1 to 64 vectors, all processors being online, and places each line of
     /// the board that isn't refused, in the board's order: on the lowest processor of its mask
     /// that has a vector left, or else on the lowest other one. Each placing is told to the
-    /// notifier. The only error is `NoMemory`.
+    /// notifier. The only error is `NoMemory`, and then none was.
     pub fn new<N: Notifier>(
         alloc: Global,
         board: &Board,
         layout: &Layout,
         vectors: u32,
-        notify: &Notifiers<N>,
+        notify: &mut N,
     ) -> Result<Fleet, NoMemory>
         requires vectors { (1 ≤ vectors) × (vectors ≤ 64) }
         requires layout { layout.now ≡ layout_of board.now }
-        ensures { IfOk result (λ f. f ≡ first_fleet board.now vectors) }
+        ensures first { IfOk result (λ f. f ≡ first_fleet board.now vectors) }
+        ensures told { IfOk result (λ f.
+            Told N.tells (notices_of f.said) notify.old notify.new) }
+        ensures untold { OnErr result (Told N.tells [] notify.old notify.new) }
     {
         board.is_board();
         let bare = berths_of(alloc, board, layout)?;
@@ -87,16 +92,19 @@ impl Fleet {
 
     /// Takes the processor offline: each line that is placed there is placed anew, in the board's
     /// order, on the processors that stay (`irq_migrate_all_off_this_cpu` of
-    /// `kernel/irq/cpuhotplug.c`). If it is refused, only a row is added that says so.
+    /// `kernel/irq/cpuhotplug.c`), which is told to the notifier. If it is refused, only a row is
+    /// added that says so. The only error is `NoMemory`, and then nothing has changed.
     pub fn offline<N: Notifier>(
         &mut self,
         alloc: Global,
         cpu: CpuNo,
-        notify: &Notifiers<N>,
+        notify: &mut N,
     ) -> Result<OffAnswer, NoMemory>
         ensures answer { IfOk result (λ answer. answer ≡ off_answer self.old cpu) }
         ensures after { OnOk result (self.new ≡ after_off self.old cpu) }
         ensures refused { OnErr result (self.new ≡ self.old) }
+        ensures told { TellsMore (λ placings. Told N.tells placings notify.old notify.new)
+            self.old.said self.new.said }
     {
         if let Some(refusal) = off_refusal(self.online.as_slice(), cpu) {
             self.say(FleetRow::Off {
@@ -169,12 +177,14 @@ impl Fleet {
         &mut self,
         alloc: Global,
         cpu: CpuNo,
-        notify: &Notifiers<N>,
+        notify: &mut N,
     ) -> Result<OffAnswer, NoMemory>
         requires { off_refusal self.old.online cpu ≡ None }
         ensures answer { IfOk result (λ answer. answer ≡ off_answer self.old cpu) }
         ensures after { OnOk result (self.new ≡ after_off self.old cpu) }
         ensures refused { OnErr result (self.new ≡ self.old) }
+        ensures told { TellsMore (λ placings. Told N.tells placings notify.old notify.new)
+            self.old.said self.new.said }
     {
         let moving = Moving::From(cpu);
         let count = self.berths.as_slice().len();
@@ -223,14 +233,16 @@ fn place_first<N: Notifier>(
     vectors: u32,
     online: Vec<bool>,
     bare: &[Berth],
-    notify: &Notifiers<N>,
+    notify: &mut N,
 ) -> Result<Fleet, NoMemory>
     requires sized { IsSized held online.items }
     requires number { held.vectors ≡ vectors }
     requires none { held.held ≡ [] }
     requires few { length bare.now ≤ 64 }
     requires bare { All IsBare bare.now }
-    ensures { IfOk result (λ f. f ≡ placed_fleet vectors online.items bare.now) }
+    ensures placed { IfOk result (λ f. f ≡ placed_fleet vectors online.items bare.now) }
+    ensures told { IfOk result (λ f. Told N.tells (notices_of f.said) notify.old notify.new) }
+    ensures untold { OnErr result (Told N.tells [] notify.old notify.new) }
 {
     let moving = Moving::All;
     let mut found = RoomList::with_room(alloc, bare.len())?;

@@ -4,10 +4,12 @@ ghost use Rattle.std.specs.Prelude.{◌≡◌, ℕ, ◌+◌, ◌≤◌, [], ◌+
 ghost use Rattle.std.specs.Prelude.{if◌then◌else◌, option_to_list};
 ghost use Rattle.vector_matrix.specs.Vectors.{count_of, is_in};
 ghost use Rattle.vector_matrix.specs.declared.view.Vector.{Vector};
+ghost use Rattle.notifiers.specs.Told.{Told};
 ghost use Rattle.irq_hotplug.specs.Berths.{IfThere, all_found, all_settled, finds, is_at};
 ghost use Rattle.irq_hotplug.specs.Berths.{settled, stands_at};
 ghost use Rattle.irq_hotplug.specs.Held.{held_in, IsSized};
 ghost use Rattle.irq_hotplug.specs.Kept.{HasQueue};
+ghost use Rattle.irq_hotplug.specs.Notices.{TellsMore};
 ghost use Rattle.irq_hotplug.specs.Rows.{all_rows, is_move, rows_for};
 
 use crate::berths::{Berth, Moving, settled};
@@ -15,7 +17,7 @@ use crate::rooms::{RoomList, at};
 use crate::rows::FleetRow;
 use crate::vectors::Vectors;
 use irq_base::CpuNo;
-use notifiers::{Notifier, Notifiers};
+use notifiers::Notifier;
 use vector_matrix::Vector;
 
 /// Takes a vector for the line if it is placed anew; none if all are held.
@@ -98,21 +100,24 @@ fn say<N: Notifier>(
     berth: &Berth,
     found: Option<Vector>,
     moving: Moving,
-    notify: &Notifiers<N>,
+    notify: &mut N,
 )
     requires room { 1 ≤ said.old.spare }
     requires queues { 1 ≤ berth.now.queues }
     ensures said { said.new.items ≡ said.old.items ++ rows_for moving berth.now found }
     ensures spare { said.old.spare ≤ said.new.spare + 1 }
+    ensures told { TellsMore (λ placings. Told N.tells placings notify.old notify.new)
+        said.old.items said.new.items }
 {
     let line = berth.line;
     match (found, moving) {
         (Some(vector), _) => {
-            let queue = notify.notify(line, vector.cpu, berth.queues);
+            let queue = notify.queue(line, vector.cpu, berth.queues);
             let moved = is_move(berth.target, vector.cpu);
             said.put(FleetRow::Placed {
                 line,
                 vector,
+                queues: berth.queues,
                 queue,
                 moved,
             });
@@ -137,13 +142,14 @@ fn leave(held: &mut Vectors, berth: &Berth, found: Option<Vector>) -> Berth
     settled(found, *berth)
 }
 
-/// Settles the lines where they found a vector, in order: `next` are the lines from then on.
+/// Settles the lines where they found a vector, in order, and tells their notifiers: `next` are the
+/// lines from then on.
 pub fn settle_all<N: Notifier>(
     held: &mut Vectors,
     berths: &[Berth],
     found: &[Option<Vector>],
     moving: Moving,
-    notify: &Notifiers<N>,
+    notify: &mut N,
     next: &mut RoomList<Berth>,
     said: &mut RoomList<FleetRow>,
 )
@@ -155,6 +161,8 @@ pub fn settle_all<N: Notifier>(
         ≡ count_by (stands_at v) berths.now + count_by (is_at v) found.now }
     ensures next { next.new.items ≡ all_settled berths.now found.now }
     ensures said { said.new.items ≡ said.old.items ++ all_rows moving berths.now found.now }
+    ensures told { TellsMore (λ placings. Told N.tells placings notify.old notify.new)
+        said.old.items said.new.items }
     ensures held { (v : Vector) → count_of v held.new.held ≡ count_by (stands_at v) next.new.items }
     ensures sized { (held.new.cpus ≡ held.old.cpus) × (held.new.vectors ≡ held.old.vectors) }
 {

@@ -32,11 +32,13 @@ pub enum OnAnswer {
 /// What is said, a row each.
 #[derive(Clone, Copy)]
 pub enum FleetRow {
-    /// The line was placed: it has this vector, and the notifier named this queue. `moved`: by the
-    /// board and the placings before it, another processor takes its interrupts.
+    /// The line was placed: it has this vector, and the notifier, told how many queues it has,
+    /// named this queue. `moved`: by the board and the placings before it, another processor takes
+    /// its interrupts.
     Placed {
         line: LineNo,
         vector: Vector,
+        queues: u32,
         queue: u32,
         moved: bool,
     },

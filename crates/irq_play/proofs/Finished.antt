@@ -1,8 +1,10 @@
 -- A system whose play has ended, and what its reports hand out.
-use Rattle.std.proofs.Common.{◌≡◌, ◌≤◌, ℕ, All, IsSome, IsTrue, Option, Some, List, length, reverse, sym, ap, ◌∙◌, subst}
+use Rattle.std.proofs.Common.{◌≡◌, ◌≤◌, ℕ, Bool, All, IsSome, IsTrue, Option, Some, List, length, reverse, sym, ap, ◌∙◌, subst}
+use Rattle.irq_base.specs.declared.devices.Run.{Run}
 use Rattle.irq_base.specs.declared.entries.Entry.{Entry}
 use Rattle.irq_base.specs.declared.numbers.LineNo.{LineNo}
 use Rattle.irq_base.specs.declared.reporting.LineReport.{LineReport}
+use Rattle.board_core.specs.Runs.{runs_of}
 use Rattle.board_core.specs.Seen.{SystemSeen, board_lines}
 use Rattle.board_core.specs.Turns.{HasLength}
 use Rattle.board_core.specs.Wanted.{HasSpare, PlayWants, WantsNext}
@@ -11,7 +13,7 @@ use Rattle.board_def.specs.LineOf.{line_of_row}
 use Rattle.board_def.specs.Rules.{IsBoard}
 use Rattle.board_def.specs.Seen.{BoardSeen}
 use Rattle.board_play.specs.Kept.{AreKept}
-use Rattle.board_play.specs.Lines.{BoardLine, defs_of, find_line, lines_of, part}
+use Rattle.board_play.specs.Lines.{BoardLine, Move, defs_of, find_line, lines_of, part}
 use Rattle.board_play.specs.Order.{due_move}
 use Rattle.board_play.specs.Play.{Done, Full, IsChosen, Plays, choice}
 use Rattle.board_play.proofs.KeptAlways.{apart_kept, kept_play}
@@ -25,7 +27,7 @@ use Rattle.board_report.specs.Reporting.{IsHandedRoom, KeepRoom, entries_in}
 use Rattle.board_report.proofs.FullAt.{no_room}
 use Rattle.irq_play.specs.Headline.{CutShort, Headline, FullLog, RefusedStep}
 use Rattle.irq_play.specs.Ends.{is_printing}
-use Rattle.irq_play.specs.Played.{IsPlayed, TellsStep}
+use Rattle.irq_play.specs.Played.{IsPlayed, PlaysBoard, PlaysMoves, TellsStep}
 use Rattle.irq_play.specs.declared.ending.PlayedEnd.{PlayedEnd}
 use Rattle.irq_play.specs.declared.ending.PlayedEnd.TheVariants as ends
 use Rattle.irq_play.specs.declared.ending.WantedFor.TheVariants as wants
@@ -138,3 +140,13 @@ printing_tells may_want b reports ends.WriteFault printing = tt
 printing_tells may_want b reports (ends.LogFull line len) printing = tt
 printing_tells may_want b reports (ends.NoMemory wants.Making) printing = tt
 printing_tells may_want b reports (ends.NoMemory wants.Step) printing = cc
+
+-- a play with these moves is one with some moves
+pub of_moves : (b : BoardSeen) (summary : Bool) (heard : List Run → Type 0) (moves : List Move) (reports : List LineReport)
+    (before now : Option (List ℕ)) (end : PlayedEnd) → PlaysMoves b summary moves reports before now end → heard (runs_of b (reverse moves))
+    → PlaysBoard b summary heard reports before now end
+of_moves b summary heard moves reports before now ends.Done h called = (moves, h, called)
+of_moves b summary heard moves reports before now ends.WriteFault h called = (moves, h, called)
+of_moves b summary heard moves reports before now (ends.LogFull line len) h called = (moves, h, called)
+of_moves b summary heard moves reports before now (ends.NoMemory wants.Step) h called = (moves, h, called)
+of_moves b summary heard moves reports before now (ends.NoMemory wants.Making) h called = absurd h

@@ -1,5 +1,6 @@
 -- What a board's play answers, and what is printed of it.
 use Rattle.std.specs.Prelude.{◌≡◌, ℕ, Bool, Option, List, [], length, reverse}
+use Rattle.irq_base.specs.declared.devices.Run.{Run}
 use Rattle.irq_base.specs.declared.entries.Entry.{Entry}
 use Rattle.irq_base.specs.declared.reporting.LineReport.{LineReport}
 use Rattle.irq_io.specs.Whole.{WritesAll}
@@ -8,6 +9,7 @@ use Rattle.irq_io.specs.declared.whole.WriteEnd.TheVariants as writes
 use Rattle.board_def.specs.Layout.{layout_of}
 use Rattle.board_def.specs.Seen.{BoardSeen}
 use Rattle.board_core.specs.Playing.{IsFresh, IsPlay}
+use Rattle.board_core.specs.Runs.{runs_of}
 use Rattle.board_core.specs.Seen.{SystemSeen, board_lines}
 use Rattle.board_core.specs.declared.turns.PlayEnd.{PlayEnd}
 use Rattle.board_play.specs.Lines.{Move, lines_of}
@@ -19,28 +21,38 @@ use Rattle.irq_play.specs.declared.ending.PlayedEnd.{PlayedEnd}
 use Rattle.irq_play.specs.declared.ending.PlayedEnd.TheVariants as ends
 use Rattle.irq_play.specs.declared.ending.WantedFor.TheVariants as wants
 
--- The board was played to its end, and the reports hand out this play. Its report was printed: all
--- of it, or after a fault a beginning of it.
-pub record IsPrinted (b : BoardSeen) (summary : Bool) (reports : List LineReport)
-    (before now : Option (List ℕ)) (end : WriteEnd) : Type 0 where
-  pub moves : List Move
+-- The board was played to its end with these moves, and the reports hand out this play. Its report
+-- was printed: all of it, or after a fault a beginning of it.
+pub record IsPrinted (b : BoardSeen) (summary : Bool) (moves : List Move)
+    (reports : List LineReport) (before now : Option (List ℕ)) (end : WriteEnd) : Type 0 where
   pub headline : Headline b moves reports
   pub prints : WritesAll before now (report_text b summary moves) end
 
--- What the play answers and prints, by how it ended. Nothing is printed unless the play came to its
--- end. If a step was refused memory, the board was played up to it. Memory that was refused for
--- anything else was refused before the first step.
-abbrev pub PlaysBoard : BoardSeen → Bool → List LineReport → Option (List ℕ) → Option (List ℕ)
-    → PlayedEnd → Type 0
-PlaysBoard b summary reports before now ends.Done =
-    IsPrinted b summary reports before now writes.Done
-PlaysBoard b summary reports before now ends.WriteFault =
-    IsPrinted b summary reports before now writes.Failed
-PlaysBoard b summary reports before now (ends.LogFull line len) =
-    (moves : List Move) × FullLog b moves reports line len
-PlaysBoard b summary reports before now (ends.NoMemory wants.Step) =
-    (moves : List Move) × CutShort b moves reports
-PlaysBoard b summary reports before now (ends.NoMemory wants.Making) = reports ≡ []
+-- What a play with these moves answers and prints, by how it ended. Nothing is printed unless the
+-- play came to its end. If a step was refused memory, the board was played up to it. Where memory
+-- was refused for anything else, there was no play.
+abbrev pub PlaysMoves : BoardSeen → Bool → List Move → List LineReport → Option (List ℕ)
+    → Option (List ℕ) → PlayedEnd → Type 0
+PlaysMoves b summary moves reports before now ends.Done =
+    IsPrinted b summary moves reports before now writes.Done
+PlaysMoves b summary moves reports before now ends.WriteFault =
+    IsPrinted b summary moves reports before now writes.Failed
+PlaysMoves b summary moves reports before now (ends.LogFull line len) =
+    FullLog b moves reports line len
+PlaysMoves b summary moves reports before now (ends.NoMemory wants.Step) = CutShort b moves reports
+PlaysMoves b summary moves reports before now (ends.NoMemory wants.Making) = ⊥
+
+-- What the play answers and prints, by how it ended, and for which runs handlers were called: for
+-- those that its moves ended, in their order, and for no other; `heard` says of runs, the newest
+-- first, that this is so of them. Memory that was refused for anything but a step was refused
+-- before the first one.
+abbrev pub PlaysBoard : BoardSeen → Bool → (List Run → Type 0) → List LineReport → Option (List ℕ)
+    → Option (List ℕ) → PlayedEnd → Type 0
+PlaysBoard b summary heard reports before now (ends.NoMemory wants.Making) =
+    (reports ≡ []) × heard []
+PlaysBoard b summary heard reports before now end =
+    (moves : List Move) × PlaysMoves b summary moves reports before now end
+    × heard (runs_of b (reverse moves))
 
 -- If a step was refused memory, it is told which step it was; `may_want` says for which entry that
 -- is due a line may want memory though there is room.

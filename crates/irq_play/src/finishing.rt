@@ -30,8 +30,8 @@ pub(crate) fn print_play<O: Sink, L: IrqLine>(
 ) -> Printed
     requires played { IsPlayed board.now system PlayEnd.Done }
     requires room { HasRoom (length board.now.lines) room }
-    ensures printed { IsPrinted board.now false result.reports.reports (O.written out.old)
-        (O.written out.new) result.end }
+    ensures printed { IsPrinted board.now false system.entry.log result.reports.reports
+        (O.written out.old) (O.written out.new) result.end }
     ensures emptied { KeepsNone (O.kept out.new) result.end }
     ensures cause { Counts (O.faults out.old) (O.faults out.new) (writing_failed result.end) }
 {
@@ -49,8 +49,8 @@ pub(crate) fn print_summary<O: Sink, L: IrqLine>(
 ) -> Printed
     requires played { IsPlayed board.now system PlayEnd.Done }
     requires room { HasRoom (length board.now.lines) room }
-    ensures printed { IsPrinted board.now true result.reports.reports (O.written out.old)
-        (O.written out.new) result.end }
+    ensures printed { IsPrinted board.now true system.entry.log result.reports.reports
+        (O.written out.old) (O.written out.new) result.end }
     ensures emptied { KeepsNone (O.kept out.new) result.end }
     ensures cause { Counts (O.faults out.old) (O.faults out.new) (writing_failed result.end) }
 {

@@ -1,10 +1,13 @@
 //! Plays a board, and prints it.
-ghost use Rattle.std.specs.Prelude.{◌≡◌, [], IfOk, IsTrue, false, length};
+ghost use Rattle.std.specs.Prelude.{◌≡◌, [], IfOk, IsTrue, OnErr, false, length, reverse};
+ghost use Rattle.board_core.specs.Runs.{runs_of};
 ghost use Rattle.board_core.specs.Wanted.{PlayWants};
 ghost use Rattle.board_report.specs.Reporting.{HasRoom};
+ghost use Rattle.callbacks.specs.Heard.{Heard};
 ghost use Rattle.irq_io.specs.Faults.{Counts};
 ghost use Rattle.irq_play.specs.Ends.{is_printing, is_write_fault};
-ghost use Rattle.irq_play.specs.Played.{IsPlayed, IsReady, PlaysBoard, TellsStep};
+ghost use Rattle.irq_play.specs.Played.{IsPlayed, IsReady, PlaysBoard, PlaysMoves};
+ghost use Rattle.irq_play.specs.Played.{TellsStep};
 
 use crate::ending::{PlayedEnd, WantedFor};
 use crate::finishing::{print_play, print_summary};
@@ -13,7 +16,7 @@ use board_core::{PlayEnd, System};
 use board_def::Board;
 use board_layout::lay;
 use board_report::ReportRoom;
-use callbacks::{Callbacks, Handler};
+use callbacks::Handler;
 use irq_base::{NoMemory, Reports};
 use irq_io::Sink;
 use irq_line::IrqLine;
@@ -58,11 +61,12 @@ pub fn play_and_print<O: Sink, M: MakesDomainLine, H: Handler>(
     board: &Board,
     summary: bool,
     maker: &M,
-    handlers: &Callbacks<H>,
+    handlers: &mut H,
     out: &mut O,
 ) -> PlayedBoard
-    ensures plays { PlaysBoard board.now summary result.reports.reports (O.written out.old)
-        (O.written out.new) result.end }
+    ensures plays { PlaysBoard board.now summary
+        (λ runs. Heard H.hears runs handlers.old handlers.new) result.reports.reports
+        (O.written out.old) (O.written out.new) result.end }
     ensures step { TellsStep M.Line.may_want board.now result.reports.reports result.end }
     ensures emptied { result.end ≡ PlayedEnd.Done → O.kept out.new ≡ [] }
     ensures write_fault { Counts (O.faults out.old) (O.faults out.new) (is_write_fault result.end) }
@@ -95,12 +99,14 @@ pub fn ready_system<'b, M: MakesDomainLine>(
 pub fn play_ready<'b, L: IrqLine, H: Handler>(
     board: &Board,
     ready: ReadySystem<'b, L>,
-    handlers: &Callbacks<H>,
+    handlers: &mut H,
 ) -> PlayedSystem<'b, L>
     requires { IsReady board.now ready.system ready.room }
     ensures played { IsPlayed board.now result.system result.end }
     ensures room { HasRoom (length board.now.lines) result.room }
     ensures memory { PlayWants L.may_want result.system board.now.picks result.end }
+    ensures heard { Heard H.hears (runs_of board.now (reverse result.system.log)) handlers.old
+        handlers.new }
 {
     let ReadySystem { mut system, room } = ready;
     let end = system.play(board.picks(), handlers);
@@ -113,12 +119,15 @@ pub fn play_system<'b, M: MakesDomainLine, H: Handler>(
     alloc: Global,
     board: &'b Board,
     maker: &M,
-    handlers: &Callbacks<H>,
+    handlers: &mut H,
 ) -> Result<PlayedSystem<'b, M::Line>, NoMemory>
     ensures played { IfOk result (λ played. IsPlayed board.now played.system played.end) }
     ensures room { IfOk result (λ played. HasRoom (length board.now.lines) played.room) }
     ensures memory { IfOk result (λ played.
         PlayWants M.Line.may_want played.system board.now.picks played.end) }
+    ensures heard { IfOk result (λ played.
+        Heard H.hears (runs_of board.now (reverse played.system.log)) handlers.old handlers.new) }
+    ensures unheard { OnErr result (Heard H.hears [] handlers.old handlers.new) }
 {
     let ready = ready_system(alloc, board, maker)?;
     Ok(play_ready(board, ready, handlers))
@@ -134,8 +143,8 @@ fn report_play<O: Sink, L: IrqLine>(
     requires played { IsPlayed board.now played.system played.end }
     requires room { HasRoom (length board.now.lines) played.room }
     requires memory { PlayWants L.may_want played.system board.now.picks played.end }
-    ensures plays { PlaysBoard board.now summary result.reports.reports (O.written out.old)
-        (O.written out.new) result.end }
+    ensures plays { PlaysMoves board.now summary played.entry.system.log result.reports.reports
+        (O.written out.old) (O.written out.new) result.end }
     ensures step { TellsStep L.may_want board.now result.reports.reports result.end }
     ensures emptied { result.end ≡ PlayedEnd.Done → O.kept out.new ≡ [] }
     ensures write_fault { Counts (O.faults out.old) (O.faults out.new) (is_write_fault result.end) }
@@ -166,8 +175,8 @@ fn print_done<O: Sink, L: IrqLine>(
     requires played { IsPlayed board.now system PlayEnd.Done }
     requires room { HasRoom (length board.now.lines) room }
     ensures printing { IsTrue (is_printing result.end) }
-    ensures plays { PlaysBoard board.now summary result.reports.reports (O.written out.old)
-        (O.written out.new) result.end }
+    ensures plays { PlaysMoves board.now summary system.entry.log result.reports.reports
+        (O.written out.old) (O.written out.new) result.end }
     ensures emptied { result.end ≡ PlayedEnd.Done → O.kept out.new ≡ [] }
     ensures write_fault { Counts (O.faults out.old) (O.faults out.new) (is_write_fault result.end) }
 {

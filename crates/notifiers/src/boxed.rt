@@ -20,7 +20,7 @@ pub struct BoxedNotifier {
 }
 
 impl BoxedNotifier {
-    /// Keeps the function.
+    /// Keeps the function (`irq_set_affinity_notifier` of `kernel/irq/manage.c`).
     pub fn new(notifying: Notifying) -> BoxedNotifier
         requires callable { Notifying.IsAlwaysCallable notifying }
         requires by_processor { (l : LineNo) (c : CpuNo) (n : ℕ) (q : ℕ)
@@ -31,7 +31,11 @@ impl BoxedNotifier {
 }
 
 impl Notifier for BoxedNotifier {
-    fn queue(&self, line: LineNo, cpu: CpuNo, queues: u32) -> u32 {
+    // the function is called, and stays
+    ghost tells = { λ old line cpu queues new. (queue : ℕ)
+        × Notifying.post old.notifying line cpu queues queue × (new ≡ old) };
+
+    fn queue(&mut self, line: LineNo, cpu: CpuNo, queues: u32) -> u32 {
         (self.notifying)(line, cpu, queues)
     }
 }

@@ -8,7 +8,10 @@ use irq_base::{CpuNo, LineNo};
 pub struct ByProcessor;
 
 impl Notifier for ByProcessor {
-    fn queue(&self, _line: LineNo, cpu: CpuNo, queues: u32) -> u32 {
+    // a call leaves no trace
+    ghost tells = { λ old line cpu queues new. Unit {0} };
+
+    fn queue(&mut self, _line: LineNo, cpu: CpuNo, queues: u32) -> u32 {
         cpu.0 % queues
     }
 }

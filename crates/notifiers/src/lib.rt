@@ -1,6 +1,10 @@
-//! What is told that a line was placed on a processor, kept with the fact that it answers with the
+//! What is told that a line was placed on a processor, with the fact that it answers with the
 //! processor modulo the queues: a driver with several queues learns so which of them is served
-//! there (`struct irq_affinity_notify` of `include/linux/interrupt.h`).
+//! there.
+//!
+//! A `Notifier` is called for one placing, and says by a relation what a call makes of it; so
+//! `Told` says of notifiers that they were called once for each of some placings, in their order,
+//! and for no other.
 #![tactic(auto)]
 
 pub mod boxed;
@@ -9,4 +13,4 @@ pub mod notifier;
 
 pub use boxed::{BoxedNotifier, Notifying};
 pub use by_processor::ByProcessor;
-pub use notifier::{Notifier, Notifiers};
+pub use notifier::Notifier;

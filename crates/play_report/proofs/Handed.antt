@@ -1,5 +1,6 @@
 -- A play by an order that has ended, and what its reports hand out.
 use Rattle.std.proofs.Common.{◌≡◌, ℕ, IsSome, Option, Some, List, length, reverse, refl, sym, ap, ◌∙◌, subst}
+use Rattle.irq_base.specs.declared.devices.Run.{Run}
 use Rattle.irq_base.specs.declared.entries.Entry.{Entry}
 use Rattle.irq_base.specs.declared.numbers.LineNo.{LineNo}
 use Rattle.irq_base.specs.declared.reporting.LineReport.{LineReport}
@@ -89,14 +90,14 @@ answers_as text other HandsOut Others same more reports before now end h =
     by_end (ends.NoMemory wants.Making) h = h
 
 -- a play with this log is one with some log
-pub of_some : {E : Type 0} (text : List E → List ℕ) (HandsOut : List E → PlayEnd → List LineReport → Type 0) (log : List E)
-    (reports : List LineReport) (before now : Option (List ℕ)) (end : PlayedEnd) → Answers (text log) (HandsOut log) reports before now end
-    → AnswersOfSome text HandsOut reports before now end
-of_some text HandsOut log reports before now ends.Done h = (log, h)
-of_some text HandsOut log reports before now ends.WriteFault h = (log, h)
-of_some text HandsOut log reports before now (ends.LogFull line len) h = (log, h)
-of_some text HandsOut log reports before now (ends.NoMemory wants.Step) h = (log, h)
-of_some text HandsOut log reports before now (ends.NoMemory wants.Making) h = h
+pub of_some : {E : Type 0} (text : List E → List ℕ) (HandsOut : List E → PlayEnd → List LineReport → Type 0) (runs : List E → List Run)
+    (heard : List Run → Type 0) (log : List E) (reports : List LineReport) (before now : Option (List ℕ)) (end : PlayedEnd)
+    → Answers (text log) (HandsOut log) reports before now end → heard (runs log) → AnswersOfSome text HandsOut runs heard reports before now end
+of_some text HandsOut runs heard log reports before now ends.Done h called = (log, h, called)
+of_some text HandsOut runs heard log reports before now ends.WriteFault h called = (log, h, called)
+of_some text HandsOut runs heard log reports before now (ends.LogFull line len) h called = (log, h, called)
+of_some text HandsOut runs heard log reports before now (ends.NoMemory wants.Step) h called = (log, h, called)
+of_some text HandsOut runs heard log reports before now (ends.NoMemory wants.Making) h called = absurd h
 
 -- a play that was refused memory before its first step isn't done
 pub not_done : (end : PlayedEnd) → end ≡ ends.NoMemory wants.Making → end ≡ ends.Done → ⊥

@@ -1,7 +1,7 @@
-//! What a single line answers where it adds nothing: nothing is due; its log is full; it asks for
-//! the answer of a run, when no answer or another run's answer is handed in.
+//! What a single line answers where it adds nothing: nothing is due; its log is full; it lacks the
+//! answer of a run, when nothing was said before, or what was said was of another run.
 use board_text::read_board;
-use callbacks::{ByKind, Callbacks, Said};
+use callbacks::{Before, ByKind, Said};
 use irq_base::{
     Actor, CpuNo, DevNo, DeviceDef, DriverNo, Kind, LineDef, LineNo, NoMemory, Part, Run,
 };
@@ -39,9 +39,9 @@ const DEVICE: DeviceDef = DeviceDef {
 enum Wanted {
     NotYet,
     Adds,
-    /// The line asks for the primary handler's answer, with one unserved ask: first when no answer
-    /// is handed in, then when the answer is that of a run with no unserved ask. With the right
-    /// answer it adds an entry.
+    /// The line lacks the primary handler's answer, with one unserved ask: first when nothing was
+    /// said, then when the answer is that of a run with no unserved ask. With the right answer it
+    /// adds an entry.
     Runs,
     Full,
 }
@@ -71,30 +71,37 @@ fn run(unserved: u32) -> Run {
     }
 }
 
-/// The handler's answer in that run.
-fn said(unserved: u32) -> Option<Said> {
-    Some(Callbacks::new(ByKind).call(run(unserved)))
+/// The handler's answer in that run, said before.
+fn said(unserved: u32) -> Before {
+    Before {
+        said: Some(Said::of(&ByKind, run(unserved))),
+    }
 }
 
-/// Whether the line asks for the answer of the primary's run.
-fn asks<L: IrqLine>(line: &mut L, answer: Option<Said>) -> bool {
-    line.step(CPU, answer) == Ok(Stepped::Run(run(1)))
+/// Whether the line lacks the answer of the primary's run.
+fn lacks<L: IrqLine>(line: &mut L, mut before: Before) -> bool {
+    match line.step(CPU, &mut before) {
+        Ok(Stepped::Lacks(lack)) => lack == run(1),
+        _ => false,
+    }
 }
 
 /// Whether the step answers what is wanted.
 fn comes_to<L: IrqLine>(line: &mut L, actor: Actor, wanted: Wanted) -> bool {
-    let answer = if wanted == Wanted::Runs {
-        if !asks(line, None) || !asks(line, said(0)) {
+    let mut before = if wanted == Wanted::Runs {
+        if !lacks(line, Before { said: None }) || !lacks(line, said(0)) {
             return false;
         }
         said(1)
     } else {
-        None
+        Before { said: None }
     };
-    match line.step(actor, answer) {
+    match line.step(actor, &mut before) {
         Ok(Stepped::Added(_)) => wanted == Wanted::Adds || wanted == Wanted::Runs,
         Ok(Stepped::NotYet) => wanted == Wanted::NotYet,
-        Err(StepRefused::Full { len }) => wanted == Wanted::Full && len == 6,
+        Err(StepRefused::Full { line, len }) => {
+            wanted == Wanted::Full && line == LineNo(1) && len == 6
+        }
         _ => false,
     }
 }

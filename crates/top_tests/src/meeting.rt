@@ -1,7 +1,7 @@
 //! A gate and handlers that make threads wait for one another: in one thread alone nobody would
 //! come.
-use callbacks::{ByKind, Handler};
-use irq_base::{Actor, Answer, CpuNo, DevNo, DeviceDef, DriverNo, Part};
+use callbacks::{ByKind, SharedHandler};
+use irq_base::{Actor, Answer, CpuNo, DevNo, DriverNo, Run};
 use std::hint::spin_loop;
 use std::sync::atomic::{AtomicBool, AtomicU64, Ordering};
 use std::thread::yield_now;
@@ -131,11 +131,13 @@ pub struct Meets<'m> {
     pub meeting: &'m Meeting,
 }
 
-impl Handler for Meets<'_> {
-    fn answer(&self, def: DeviceDef, part: Part, unserved: u32) -> Answer {
-        let (calls, others) = self.meeting.calls(def.dev);
+impl SharedHandler for Meets<'_> {
+    ghost gave = { λ handlers run answer. Unit {0} };
+
+    fn answer(&self, run: Run) -> Answer {
+        let (calls, others) = self.meeting.calls(run.def.dev);
         calls.fetch_add(1, Ordering::SeqCst);
         self.meeting.hold(others, 1);
-        ByKind.answer(def, part, unserved)
+        ByKind.answer(run)
     }
 }

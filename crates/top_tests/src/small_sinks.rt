@@ -1,11 +1,11 @@
 //! The top call over a source and sinks in memory, one of whose calls fails. The rows are written
 //! by hand.
 use board_lines::MakesChainLine;
-use callbacks::{ByKind, Callbacks};
+use callbacks::ByKind;
 use irq_base::{NoMemory, Reports};
 use irq_io::{MemSink, MemSource};
 use irq_top::irq_main;
-use notifiers::{ByProcessor, Notifiers};
+use notifiers::ByProcessor;
 use std::alloc::Global;
 use std::sync::Wait;
 use std::test::Fail;
@@ -86,7 +86,6 @@ fn comes_to<R: Threads + Wait + Sync>(
     let mut src = MemSource::new(alloc, text, ends.piece.max(1), &[ends.read])?;
     let mut out = MemSink::with_failing_flushes(alloc, &[ends.write], &[ends.flush], ends.room)?;
     let mut err = MemSink::new(alloc, &[ends.error], 120)?;
-    let handlers = Callbacks::new(ByKind);
     let outcome = irq_main(
         rt,
         alloc,
@@ -95,9 +94,10 @@ fn comes_to<R: Threads + Wait + Sync>(
         &mut out,
         &mut err,
         &NoGate,
-        &handlers,
+        &mut ByKind,
+        &ByKind,
         &MakesChainLine,
-        &Notifiers::new(ByProcessor),
+        &mut ByProcessor,
     );
     let ended = outcome.ending.status() == wanted.status
         && entries_of(&outcome.reports) == wanted.entries;

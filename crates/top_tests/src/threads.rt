@@ -2,14 +2,14 @@
 //! run whose log is full.
 use crate::meeting::{Meeting, Meets};
 use board_lines::MakesChainLine;
-use callbacks::{ByKind, Callbacks, Handler};
+use callbacks::{ByKind, SharedHandler};
 use irq_base::{
     Actor, Answer, CpuEntry, CpuNo, DevNo, DriverEntry, DriverNo, Entry, Flags, LinkAnswer,
     NoMemory, Note, Opened, Reports, Resend, TakeAnswer, Way,
 };
 use irq_io::{MemSink, MemSource};
 use irq_top::{Outcome, irq_main};
-use notifiers::{ByProcessor, Notifiers};
+use notifiers::ByProcessor;
 use std::alloc::Global;
 use std::sync::Wait;
 use std::test::Fail;
@@ -94,13 +94,13 @@ const STORM_GOES_ON: [Entry; 4] = [
     ),
 ];
 
-/// Runs the board under the gate, with the handlers.
-fn run<R: Threads + Wait + Sync, G: Gate + Sync, H: Handler + Sync>(
+/// Runs the board under the gate, with these handlers shared.
+fn run<R: Threads + Wait + Sync, G: Gate + Sync, S: SharedHandler + Sync>(
     rt: &R,
     alloc: Global,
     board: &str,
     gate: &G,
-    handlers: &Callbacks<H>,
+    shared: &S,
 ) -> Result<Outcome, NoMemory> {
     let mut src = MemSource::new(alloc, board.as_bytes(), 100, &[])?;
     let mut out = MemSink::new(alloc, &[], 10_000)?;
@@ -113,9 +113,10 @@ fn run<R: Threads + Wait + Sync, G: Gate + Sync, H: Handler + Sync>(
         &mut out,
         &mut err,
         gate,
-        handlers,
+        &mut ByKind,
+        shared,
         &MakesChainLine,
-        &Notifiers::new(ByProcessor),
+        &mut ByProcessor,
     ))
 }
 
@@ -160,7 +161,7 @@ fn count(reports: &Reports, counted: Counted) -> u64 {
 #[test]
 fn two_lines_meet(rt: HostRuntime) -> Result<(), Fail> {
     let meeting = Meeting::new();
-    let handlers = Callbacks::new(Meets { meeting: &meeting });
+    let handlers = Meets { meeting: &meeting };
     let outcome = run(&rt, rt.alloc(), TWO_LINES, &meeting, &handlers)?;
     assert_eq!(rt; outcome.ending.status(), 0);
     assert!(rt; !meeting.is_given_up() && !meeting.is_miscounted());
@@ -182,7 +183,7 @@ fn two_lines_meet(rt: HostRuntime) -> Result<(), Fail> {
 /// A run whose log is full prints nothing, and hands out the entries up to there.
 #[test]
 fn entries_of_a_full_log(rt: HostRuntime) -> Result<(), Fail> {
-    let outcome = run(&rt, rt.alloc(), STORM, &NoGate, &Callbacks::new(ByKind))?;
+    let outcome = run(&rt, rt.alloc(), STORM, &NoGate, &ByKind)?;
     assert_eq!(rt; outcome.ending.status(), 6);
     let report = outcome.reports.get(0).ok_or("no report")?;
     assert!(rt; outcome.reports.len() == 1 && report.history.len() == 30);

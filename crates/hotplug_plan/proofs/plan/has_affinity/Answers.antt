@@ -1,4 +1,4 @@
-use Rattle.std.proofs.Common.{◌≡◌, ◌+◌, ◌||◌, drop, ap, ◌∙◌, sym}
+use Rattle.std.proofs.Common.{◌+◌, ◌||◌, drop, ap, ◌∙◌, sym}
 use Rattle.std.specs.List.{list_any}
 use Rattle.hotplug_plan.specs.Planned.{moves_a_line}
 use Rattle.hotplug_plan.proofs.plan.has_affinity.Goals as goal

@@ -1,4 +1,4 @@
-use Rattle.std.proofs.Common.{◌≡◌, ◌+◌, ◌++◌, List, drop, subst, ap, ◌∙◌, sym, append_assoc}
+use Rattle.std.proofs.Common.{◌+◌, ◌++◌, List, drop, subst, ap, ◌∙◌, sym, append_assoc}
 use Rattle.board_driver.specs.declared.adding.LineCall.{LineCall}
 use Rattle.irq_hotplug.specs.declared.rows.FleetRow.{FleetRow}
 use Rattle.hotplug_plan.specs.Planned.{HasCpu, move_of, moves_of}

@@ -1,4 +1,4 @@
-use Rattle.std.proofs.Common.{◌≡◌, List, All, subst, ap, ◌∙◌, sym}
+use Rattle.std.proofs.Common.{List, All, subst, ap, ◌∙◌, sym}
 use Rattle.board_driver.specs.Longer.{IsOfALine}
 use Rattle.board_driver.specs.declared.adding.LineCall.{LineCall}
 use Rattle.hotplug_plan.specs.Planned.{moves_of}

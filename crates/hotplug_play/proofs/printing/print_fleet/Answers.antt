@@ -8,7 +8,7 @@ use Rattle.hotplug_play.proofs.printing.print_fleet.Goals as goal
 
 -- what an index beyond the end would read
 abbrev no_row : FleetRow
-no_row = rows.Placed (record { 0 = 0 }) (record { cpu = record { 0 = 0 }; number = 0 }) 0 false
+no_row = rows.Placed (record { 0 = 0 }) (record { cpu = record { 0 = 0 }; number = 0 }) 0 0 false
 
 pub returns-in-Failed-clause-content : goal.returns-in-Failed-clause-content
 returns-in-Failed-clause-content g c =

@@ -8,6 +8,7 @@ use Rattle.irq_hotplug.specs.Rows.{all_rows, rows_for}
 use Rattle.irq_hotplug.specs.declared.berths.Berth.{Berth}
 use Rattle.irq_hotplug.specs.declared.rows.FleetRow.{FleetRow}
 use Rattle.irq_hotplug.proofs.Counting.{count_more, count_put, settle_tie, there_now}
+use Rattle.irq_hotplug.proofs.Telling.{none_told, tells_on}
 use Rattle.irq_hotplug.proofs.placing.settle_all.Goals as goal
 
 pub say-requires-clause-room : goal.say-requires-clause-room
@@ -56,6 +57,8 @@ loop-i-preserved g c =
           ∙ sym (ap (λ (xs : List Berth). said ++ all_rows m xs all_ps) c.at-berth.ensures.left
           ∙ ap (λ (ys : List (Option Vector)). said ++ all_rows m (b ∷ bs) ys) c.at-vector.ensures.left)
           ∙ c.loop-i.invariant.rows;
+      told = tells_on g.N.Notifier.tells c.args.said.now.items said c.say.new.said.items c.args.notify.now c.loop-i.notify c.say.new.notify
+          c.loop-i.invariant.told c.say.ensures.told;
       tie = λ v.
           settle_tie (count_of v c.loop-i.held.held) (count_of v c.leave-settled.new.held.held) (count_by (stands_at v) next)
           (count_by (stands_at v) c.put.new.self.items)
@@ -78,6 +81,7 @@ loop-i-init g c =
       said_spare = omega (arith, c.requires.room.1);
       settled = ap (λ (xs : List Berth). xs ++ all_settled bs ps) c.requires.empty;
       rows = refl;
+      told = none_told g.N.Notifier.tells c.args.said.now.items c.args.said.now.items c.args.notify.now refl;
       tie = λ v.
           c.requires.held v
           ∙ sym (ap (λ (xs : List Berth). count_by (stands_at v) xs + (count_by (stands_at v) bs + count_by (is_at v) ps)) c.requires.empty

@@ -2,6 +2,8 @@ use Rattle.std.proofs.Common.{◌≡◌, ◌+◌, ◌≤◌, ◌++◌, length, d
 use Rattle.vector_matrix.specs.Vectors.{count_of}
 use Rattle.vector_matrix.specs.declared.view.Vector.{Vector}
 use Rattle.irq_hotplug.specs.Berths.{all_settled, stands_at, is_at}
+use Rattle.notifiers.specs.Told.{Told}
+use Rattle.irq_hotplug.specs.Notices.{TellsMore}
 use Rattle.irq_hotplug.specs.Rows.{all_rows}
 use Rattle.irq_hotplug.proofs.placing.settle_all.Given as goal
 
@@ -14,6 +16,7 @@ invariant-loop-i g l = record {
   settled : l.next.items ++ all_settled (drop l.i l.berths) (drop l.i l.found) ≡ all_settled l.berths l.found;
   rows : l.said.items ++ all_rows l.moving (drop l.i l.berths) (drop l.i l.found)
       ≡ l.initial.said.items ++ all_rows l.moving l.berths l.found;
+  told : TellsMore (λ placings. Told g.N.Notifier.tells placings l.initial.notify l.notify) l.initial.said.items l.said.items;
   tie : (v : Vector) → count_of v l.held.held
       ≡ count_by (stands_at v) l.next.items + (count_by (stands_at v) (drop l.i l.berths) + count_by (is_at v) (drop l.i l.found));
 }

@@ -5,4 +5,4 @@ pub write_play-end-requires-clause-rows : goal.write_play-end-requires-clause-ro
 write_play-end-requires-clause-rows g c = rows_done c.args.board.now c.args.system c.requires.played
 
 pub returns-clause-printed : goal.returns-clause-printed
-returns-clause-printed g c = record { moves = c.args.system.log; headline = c.report_done-reports.ensures.headline; prints = c.write_play-end.ensures.content }
+returns-clause-printed g c = record { headline = c.report_done-reports.ensures.headline; prints = c.write_play-end.ensures.content }

@@ -18,7 +18,6 @@ returns-clause-printed g c =
     let layout = layout_rows b in
     let totals = totals_text (histories_of b s.log) in
     record {
-      moves = s.log;
       headline = headline;
       prints = elim c.match-laid.branch [
         | in-Done w ↦

@@ -5,10 +5,10 @@ use Rattle.irq_play.proofs.Finished.{printing_tells}
 use Rattle.irq_play.proofs.playing.report_play.Goals as goal
 
 pub returns-in-Full-clause-plays : goal.returns-in-Full-clause-plays
-returns-in-Full-clause-plays g c = (c.args.played.system.log, c.report_full.ensures)
+returns-in-Full-clause-plays g c = c.report_full.ensures
 
 pub returns-in-NoMemory-clause-plays : goal.returns-in-NoMemory-clause-plays
-returns-in-NoMemory-clause-plays g c = (c.args.played.system.log, c.report_cut.ensures.cut)
+returns-in-NoMemory-clause-plays g c = c.report_cut.ensures.cut
 
 pub returns-in-Done-clause-step : goal.returns-in-Done-clause-step
 returns-in-Done-clause-step g c = printing_tells g.L.IrqLine.may_want c.args.board.now c.print_done.result.reports.reports

@@ -13,7 +13,7 @@ pub print_plugged-requires : goal.print_plugged-requires
 print_plugged-requires g c =
     let s = c.self.inside.system in
     let b = c.self.inside.plan.now.board in
-    rows_done b s (subst (λ (end : PlayEnd). IsPlayed b s end) (ap (λ (p : PlugPlaySeen). p.end) c.self.view_is ∙ c.requires) c.self.invariant)
+    rows_done b s (subst (λ (end : PlayEnd). IsPlayed b s end) (ap (λ (p : PlugPlaySeen). p.end) c.self.view_is ∙ c.requires) c.self.invariant.0)
 
 pub returns-clause-content : goal.returns-clause-content
 returns-clause-content g c =

@@ -1,0 +1,46 @@
+-- Which placings were told.
+use Rattle.std.proofs.Common.{◌≡◌, ℕ, ◌⊎◌, inl, inr, List, [], OnErr, Result, Ok, Err, sym, ap, ◌∙◌, subst}
+use Rattle.std.proofs.lemmas.List.{append-nil}
+use Rattle.board_def.specs.Seen.{BoardSeen}
+use Rattle.irq_hotplug.specs.Fleet.{FleetSeen, IsAfterSome, after_events, first_fleet, fleet_after}
+use Rattle.irq_hotplug.specs.Notices.{notices_of}
+use Rattle.irq_hotplug.specs.declared.events.Event.{Event}
+use Rattle.irq_play.specs.declared.ending.PlayedEnd.{PlayedEnd}
+use Rattle.irq_play.specs.declared.ending.PlayedEnd.TheVariants as ends
+use Rattle.irq_play.specs.declared.ending.WantedFor.TheVariants as wants
+use Rattle.notifiers.specs.Told.{Notice}
+use Rattle.hotplug_play.specs.Played.{TellsPlacings, TellsUpTo, placings_after}
+
+module _ (told : List Notice → Type 0) (b : BoardSeen) (vectors : ℕ) (es : List Event) where
+  -- those of a fleet that took a beginning of the events
+  pub up_to : (first now : FleetSeen) → first ≡ first_fleet b vectors → IsAfterSome first es now → told (notices_of now.said) → TellsUpTo told b vectors es
+  up_to first now is some all =
+      record {
+        taken = some.taken;
+        left = some.left;
+        parts = some.parts;
+        placings = subst (λ (f : FleetSeen). told (notices_of f.said)) (some.after ∙ ap (λ (f : FleetSeen). after_events f some.taken) is) all;
+      }
+
+  -- those of a fleet that took all
+  pub of_all : (f : FleetSeen) → f ≡ fleet_after b vectors es → told (notices_of f.said) → told (placings_after b vectors es)
+  of_all f is all = subst (λ (g : FleetSeen). told (notices_of g.said)) is all
+
+  pub up_to_all : told (placings_after b vectors es) → TellsUpTo told b vectors es
+  up_to_all all = record { taken = es; left = []; parts = sym (append-nil es); placings = all }
+
+  -- all were told, however the play ended
+  pub all_told : (end : PlayedEnd) → told (placings_after b vectors es) → TellsPlacings told b vectors es end
+  all_told ends.Done all = all
+  all_told ends.WriteFault all = all
+  all_told (ends.LogFull line len) all = all
+  all_told (ends.NoMemory wants.Step) all = all
+  all_told (ends.NoMemory wants.Making) all = inl (up_to_all all)
+
+  -- memory was refused before the play
+  pub some_told : (end : PlayedEnd) → end ≡ ends.NoMemory wants.Making → TellsUpTo told b vectors es ⊎ told [] → TellsPlacings told b vectors es end
+  some_told end is some = subst (λ (e : PlayedEnd). TellsPlacings told b vectors es e) (sym is) some
+
+pub on_err : {T E : Type 0} (P : Type 0) (r : Result T E) → P → OnErr r P
+on_err P (Ok x) h = tt
+on_err P (Err e) h = h
