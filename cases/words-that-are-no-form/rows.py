@@ -1,5 +1,5 @@
 """Words that are none of the forms. The input is a board, or a text with a fault, and isn't read."""
-USAGE = "usage: genirq run [--summary] | play [--summary] | check | gen N | chained | hotplug V EVENT... | sleep LINE..."
+USAGE = "usage: genirq run [--summary] | play [--summary] | check [--why] | gen N | chained | hotplug V EVENT... | sleep LINE..."
 NO_FORM = [
     "",
     "plays",

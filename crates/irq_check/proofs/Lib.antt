@@ -5,3 +5,4 @@ mod WholeInput
 mod OneLog
 mod OneVerdict
 mod OneAnswer
+pub mod Reasons

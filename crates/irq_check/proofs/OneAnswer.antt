@@ -1,5 +1,5 @@
 -- A log has one judgement, and so has an input.
-use Rattle.std.proofs.Common.{◌≡◌, ℕ, Result, Ok, Err, List, refl, sym, ap, subst, ◌∙◌}
+use Rattle.std.proofs.Common.{◌≡◌, ℕ, Bool, Result, Ok, Err, List, refl, sym, ap, subst, ◌∙◌}
 use Rattle.board_def.specs.Seen.{BoardSeen}
 use Rattle.board_words.specs.declared.faults.BoardFault.{BoardFault}
 use Rattle.log_check.specs.Verdicts.{ChecksLog, HasVerdict}
@@ -8,6 +8,7 @@ use Rattle.log_check.specs.declared.verdict.Verdict.TheVariants as verdicts
 use Rattle.log_read.specs.LogOf.{entries_of, rows_of}
 use Rattle.log_read.proofs.Telling.{as_many}
 use Rattle.irq_check.specs.Checked.{IsChecked, checked}
+use Rattle.irq_check.specs.declared.answers.Judgement.{Judgement}
 use Rattle.irq_check.proofs.OneLog.{not_malformed, one_history, one_row}
 use Rattle.irq_check.proofs.OneVerdict.{one_verdict}
 
@@ -34,13 +35,15 @@ module _ (b : BoardSeen) (log : List ℕ) where
 same_ok : (p q : BoardSeen × List ℕ) → ◌≡◌ {A = Result (BoardSeen × List ℕ) BoardFault} (Ok p) (Ok q) → p ≡ q
 same_ok p q is = cc
 
-pub one_input : (input : List ℕ) (one other : Verdict) → IsChecked input one → IsChecked input other → one ≡ other
-one_input input one other p q =
+pub one_input : (why also : Bool) (input : List ℕ) (one other : Judgement) → IsChecked why input one → IsChecked also input other
+    → one.verdict ≡ other.verdict
+one_input why also input one other p q =
     let same : (p.board, p.log) ≡ (q.board, q.log) = same_ok (p.board, p.log) (q.board, q.log) (sym p.states ∙ q.states) in
-    one_answer q.board q.log one other (subst (λ (pair : BoardSeen × List ℕ). ChecksLog pair.0 pair.1 one) same p.judged) q.judged
+    one_answer q.board q.log one.verdict other.verdict
+    (subst (λ (pair : BoardSeen × List ℕ). ChecksLog pair.0 pair.1 one.verdict) same p.judged) q.judged
 
 ok_or_not : (p : BoardSeen × List ℕ) (fault : BoardFault) → ◌≡◌ {A = Result (BoardSeen × List ℕ) BoardFault} (Ok p) (Err fault) → ⊥
 ok_or_not p fault is = cc
 
-pub no_fault : (input : List ℕ) (answer : Verdict) (fault : BoardFault) → IsChecked input answer → checked input ≡ Err fault → ⊥
-no_fault input answer fault p bad = ok_or_not (p.board, p.log) fault (sym p.states ∙ bad)
+pub no_fault : (why : Bool) (input : List ℕ) (answer : Judgement) (fault : BoardFault) → IsChecked why input answer → checked input ≡ Err fault → ⊥
+no_fault why input answer fault p bad = ok_or_not (p.board, p.log) fault (sym p.states ∙ bad)

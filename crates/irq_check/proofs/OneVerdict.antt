@@ -70,7 +70,7 @@ earlier def h m n x y less =
     x.undue.2 (subst (λ (es : List Entry). IsDue def x.undue.0 (reverse es)) (shorter h (m - 1) (n - 1) (omega (arith, below))) due)
 
 module _ (b : BoardSeen) (row : LineRow) (es : List Entry) where
-  right_or_not : (p : Placement) (n : ℕ) → JudgedLine b row p es None → JudgedLine b row p es (Some n) → ⊥
+  pub right_or_not : (p : Placement) (n : ℕ) → JudgedLine b row p es None → JudgedLine b row p es (Some n) → ⊥
   right_or_not (placements.Mapped virq path) n x y = legal_or_not _ es n x y
   right_or_not (placements.Refused why) n x y =
       let none = ap (λ (fs : List Entry). length fs) x in
@@ -83,7 +83,7 @@ module _ (b : BoardSeen) (row : LineRow) (es : List Entry) where
 
 -- ---- the line at a place
 
-there : {X : Type 0} (xs : List X) (i : ℕ) → i < length xs → (x : X) × (slice_get xs i ≡ Some x)
+pub there : {X : Type 0} (xs : List X) (i : ℕ) → i < length xs → (x : X) × (slice_get xs i ≡ Some x)
 there [] i within = absurd (omega (arith, within))
 there (x ∷ xs) zero within = (x, refl)
 there (x ∷ xs) (suc i) within = there xs i (omega (arith, within))
@@ -93,10 +93,10 @@ as_many domains before [] = refl
 as_many domains before (leaf ∷ leaves) = ap suc (as_many domains (before ++ placement_of domains before leaf ∷ []) leaves)
 
 -- each line has a placement
-each_placed : (b : BoardSeen) → length (layout_of b) ≡ length b.lines
+pub each_placed : (b : BoardSeen) → length (layout_of b) ≡ length b.lines
 each_placed b = as_many (defs_of b.domains) [] (leaves_of b.lines) ∙ length-map b.lines leaf_of
 
-entries_at : (logs : List HistorySeen) (i : ℕ) (h : HistorySeen) → slice_get logs i ≡ Some h → slice_get (entries_of logs) i ≡ Some h.entries
+pub entries_at : (logs : List HistorySeen) (i : ℕ) (h : HistorySeen) → slice_get logs i ≡ Some h → slice_get (entries_of logs) i ≡ Some h.entries
 entries_at logs i h at = slice_get-map (λ (x : HistorySeen). x.entries) logs i
     ∙ ap (λ (o : Option HistorySeen). option_map (λ (x : HistorySeen). x.entries) o) at
 

@@ -13,7 +13,7 @@ use Rattle.board_words.specs.declared.faults.FaultKind.TheVariants as faults
 use Rattle.irq_check.specs.Checked.{IsChecked, board_and_log, checked, longest_input}
 use Rattle.irq_check.specs.Ends.{IsSaid, ReadsInput}
 use Rattle.irq_check.specs.Parts.{parts_of}
-use Rattle.log_check.specs.declared.verdict.Verdict.{Verdict}
+use Rattle.irq_check.specs.declared.answers.Judgement.{Judgement}
 use Rattle.program_io.specs.declared.inputs.InputRefused.TheVariants as refusals
 
 is_longer : (bytes : List ℕ) → longest_input < length bytes → nat_lt longest_input (length bytes) ≡ true
@@ -61,29 +61,32 @@ of_all : (bytes text : List ℕ) (r : Result (BoardSeen × List ℕ) BoardFault)
 of_all bytes text r cut states = sym (cut_states bytes) ∙ (ap checked (sym cut) ∙ states)
 
 -- the whole is judged as what was read of it
-whole_is : (bytes text : List ℕ) (answer : Verdict) → text ≡ take (longest_input + 1) bytes → IsChecked text answer → IsChecked bytes answer
-whole_is bytes text answer cut is = record {
+whole_is : (asked : Bool) (bytes text : List ℕ) (answer : Judgement) → text ≡ take (longest_input + 1) bytes → IsChecked asked text answer
+    → IsChecked asked bytes answer
+whole_is asked bytes text answer cut is = record {
   board = is.board;
   log = is.log;
   states
       = of_all bytes text (Ok (is.board, is.log)) cut is.states;
   judged = is.judged;
+  explained = is.explained;
 }
 
-pub content : (before now : Option (List ℕ)) (text : List ℕ) (answer : Verdict)
-    → TakesUpTo (longest_input + 1) before now text → IsChecked text answer → ReadsInput before now (Ok answer)
-content None now text answer read is = tt
-content (Some bytes) now text answer read is =
-    let all = whole_is bytes text answer read.0 is in
+pub content : (asked : Bool) (before now : Option (List ℕ)) (text : List ℕ) (answer : Judgement)
+    → TakesUpTo (longest_input + 1) before now text → IsChecked asked text answer → ReadsInput asked before now (Ok answer)
+content asked None now text answer read is = tt
+content asked (Some bytes) now text answer read is =
+    let all = whole_is asked bytes text answer read.0 is in
     (all, read.1 ∙ ap Some (drop_all (longest_input + 1) bytes (omega (arith, short bytes (all.board, all.log) all.states))))
 
-pub refused : (before now : Option (List ℕ)) (text : List ℕ) (fault : BoardFault)
-    → TakesUpTo (longest_input + 1) before now text → checked text ≡ Err fault
-    → ReadsInput before now (Err (refusals.Fault fault))
-refused None now text fault read states = tt
-refused (Some bytes) now text fault read states = (of_all bytes text (Err fault) read.0 states, read.1)
+pub refused : (asked : Bool) (before now : Option (List ℕ)) (text : List ℕ) (fault : BoardFault)
+    → TakesUpTo (longest_input + 1) before now text → length text ≤ longest_input + 1 → checked text ≡ Err fault
+    → ReadsInput asked before now (Err (refusals.Fault fault))
+refused asked None now text fault read few states = record { input = text; within = few; fails = states }
+refused asked (Some bytes) now text fault read few states = (of_all bytes text (Err fault) read.0 states, read.1)
 
-pub said : (before now : Option (List ℕ)) (text : List ℕ) (answer : Verdict)
-    → TakesUpTo (longest_input + 1) before now text → IsChecked text answer → IsSaid before answer
-said None now text answer read is = record { input = text; as_told = tt; checked = is }
-said (Some bytes) now text answer read is = record { input = bytes; as_told = refl; checked = whole_is bytes text answer read.0 is }
+pub said : (asked : Bool) (before now : Option (List ℕ)) (text : List ℕ) (answer : Judgement)
+    → TakesUpTo (longest_input + 1) before now text → IsChecked asked text answer → IsSaid asked before answer
+said asked None now text answer read is = record { input = text; as_told = tt; checked = is }
+said asked (Some bytes) now text answer read is =
+    record { input = bytes; as_told = refl; checked = whole_is asked bytes text answer read.0 is }

@@ -1,23 +1,24 @@
 //! An input is judged.
 ghost use Rattle.std.specs.Prelude.{◌≡◌, ◌≤◌, length, IfOk};
 ghost use Rattle.board_stated.specs.TextOf.{whole};
-ghost use Rattle.irq_check.specs.Checked.{Checks};
+ghost use Rattle.irq_check.specs.Checked.{Checks, IsExplained, IsPrintableAnswer};
 ghost use Rattle.log_check.specs.Verdicts.{ChecksLog};
 
+use crate::answers::Judgement;
 use crate::parts::cut_input;
 use board_def::Board;
 use board_layout::lay;
 use board_text::{BoardFault, BoardRefused, FaultKind, read_board};
 use irq_base::NoMemory;
 use line_makers::{MakesDomainLine, OverDomains};
-use log_check::{Verdict, check_log};
+use log_check::{Verdict, check_log, explain_log};
 use std::alloc::Global;
 
 /// The most bytes of an input.
 pub const LONGEST_INPUT: usize = 67_108_864;
 
-/// Judges an input: the text of a board, a row `---` and a log of the board. Lines do the judging,
-/// and `maker` makes them.
+/// Judges an input: the text of a board, a row `---` and a log of the board. With `why` it is found
+/// out too why the log is unlawful, if it is. Lines do the judging, and `maker` makes them.
 ///
 /// # Errors
 ///
@@ -26,9 +27,11 @@ pub const LONGEST_INPUT: usize = 67_108_864;
 pub fn check_bytes<M: MakesDomainLine>(
     alloc: Global,
     bytes: &[u8],
+    why: bool,
     maker: &M,
-) -> Result<Verdict, BoardRefused>
-    ensures exact { Checks bytes.now result }
+) -> Result<Judgement, BoardRefused>
+    ensures exact { Checks why bytes.now result }
+    ensures printable { IfOk result IsPrintableAnswer }
 {
     if bytes.len() > LONGEST_INPUT {
         return Err(whole(FaultKind::TooLong));
@@ -37,8 +40,8 @@ pub fn check_bytes<M: MakesDomainLine>(
         return Err(whole(FaultKind::NoLog));
     };
     let board = read_board(alloc, text)?;
-    match judge_log(alloc, &board, log, maker) {
-        Ok(verdict) => Ok(verdict),
+    match judge_log(alloc, &board, log, why, maker) {
+        Ok(answer) => Ok(answer),
         Err(NoMemory) => Err(BoardRefused::NoMemory),
     }
 }
@@ -56,12 +59,23 @@ fn judge_log<M: MakesDomainLine>(
     alloc: Global,
     board: &Board,
     log: &[u8],
+    why: bool,
     maker: &M,
-) -> Result<Verdict, NoMemory>
+) -> Result<Judgement, NoMemory>
     requires { length log.now ≤ 67108864 }
-    ensures { IfOk result (λ verdict. ChecksLog board.now log.now verdict) }
+    ensures judged { IfOk result (λ answer. ChecksLog board.now log.now answer.verdict) }
+    ensures explained { IfOk result (λ answer. IsExplained board.now log.now why answer) }
+    ensures printable { IfOk result IsPrintableAnswer }
 {
     let (domains, layout) = lay(alloc, board)?;
     let maker = OverDomains::of_board(maker, &domains, board);
-    check_log::<M::Line, OverDomains<'_, M>>(alloc, board, &layout, &maker, log)
+    let verdict =
+        check_log::<M::Line, OverDomains<'_, M>>(alloc, board, &layout, &maker, log)?;
+    let why = match verdict {
+        Verdict::Unlawful { line, .. } if why => {
+            explain_log::<M::Line, OverDomains<'_, M>>(alloc, board, &layout, &maker, log, line)?
+        }
+        _ => None,
+    };
+    Ok(Judgement { verdict, why })
 }

@@ -1,8 +1,9 @@
 //! What holds of judgements, whoever makes them.
-ghost use Rattle.std.specs.Prelude.{◌≡◌, ℕ, List, Err};
+ghost use Rattle.std.specs.Prelude.{◌≡◌, ℕ, Bool, List, Err};
 ghost use Rattle.board_def.specs.Seen.{BoardSeen};
 ghost use Rattle.board_words.specs.declared.faults.BoardFault.{BoardFault};
 ghost use Rattle.irq_check.specs.Checked.{IsChecked, checked};
+ghost use Rattle.irq_check.specs.declared.answers.Judgement.{Judgement};
 ghost use Rattle.log_check.specs.Verdicts.{ChecksLog};
 ghost use Rattle.log_check.specs.declared.verdict.Verdict.{Verdict};
 
@@ -11,8 +12,8 @@ ghost use Rattle.log_check.specs.declared.verdict.Verdict.{Verdict};
 pub fn answer_is_one()
     ensures of_log { (board : BoardSeen) (log : List ℕ) (one other : Verdict)
         → ChecksLog board log one → ChecksLog board log other → one ≡ other }
-    ensures of_input { (input : List ℕ) (one other : Verdict)
-        → IsChecked input one → IsChecked input other → one ≡ other }
-    ensures no_fault { (input : List ℕ) (verdict : Verdict) (fault : BoardFault)
-        → IsChecked input verdict → checked input ≡ Err fault → ⊥ }
+    ensures of_input { (why also : Bool) (input : List ℕ) (one other : Judgement)
+        → IsChecked why input one → IsChecked also input other → one.verdict ≡ other.verdict }
+    ensures no_fault { (why : Bool) (input : List ℕ) (answer : Judgement) (fault : BoardFault)
+        → IsChecked why input answer → checked input ≡ Err fault → ⊥ }
 {}

@@ -4,7 +4,8 @@
 //! The board's text ends before the first text line that is exactly `---`, and all that follows
 //! that line is the log. A log whose rows are not all rows of entries is malformed; one that can be
 //! read is lawful if the history of each line is legal. The rows of a log are judged against the
-//! board alone; what the board declares is never a fault of its log.
+//! board alone; what the board declares is never a fault of its log. Of an unlawful log it can be
+//! said too which row has the entry that wasn't due, and what was due in its place.
 #![tactic(auto)]
 
 pub mod answers;
@@ -14,7 +15,7 @@ mod laws;
 pub mod parts;
 pub mod printing;
 
-pub use answers::answer_row;
+pub use answers::{Judgement, answer_row};
 pub use checking::{LONGEST_INPUT, check_bytes};
 pub use inputs::check_input;
 pub use laws::answer_is_one;

@@ -1,6 +1,8 @@
 //! The top call over the arguments as they come.
 ghost use Rattle.std.specs.Prelude.{◌≡◌, ◌⊎◌, [], false, true, map, string_bytes};
+ghost use Rattle.callbacks.specs.Heard.{Heard};
 ghost use Rattle.irq_io.specs.Faults.{Counts};
+ghost use Rattle.notifiers.specs.Told.{Told};
 ghost use Rattle.irq_words.specs.Words.{Asks, AsksNothing};
 ghost use Rattle.irq_words.specs.declared.Command.{Command};
 ghost use Rattle.program_io.specs.Arguments.{IsNotText};
@@ -10,11 +12,11 @@ ghost use Rattle.irq_top.specs.Ending.{error_text, is_printed, is_printing, is_r
 ghost use Rattle.irq_top.specs.Ending.{is_write_fault_end};
 ghost use Rattle.irq_command.specs.Arguments.{FormReadsNothing, IsForm, IsNoForm};
 
-use callbacks::{ByKind, Callbacks};
+use callbacks::{Handler, SharedHandler};
 use irq_io::{Sink, Source};
 use irq_top::{Ending, Outcome, WantedFor, end_early, irq_main};
 use line_makers::MakesDomainLine;
-use notifiers::{ByProcessor, Notifiers};
+use notifiers::Notifier;
 use program_io::{ArgumentsRefused, lend, words_of};
 use std::alloc::Global;
 use std::env::Args;
@@ -24,17 +26,28 @@ use std::thread::Threads;
 use workers::NoGate;
 
 /// Does what the arguments say: reads `src`, prints to `out`, and says on `err` what went wrong.
-/// The handlers answer by their devices' kinds, the notifiers by the processor, no gate holds a
-/// worker, and the maker makes the lines. Unless memory is refused, arguments that are no command's
-/// words end as a fault of usage; so do arguments that aren't all UTF-8.
-pub fn command<R: Threads + Wait + Sync, S: Source, O: Sink, E: Sink, M: MakesDomainLine>(
+/// No gate holds a worker, and the maker makes the lines. Unless memory is refused, arguments that
+/// are no command's words end as a fault of usage; so do arguments that aren't all UTF-8.
+pub fn command<
+    R: Threads + Wait + Sync,
+    S: Source,
+    O: Sink,
+    E: Sink,
+    H: Handler,
+    D: SharedHandler + Sync,
+    M: MakesDomainLine,
+    N: Notifier,
+>(
     rt: &R,
     alloc: Global,
     args: io::Result<Args>,
     src: &mut S,
     out: &mut O,
     err: &mut E,
+    handlers: &mut H,
+    shared: &D,
     maker: &M,
+    notify: &mut N,
 ) -> Outcome
 where
     M::Line: Send + Sync,
@@ -43,10 +56,14 @@ where
         → (result.ending ≡ Ending.Usage) ⊎ (result.ending ≡ Ending.NoMemory WantedFor.Making) }
     ensures not_text { IsNotText args → result.ending ≡ Ending.Usage }
     ensures unasked { IsNoForm args → result.reports.reports ≡ [] }
+    ensures uncalled { IsNoForm args
+        → (Heard H.hears [] handlers.old handlers.new) × Told N.tells [] notify.old notify.new }
     ensures unread { FormReadsNothing args → src.new ≡ src.old }
     ensures does { (asked : Command) → IsForm args asked
-        → Does asked (S.left src.old) (S.left src.new) result.reports.reports (O.written out.old)
-        (O.written out.new) result.ending }
+        → Does (λ runs. Heard H.hears runs handlers.old handlers.new) (D.gave shared.now)
+        (λ placings. Told N.tells placings notify.old notify.new) asked (S.left src.old)
+        (S.left src.new) result.reports.reports (O.written out.old) (O.written out.new)
+        result.ending }
     ensures wanted { (asked : Command) → IsForm args asked
         → TellsWanted M.Line.may_want asked (S.left src.old) result.reports.reports result.ending }
     ensures read_fault { Counts (S.faults src.old) (S.faults src.new)
@@ -63,7 +80,18 @@ where
     ensures quiet { is_printed result.ending ≡ true → err.new ≡ err.old }
 {
     match words_of(alloc, args) {
-        Ok(words) => with_words(rt, alloc, words.as_slice(), src, out, err, maker),
+        Ok(words) => with_words(
+            rt,
+            alloc,
+            words.as_slice(),
+            src,
+            out,
+            err,
+            handlers,
+            shared,
+            maker,
+            notify,
+        ),
         Err(ArgumentsRefused::NotText) => end_early(alloc, Ending::Usage, err),
         Err(ArgumentsRefused::NoMemory) => {
             end_early(alloc, Ending::NoMemory(WantedFor::Making), err)
@@ -72,14 +100,26 @@ where
 }
 
 /// The top call over these words.
-fn with_words<R: Threads + Wait + Sync, S: Source, O: Sink, E: Sink, M: MakesDomainLine>(
+fn with_words<
+    R: Threads + Wait + Sync,
+    S: Source,
+    O: Sink,
+    E: Sink,
+    H: Handler,
+    D: SharedHandler + Sync,
+    M: MakesDomainLine,
+    N: Notifier,
+>(
     rt: &R,
     alloc: Global,
     words: &[String],
     src: &mut S,
     out: &mut O,
     err: &mut E,
+    handlers: &mut H,
+    shared: &D,
     maker: &M,
+    notify: &mut N,
 ) -> Outcome
 where
     M::Line: Send + Sync,
@@ -88,10 +128,14 @@ where
     ensures usage { AsksNothing (map string_bytes words.now)
         → (result.ending ≡ Ending.Usage) ⊎ (result.ending ≡ Ending.NoMemory WantedFor.Making) }
     ensures unasked { AsksNothing (map string_bytes words.now) → result.reports.reports ≡ [] }
+    ensures uncalled { AsksNothing (map string_bytes words.now)
+        → (Heard H.hears [] handlers.old handlers.new) × Told N.tells [] notify.old notify.new }
     ensures unread { ReadsNothing (map string_bytes words.now) → src.new ≡ src.old }
     ensures does { (asked : Command) → Asks (map string_bytes words.now) asked
-        → Does asked (S.left src.old) (S.left src.new) result.reports.reports (O.written out.old)
-        (O.written out.new) result.ending }
+        → Does (λ runs. Heard H.hears runs handlers.old handlers.new) (D.gave shared.now)
+        (λ placings. Told N.tells placings notify.old notify.new) asked (S.left src.old)
+        (S.left src.new) result.reports.reports (O.written out.old) (O.written out.new)
+        result.ending }
     ensures wanted { (asked : Command) → Asks (map string_bytes words.now) asked
         → TellsWanted M.Line.may_want asked (S.left src.old) result.reports.reports result.ending }
     ensures read_fault { Counts (S.faults src.old) (S.faults src.new)
@@ -114,9 +158,10 @@ where
             out,
             err,
             &NoGate,
-            &Callbacks::new(ByKind),
+            handlers,
+            shared,
             maker,
-            &Notifiers::new(ByProcessor),
+            notify,
         ),
         Err(_) => end_early(alloc, Ending::NoMemory(WantedFor::Making), err),
     }

@@ -1,7 +1,9 @@
 //! The body of `main`.
 ghost use Rattle.std.specs.Prelude.{◌≡◌, ◌⊎◌, [], None, IsSome, IfSome, false, true};
 ghost use Rattle.std.specs.Io.Buffered.{writer_buffer, writer_contents, writer_inner};
+ghost use Rattle.callbacks.specs.Heard.{Heard};
 ghost use Rattle.irq_io.specs.Faults.{Counts};
+ghost use Rattle.notifiers.specs.Told.{Told};
 ghost use Rattle.irq_words.specs.declared.Command.{Command};
 ghost use Rattle.program_io.specs.Arguments.{IsNotText};
 ghost use Rattle.program_io.specs.ErrorRows.{Tells};
@@ -11,10 +13,12 @@ ghost use Rattle.irq_top.specs.Ending.{is_write_fault_end, status_of};
 ghost use Rattle.irq_command.specs.Arguments.{FormReadsNothing, IsForm, IsNoForm};
 
 use crate::commands::command;
+use callbacks::{Handler, SharedHandler};
 use irq_base::NoMemory;
 use irq_io::{StdSink, StdSource};
 use irq_top::{Ending, Outcome, WantedFor, end_early};
 use line_makers::MakesDomainLine;
+use notifiers::Notifier;
 use program_io::{with_buffer, without_buffer};
 use std::alloc::Global;
 use std::env::Args;
@@ -39,13 +43,17 @@ pub struct Ended<R: Read + Drop, O: Write + Drop, E: Write + Drop> {
 
 /// Runs the program over its arguments as they come, its input, its output and its error stream.
 /// The output gets a buffer. If the status is 0 or 1, nothing is kept back there, and the writer
-/// has all of the output. The maker makes the lines that are played, run and checked.
+/// has all of the output. The maker makes the lines that are played, run and checked; `handlers` are
+/// called by what is played, `shared` by the threads of `run`.
 pub fn run<
     T: Threads + Wait + Sync,
     R: Read + Drop,
     O: Write + Drop,
     E: Write + Drop,
+    H: Handler,
+    D: SharedHandler + Sync,
     M: MakesDomainLine,
+    N: Notifier,
 >(
     rt: &T,
     alloc: Global,
@@ -53,7 +61,10 @@ pub fn run<
     input: R,
     output: O,
     error: E,
+    handlers: &mut H,
+    shared: &D,
     maker: &M,
+    notify: &mut N,
 ) -> Ended<R, O, E>
 where
     M::Line: Send + Sync,
@@ -68,10 +79,14 @@ where
     ensures not_text { IsNotText args → IsSome result.output
         → result.outcome.ending ≡ Ending.Usage }
     ensures unasked { IsNoForm args → result.outcome.reports.reports ≡ [] }
+    ensures uncalled { IsNoForm args
+        → (Heard H.hears [] handlers.old handlers.new) × Told N.tells [] notify.old notify.new }
     ensures unread { FormReadsNothing args → result.input.reader ≡ input }
     ensures does { (asked : Command) → IsForm args asked
         → IfSome result.output
-        (λ out. Does asked (R.remaining input) (R.remaining result.input.reader)
+        (λ out. Does (λ runs. Heard H.hears runs handlers.old handlers.new) (D.gave shared.now)
+        (λ placings. Told N.tells placings notify.old notify.new) asked (R.remaining input)
+        (R.remaining result.input.reader)
         result.outcome.reports.reports (O.contents output)
         (writer_contents O.contents out.writer) result.outcome.ending) }
     ensures wanted { (asked : Command) → IsForm args asked
@@ -101,7 +116,18 @@ where
     let mut error = without_buffer(alloc, error);
     match with_buffer(alloc, output) {
         Ok(mut output) => {
-            let outcome = command(rt, alloc, args, &mut input, &mut output, &mut error, maker);
+            let outcome = command(
+                rt,
+                alloc,
+                args,
+                &mut input,
+                &mut output,
+                &mut error,
+                handlers,
+                shared,
+                maker,
+                notify,
+            );
             Ended {
                 status: outcome.ending.status(),
                 outcome,

@@ -1,5 +1,5 @@
 -- The marks of a sleep: one Asleep, and then one Wake.
-use Rattle.std.proofs.Common.{◌≡◌, inl, inr, Bool, true, false, cond, IsSome, Option, Some, None, List, [], ◌∷◌, ◌++◌, refl, sym, ap, ◌∙◌, subst}
+use Rattle.std.proofs.Common.{◌≡◌, inl, inr, Bool, true, false, cond, Option, Some, None, List, [], ◌∷◌, ◌++◌, refl, sym, ap, ◌∙◌, subst}
 use Rattle.irq_base.specs.declared.entries.Actor.{Actor}
 use Rattle.irq_base.specs.declared.numbers.LineNo.{LineNo}
 use Rattle.board_def.specs.Rules.{IsBoard, has_driver}

@@ -64,7 +64,7 @@ grown (m ∷ g) lines i x at = one_more (grown g lines i x at)
         }
         by_test false test = record { line = line_after m y.line; at = here; def = y.def; more = y.more; past = past_is false test ∙ y.past }
 
-defs_after : (moves : List Move) (lines : List BoardLine)
+pub defs_after : (moves : List Move) (lines : List BoardLine)
     → map (λ (x : BoardLine). x.def) (lines_after_all moves lines) ≡ map (λ (x : BoardLine). x.def) lines
 defs_after [] lines = refl
 defs_after (m ∷ g) lines = defs_moved (lines_after_all g lines) m ∙ defs_after g lines

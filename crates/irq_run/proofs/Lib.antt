@@ -1,4 +1,5 @@
 mod Coming
+mod Given
 mod Finished
 mod Fresh
 mod Rows

@@ -1,4 +1,5 @@
 pub mod Report
 pub mod Ends
 pub mod Came
+pub mod Given
 pub mod Ran

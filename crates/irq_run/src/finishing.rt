@@ -1,7 +1,8 @@
 //! Prints a run that came to its end, and hands out its reports.
 ghost use Rattle.std.specs.Prelude.{◌≡◌, ◌≤◌, All, length, map};
 ghost use Rattle.board_report.specs.Headline.{told_by};
-ghost use Rattle.board_report.specs.Reporting.{HasRoom};
+ghost use Rattle.board_core.specs.Seen.{board_lines};
+ghost use Rattle.board_report.specs.Reporting.{HasRoom, entries_in};
 ghost use Rattle.board_report.specs.Rows.{HasRows};
 ghost use Rattle.board_report.specs.Summable.{IsSummable};
 ghost use Rattle.irq_io.specs.Faults.{Counts};
@@ -29,8 +30,8 @@ pub(crate) fn print_run<O: Sink, L: IrqLine>(
 ) -> Printed
     requires ran { IsRun board.now system PlayEnd.Done }
     requires room { HasRoom (length board.now.lines) room }
-    ensures printed { IsPrinted board.now summary result.reports.reports (O.written out.old)
-        (O.written out.new) result.end }
+    ensures printed { IsPrinted board.now summary (entries_in (board_lines system.lines))
+        result.reports.reports (O.written out.old) (O.written out.new) result.end }
     ensures emptied { KeepsNone (O.kept out.new) result.end }
     ensures cause { Counts (O.faults out.old) (O.faults out.new) (writing_failed result.end) }
 {

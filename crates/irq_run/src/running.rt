@@ -1,12 +1,16 @@
 //! Runs a board, and prints it.
 ghost use Rattle.std.specs.Prelude.{◌≡◌, [], IfOk, IsTrue, false, length};
 ghost use Rattle.board_def.specs.Layout.{layout_of};
-ghost use Rattle.board_report.specs.Reporting.{HasRoom};
+ghost use Rattle.board_core.specs.Seen.{board_lines};
+ghost use Rattle.board_report.specs.Reporting.{HasRoom, entries_in};
 ghost use Rattle.irq_io.specs.Faults.{Counts};
 ghost use Rattle.irq_run.specs.Came.{AreOver};
 ghost use Rattle.irq_run.specs.Ends.{is_printing, is_write_fault};
-ghost use Rattle.irq_run.specs.Ran.{IsRun, IsRunFull, RunsBoard};
+ghost use Rattle.irq_run.specs.Given.{EachGiven, lines_with};
+ghost use Rattle.irq_run.specs.Ran.{IsRun, IsRunFull, ReportsRun, RunsBoard};
 ghost use Rattle.workers.specs.Fit.{Fit};
+ghost use Rattle.workers.specs.Given.{AreJobsGiven};
+ghost use Rattle.workers.specs.Grown.{AreNew};
 
 use crate::ending::RunEnd;
 use crate::finishing::print_run;
@@ -14,7 +18,7 @@ use board_core::{PlayEnd, System, make_lines};
 use board_def::{Board, Layout};
 use board_layout::lay;
 use board_report::{ReportRoom, hand_out};
-use callbacks::{Callbacks, Handler};
+use callbacks::{Lent, SharedHandler};
 use irq_base::{LineNo, NoMemory, Reports};
 use irq_io::Sink;
 use irq_line::IrqLine;
@@ -37,14 +41,14 @@ pub struct RanBoard {
 /// the board's actors step in threads until none can, and prints each line's entries, line by line,
 /// or with `summary` a summary of them. Up to 64 actors have a thread each, if it can be made; more
 /// of them share threads. The board's picks are not used.
-/// Handlers are called as they are due, and the gate is called before each attempt of a worker. All
+/// Handlers are called as they are due, from all threads, and the gate is called before each attempt of a worker. All
 /// memory is taken before the first row is printed.
 pub fn run_and_print<
     R: Threads + Wait + Sync,
     O: Sink,
     M: MakesDomainLine,
     G: Gate + Sync,
-    H: Handler + Sync,
+    H: SharedHandler + Sync,
 >(
     rt: &R,
     alloc: Global,
@@ -52,13 +56,13 @@ pub fn run_and_print<
     summary: bool,
     maker: &M,
     gate: &G,
-    handlers: &Callbacks<H>,
+    handlers: &H,
     out: &mut O,
 ) -> RanBoard
 where
     M::Line: Send + Sync,
-    ensures runs { RunsBoard board.now summary result.reports.reports (O.written out.old)
-        (O.written out.new) result.end }
+    ensures runs { RunsBoard (H.gave handlers.now) board.now summary result.reports.reports
+        (O.written out.old) (O.written out.new) result.end }
     ensures emptied { result.end ≡ RunEnd.Done → O.kept out.new ≡ [] }
     ensures write_fault { Counts (O.faults out.old) (O.faults out.new) (is_write_fault result.end) }
     ensures silent { is_printing result.end ≡ false → out.new ≡ out.old }
@@ -88,6 +92,7 @@ fn share_board<'b, R: Threads, M: MakesDomainLine>(
     ensures layout { IfOk result (λ shared. shared.0 ≡ layout_of board.now) }
     ensures board { IfOk result (λ shared. shared.2.board ≡ board.now) }
     ensures fit { IfOk result (λ shared. Fit shared.1 shared.2) }
+    ensures new { IfOk result (λ shared. AreNew shared.2) }
 {
     let (domains, layout) = lay(alloc, board)?;
     let maker = OverDomains::of_board(maker, &domains, board);
@@ -98,24 +103,27 @@ fn share_board<'b, R: Threads, M: MakesDomainLine>(
 
 /// Takes the lines back from the workers, whose shifts have ended, and makes the steps that are
 /// left. The only error is `NoMemory` for the lines and the order of steps.
-fn settle<'b, L: IrqLine, H: Handler>(
+fn settle<'b, L: IrqLine, H: SharedHandler>(
     alloc: Global,
     board: &'b Board,
     layout: Layout,
     lines: SharedLines<L>,
     jobs: Jobs<'_, L>,
-    handlers: &Callbacks<H>,
+    handlers: &H,
 ) -> Result<(System<'b, L>, PlayEnd), NoMemory>
     requires layout { layout ≡ layout_of board.now }
     requires board { jobs.board ≡ board.now }
     requires fit { Fit lines jobs }
     requires over { AreOver jobs }
-    ensures { IfOk result (λ ran. IsRun board.now ran.0 ran.1) }
+    requires given { AreJobsGiven (H.gave handlers.now) jobs }
+    ensures run { IfOk result (λ ran. IsRun board.now ran.0 ran.1) }
+    ensures given { IfOk result (λ ran. EachGiven (H.gave handlers.now)
+        (lines_with board.now (entries_in (board_lines ran.0.lines)))) }
 {
     board.is_board();
     let lines = gather(alloc, lines, jobs)?;
     let mut system = System::of_lines(alloc, board, layout, lines)?;
-    let end = system.settle(handlers);
+    let end = system.settle(&mut Lent(handlers));
     Ok((system, end))
 }
 
@@ -129,8 +137,8 @@ fn report_run<O: Sink, L: IrqLine>(
     out: &mut O,
 ) -> RanBoard
     requires { IsRun board.now system end }
-    ensures runs { RunsBoard board.now summary result.reports.reports (O.written out.old)
-        (O.written out.new) result.end }
+    ensures runs { ReportsRun board.now summary (entries_in (board_lines system.lines))
+        result.reports.reports (O.written out.old) (O.written out.new) result.end }
     ensures emptied { result.end ≡ RunEnd.Done → O.kept out.new ≡ [] }
     ensures write_fault { Counts (O.faults out.old) (O.faults out.new) (is_write_fault result.end) }
     ensures silent { is_printing result.end ≡ false → out.new ≡ out.old }
@@ -156,8 +164,8 @@ fn print_done<O: Sink, L: IrqLine>(
     requires ran { IsRun board.now system PlayEnd.Done }
     requires room { HasRoom (length board.now.lines) room }
     ensures printing { IsTrue (is_printing result.end) }
-    ensures runs { RunsBoard board.now summary result.reports.reports (O.written out.old)
-        (O.written out.new) result.end }
+    ensures runs { ReportsRun board.now summary (entries_in (board_lines system.lines))
+        result.reports.reports (O.written out.old) (O.written out.new) result.end }
     ensures emptied { result.end ≡ RunEnd.Done → O.kept out.new ≡ [] }
     ensures write_fault { Counts (O.faults out.old) (O.faults out.new) (is_write_fault result.end) }
 {
@@ -179,7 +187,8 @@ fn report_full<L: IrqLine>(
     requires ran { IsRun board.now system (PlayEnd.Full line len) }
     requires room { HasRoom (length board.now.lines) room }
     ensures end { result.end ≡ RunEnd.LogFull line len }
-    ensures full { IsRunFull board.now result.reports.reports line len }
+    ensures full { IsRunFull board.now (entries_in (board_lines system.lines))
+        result.reports.reports line len }
 {
     board.is_board();
     system.is_kept();

@@ -53,7 +53,7 @@ module _ {H : Type 0} (hears : H → Run → H → Type 0) where
       → Heard hears (runs_by_turn old.system turn) h k → HearsOn hears old h new k
   step_hears old system new due turn r steps heeds h k heard = λ told first before.
       subst (λ (s : SystemSeen). Heard hears (runs_in s) first k) (sym (heeded_system (turned old system) turn r new heeds))
-      (heard_turned hears due turn steps told.lines first h k before heard)
+      (heard_turned hears old.system system due turn steps told.lines first h k before heard)
 
   -- nothing happened
   pub hears_none : (s : SleeperSeen) (h : H) → HearsOn hears s h s h

@@ -12,8 +12,8 @@ use Rattle.board_play.specs.Order.{actors_of, cpus_of, due_move, line_for, threa
 use Rattle.board_play.specs.Play.{first_move, or_move}
 use Rattle.board_core.specs.Firsts.{IsFirstOf}
 use Rattle.board_core.specs.Seen.{SystemSeen, board_lines}
-use Rattle.board_core.specs.Turns.{CanMove, MayMove, Turns, TurnsBy, lowest_move, move_of}
-use Rattle.board_core.specs.Wanted.{HasSpare, LowestWants, WantedMemory, Wants}
+use Rattle.board_core.specs.Turns.{CanMove, MayMove, MayWant, Turns, TurnsBy, lowest_move, move_of}
+use Rattle.board_core.specs.Wanted.{HasSpare, LowestWants, WantedMemory, Wants, WantsLowest}
 use Rattle.board_core.specs.declared.turns.PlayEnd.{PlayEnd}
 use Rattle.board_core.specs.declared.turns.PlayEnd.TheVariants as ends
 use Rattle.board_core.specs.declared.turns.Turn.{Turn}
@@ -46,7 +46,7 @@ module _ (may_want : Option Entry → Type 0) where
       → StepWants may_want old.system (move_of old.system a) r
   step_wants old system new a turn r by wants h =
       heeded_wants (turned old system) old.system (move_of old.system a) turn r new h (λ same. (
-        let t = subst (λ (x : Turn). Turns old.system a x system) same by in
+        let t : MayWant old.system a × (system ≡ old.system) = subst (λ (x : Turn). Turns old.system a x system) same by in
         record {
           actor = a;
           can = t.0.actor;
@@ -59,8 +59,9 @@ module _ (may_want : Option Entry → Type 0) where
       → StepWants may_want old.system (lowest_move old.system) r
   lowest_wants old system new turn r by wants h =
       heeded_wants (turned old system) old.system (lowest_move old.system) turn r new h (λ same. (
-        let t = subst (λ (x : Turn). TurnsBy old.system (lowest_move old.system) x system) same by in
-        let low = subst (λ (x : Turn). LowestWants may_want old.system x) same wants in
+        let t : IsSome (lowest_move old.system) × (system ≡ old.system)
+        = subst (λ (x : Turn). TurnsBy old.system (lowest_move old.system) x system) same by in
+        let low : WantsLowest may_want old.system = subst (λ (x : Turn). LowestWants may_want old.system x) same wants in
         record {
           actor = low.actor;
           can = may_move old.system low.actor (subst (λ (o : Option Move). IsSome o) low.lowest t.0);

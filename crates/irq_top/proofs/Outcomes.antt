@@ -1,17 +1,20 @@
 -- What a command does that takes a board.
 use Rattle.std.proofs.Common.{◌≡◌, ℕ, Bool, false, inr, Option, Some, None, Ok, List, refl, sym, subst}
-use Rattle.irq_base.specs.declared.entries.Entry.{Entry}
+use Rattle.irq_base.specs.declared.devices.Answer.{Answer}
+use Rattle.irq_base.specs.declared.devices.Run.{Run}
 use Rattle.irq_base.specs.declared.reporting.LineReport.{LineReport}
 use Rattle.board_words.specs.declared.faults.FaultKind.{FaultKind}
-use Rattle.irq_play.specs.Played.{TellsStep}
+use Rattle.irq_hotplug.specs.declared.events.Event.{Event}
 use Rattle.irq_play.specs.declared.ending.PlayedEnd.{PlayedEnd}
 use Rattle.irq_play.specs.declared.ending.PlayedEnd.TheVariants as plays
+use Rattle.notifiers.specs.Told.{Notice}
 use Rattle.board_def.specs.Rules.{IsBoard}
 use Rattle.board_def.specs.Seen.{BoardSeen}
 use Rattle.irq_play.specs.declared.ending.WantedFor.TheVariants as wants
 use Rattle.irq_top.specs.declared.ending.Ending.{Ending}
 use Rattle.irq_top.specs.declared.ending.Ending.TheVariants as endings
-use Rattle.irq_top.specs.Commands.{EndsAs, EndsIfFit, IsReadToEnd, IsSane, RunsAs, TakesBoard, TellsPlay, TellsTaken}
+use Rattle.irq_top.specs.Commands.{CallsNobody, EndsAs, EndsIfFit, HotplugsAs, IsReadToEnd, IsSane, RunsAs, TakesBoard, TakesInput}
+use Rattle.irq_top.specs.Commands.{TellsPlay, TellsTaken}
 use Rattle.irq_top.specs.Ending.{ending_of_play, ending_of_refusal, is_read_fault_end}
 use Rattle.program_io.specs.Reading.{IsStated, ReadsBoard}
 use Rattle.program_io.specs.declared.inputs.InputRefused.{InputRefused}
@@ -21,68 +24,54 @@ read_to_end : (told left : Option (List ℕ)) (b : BoardSeen) → ReadsBoard tol
 read_to_end None left b read = tt
 read_to_end (Some bytes) left b read = read.1
 
-module _ (OnBoard : BoardSeen → List LineReport → Option (List ℕ) → Option (List ℕ) → Ending → Type 0)
-    (sane : IsSane OnBoard) (told left before now : Option (List ℕ)) (reports : List LineReport) where
-  pub takes_board : (ending : Ending) (b : BoardSeen) → ReadsBoard told left (Ok b) → IsStated told b → IsBoard b
-      → OnBoard b reports before now ending → TakesBoard OnBoard told left reports before now ending
-  takes_board endings.ReadFault b read stated keeps done = absurd (sane.no_read_fault b reports before now done)
-  takes_board (endings.NoMemory wants.Making) b read stated keeps done = sane.unmade b reports before now done
-  takes_board (endings.Board fault) b read stated keeps done
-      = inr (record {
-        board = b;
-        stated = stated;
-        read = read_to_end told left b read;
-        keeps_rules = keeps;
-        done
-            = done;
-      })
-  takes_board endings.Done b read stated keeps done = record {
-    board = b;
-    stated = stated;
-    read
-        = read_to_end told left b read;
-    keeps_rules = keeps;
-    done = done;
-  }
-  takes_board (endings.Unlawful line entry) b read stated keeps done
-      = record { board = b; stated = stated; read = read_to_end told left b read; keeps_rules = keeps; done = done }
-  takes_board (endings.Malformed row) b read stated keeps done
-      = record { board = b; stated = stated; read = read_to_end told left b read; keeps_rules = keeps; done = done }
-  takes_board endings.Usage b read stated keeps done =
+module _ (nobody : Type 0) (OnBoard : BoardSeen → List LineReport → Option (List ℕ) → Option (List ℕ) → Ending → Type 0)
+    (sane : IsSane nobody OnBoard) (told left before now : Option (List ℕ)) (reports : List LineReport) where
+  -- what was done with the board that was read
+  taken : (ending : Ending) (b : BoardSeen) → ReadsBoard told left (Ok b) → IsStated told b → IsBoard b
+      → OnBoard b reports before now ending → TakesInput nobody OnBoard told left reports before now ending
+  taken ending b read stated keeps done =
       record { board = b; stated = stated; read = read_to_end told left b read; keeps_rules = keeps; done = done }
-  takes_board endings.WriteFault b read stated keeps done
-      = record { board = b; stated = stated; read = read_to_end told left b read; keeps_rules = keeps; done = done }
-  takes_board (endings.LogFull line len) b read stated keeps done
-      = record { board = b; stated = stated; read = read_to_end told left b read; keeps_rules = keeps; done = done }
-  takes_board (endings.NoMemory wants.Step) b read stated keeps done
-      = record { board = b; stated = stated; read = read_to_end told left b read; keeps_rules = keeps; done = done }
+
+  pub takes_board : (ending : Ending) (b : BoardSeen) → ReadsBoard told left (Ok b) → IsStated told b → IsBoard b
+      → OnBoard b reports before now ending → TakesBoard nobody OnBoard told left reports before now ending
+  takes_board endings.ReadFault b read stated keeps done = absurd (sane b reports before now done)
+  takes_board (endings.NoMemory wants.Making) b read stated keeps done = inr (taken (endings.NoMemory wants.Making) b read stated keeps done)
+  takes_board (endings.Board fault) b read stated keeps done = inr (taken (endings.Board fault) b read stated keeps done)
+  takes_board endings.Done b read stated keeps done = taken endings.Done b read stated keeps done
+  takes_board (endings.Unlawful line entry) b read stated keeps done = taken (endings.Unlawful line entry) b read stated keeps done
+  takes_board (endings.Malformed row) b read stated keeps done = taken (endings.Malformed row) b read stated keeps done
+  takes_board endings.Usage b read stated keeps done = taken endings.Usage b read stated keeps done
+  takes_board endings.WriteFault b read stated keeps done = taken endings.WriteFault b read stated keeps done
+  takes_board (endings.LogFull line len) b read stated keeps done = taken (endings.LogFull line len) b read stated keeps done
+  takes_board (endings.NoMemory wants.Step) b read stated keeps done = taken (endings.NoMemory wants.Step) b read stated keeps done
 
   -- it came without a read fault
   pub taken_unread : (ending : Ending) (b : BoardSeen) → OnBoard b reports before now ending → is_read_fault_end ending ≡ false
-  taken_unread endings.ReadFault b done = absurd (sane.no_read_fault b reports before now done)
+  taken_unread endings.ReadFault b done = absurd (sane b reports before now done)
   taken_unread _ b done = refl
 
-pub runs_are_sane : (summary : Bool) → IsSane (RunsAs summary)
-runs_are_sane summary = record {
-  no_read_fault = λ b reports before now none. none;
-  unmade = λ b reports before now unmade. unmade;
-}
+pub runs_are_sane : (gave : Run → Answer → Type 0) (summary : Bool) → IsSane (Unit {0}) (RunsAs gave summary)
+runs_are_sane gave summary b reports before now none = none
+
+pub hotplugs_are_sane : (heard : List Run → Type 0) (placed : List Notice → Type 0) (vectors : ℕ) (events : List Event)
+    → IsSane (CallsNobody heard placed) (HotplugsAs heard placed vectors events)
+hotplugs_are_sane heard placed vectors events b reports before now none = none
 
 -- the call ends as the play did
-module _ (IsntFor : BoardSeen → Type 0) (kind : FaultKind)
+module _ (IsntFor : BoardSeen → Type 0) (nobody : Type 0) (kind : FaultKind)
     (Plays : BoardSeen → List LineReport → Option (List ℕ) → Option (List ℕ) → PlayedEnd → Type 0) (b : BoardSeen) (before now : Option (List ℕ)) where
   by_end : (reports : List LineReport) (end : PlayedEnd) → Plays b reports before now end
-      → EndsIfFit IsntFor kind Plays b reports before now (ending_of_play end)
+      → EndsIfFit IsntFor nobody kind Plays b reports before now (ending_of_play end)
   by_end reports plays.Done played = played
   by_end reports plays.WriteFault played = played
   by_end reports (plays.LogFull line len) played = played
   by_end reports (plays.NoMemory wanted) played = played
 
   pub ends_as_played : (reports told : List LineReport) (end : PlayedEnd) (ending : Ending) → ending ≡ ending_of_play end
-      → told ≡ reports → Plays b reports before now end → EndsIfFit IsntFor kind Plays b told before now ending
+      → told ≡ reports → Plays b reports before now end → EndsIfFit IsntFor nobody kind Plays b told before now ending
   ends_as_played reports told end ending is handed played =
-      subst (λ (e : Ending). EndsIfFit IsntFor kind Plays b told before now e) (sym is)
-      (subst (λ (rs : List LineReport). EndsIfFit IsntFor kind Plays b rs before now (ending_of_play end)) (sym handed)
+      subst (λ (e : Ending). EndsIfFit IsntFor nobody kind Plays b told before now e) (sym is)
+      (subst (λ (rs : List LineReport). EndsIfFit IsntFor nobody kind Plays b rs before now (ending_of_play end)) (sym handed)
       (by_end reports end played))
 
 -- the same of a play that every board is for
@@ -101,8 +90,8 @@ module _ (Plays : BoardSeen → List LineReport → Option (List ℕ) → Option
 
 -- ---- what is told of a step that was refused memory
 
-module _ (Tells : BoardSeen → List LineReport → Ending → Type 0) (told : Option (List ℕ)) (reports : List LineReport) where
-  pub taken_tells : (ending : Ending) (b : BoardSeen) → IsStated told b → Tells b reports ending → TellsTaken Tells told reports ending
+module _ (Tells : BoardSeen → List LineReport → PlayedEnd → Type 0) (told : Option (List ℕ)) (reports : List LineReport) where
+  pub taken_tells : (ending : Ending) (b : BoardSeen) → IsStated told b → TellsPlay Tells b reports ending → TellsTaken Tells told reports ending
   taken_tells (endings.NoMemory wants.Step) b stated tells = (b, stated, tells)
   taken_tells (endings.NoMemory wants.Making) b stated tells = tt
   taken_tells endings.Done b stated tells = tt
@@ -122,15 +111,15 @@ module _ (Tells : BoardSeen → List LineReport → Ending → Type 0) (told : O
   pub refused_tells : (refused : InputRefused) (ending : Ending) → ending ≡ ending_of_refusal refused → TellsTaken Tells told reports ending
   refused_tells refused ending is = subst (λ (e : Ending). TellsTaken Tells told reports e) (sym is) (by_refusal refused)
 
-module _ (may_want : Option Entry → Type 0) (b : BoardSeen) (reports : List LineReport) where
-  by_step : (end : PlayedEnd) → TellsStep may_want b reports end → TellsPlay may_want b reports (ending_of_play end)
+module _ (Tells : BoardSeen → List LineReport → PlayedEnd → Type 0) (b : BoardSeen) (reports : List LineReport) where
+  by_step : (end : PlayedEnd) → Tells b reports end → TellsPlay Tells b reports (ending_of_play end)
   by_step plays.Done tells = tt
   by_step plays.WriteFault tells = tt
   by_step (plays.LogFull line len) tells = tt
   by_step (plays.NoMemory wanted) tells = tells
 
   pub tells_as_played : (told : List LineReport) (end : PlayedEnd) (ending : Ending) → ending ≡ ending_of_play end
-      → told ≡ reports → TellsStep may_want b reports end → TellsPlay may_want b told ending
+      → told ≡ reports → Tells b reports end → TellsPlay Tells b told ending
   tells_as_played told end ending is handed tells =
-      subst (λ (e : Ending). TellsPlay may_want b told e) (sym is)
-      (subst (λ (rs : List LineReport). TellsPlay may_want b rs (ending_of_play end)) (sym handed) (by_step end tells))
+      subst (λ (e : Ending). TellsPlay Tells b told e) (sym is)
+      (subst (λ (rs : List LineReport). TellsPlay Tells b rs (ending_of_play end)) (sym handed) (by_step end tells))

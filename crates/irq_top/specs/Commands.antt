@@ -1,7 +1,12 @@
 -- What each command does, ending by ending. `told` is what the source told of its bytes, `left`
 -- what it has left of them; `before` and `now` are what the output has; `reports` are the histories
--- that are handed out.
+-- that are handed out. Of runs, the newest first, `heard` says that handlers were called once for
+-- each, in this order, and for no other; of a run and an answer `gave` says that the handlers which
+-- threads share gave it in a call; and of placings `placed` says that the notifier was told of these,
+-- in this order, and of no other.
 use Rattle.std.specs.Prelude.{◌≡◌, ◌⊎◌, ℕ, Bool, true, false, Option, Some, None, Err, List, []}
+use Rattle.irq_base.specs.declared.devices.Answer.{Answer}
+use Rattle.irq_base.specs.declared.devices.Run.{Run}
 use Rattle.irq_base.specs.declared.entries.Entry.{Entry}
 use Rattle.irq_base.specs.declared.numbers.LineNo.{LineNo}
 use Rattle.irq_base.specs.declared.reporting.LineReport.{LineReport}
@@ -12,17 +17,22 @@ use Rattle.board_stated.specs.TextOf.{whole}
 use Rattle.board_words.specs.declared.faults.BoardFault.{BoardFault}
 use Rattle.board_words.specs.declared.faults.FaultKind.{FaultKind}
 use Rattle.board_words.specs.declared.faults.FaultKind.TheVariants as faults
+use Rattle.chained_play.specs.Played as chains
 use Rattle.chained_play.specs.Played.{ChainsBoard}
-use Rattle.hotplug_plan.specs.Planned.{IsForHotplug}
+use Rattle.hotplug_plan.specs.Planned.{IsForHotplug, planned_after}
 use Rattle.hotplug_play.specs.Played.{HotplugsBoard}
 use Rattle.irq_chained.specs.Fits.{is_for_chain}
 use Rattle.irq_hotplug.specs.declared.events.Event.{Event}
 use Rattle.irq_check.specs.Ends.{Reads, SaysOrNot}
+use Rattle.log_check.specs.declared.verdict.Verdict.{Verdict}
 use Rattle.log_check.specs.declared.verdict.Verdict.TheVariants as verdicts
+use Rattle.irq_check.specs.declared.answers.Judgement.{Judgement}
 use Rattle.irq_check.specs.declared.printing.CheckEnd.{CheckEnd}
 use Rattle.irq_check.specs.declared.printing.CheckEnd.TheVariants as checks
 use Rattle.irq_play.specs.Played.{PlaysBoard, TellsStep}
 use Rattle.irq_pm.specs.SleptBoard.{is_for_sleep}
+use Rattle.notifiers.specs.Told.{Notice}
+use Rattle.sleep_play.specs.Played as sleeps
 use Rattle.sleep_play.specs.Played.{SleepsBoard}
 use Rattle.irq_play.specs.declared.ending.PlayedEnd.{PlayedEnd}
 use Rattle.irq_play.specs.declared.ending.PlayedEnd.TheVariants as plays
@@ -43,16 +53,21 @@ abbrev pub IsReadToEnd : Option (List ℕ) → Option (List ℕ) → Type 0
 IsReadToEnd None left = Unit {0}
 IsReadToEnd (Some bytes) left = left ≡ Some []
 
--- the source gave no board
-pub record RefusesInput (told left : Option (List ℕ)) (reports : List LineReport)
+-- nobody was called: handlers and notifier are as they were
+abbrev pub CallsNobody : (List Run → Type 0) → (List Notice → Type 0) → Type 0
+CallsNobody heard placed = heard [] × placed []
+
+-- the source gave no board, and `nobody` was called
+pub record RefusesInput (nobody : Type 0) (told left : Option (List ℕ)) (reports : List LineReport)
     (refused : InputRefused) : Type 0 where
   pub read : ReadsBoard told left (Err refused)
   pub reports_are : reports ≡ []
+  pub uncalled : nobody
 
 -- what a command does with a board: with these reports, with this output before and now, and with
 -- this ending
-module _ (OnBoard : BoardSeen → List LineReport → Option (List ℕ) → Option (List ℕ) → Ending
-    → Type 0) where
+module _ (nobody : Type 0) (OnBoard : BoardSeen → List LineReport → Option (List ℕ)
+    → Option (List ℕ) → Ending → Type 0) where
   -- the command did it with the board that the source told
   pub record TakesInput (told left : Option (List ℕ)) (reports : List LineReport)
       (before now : Option (List ℕ)) (ending : Ending) : Type 0 where
@@ -62,25 +77,23 @@ module _ (OnBoard : BoardSeen → List LineReport → Option (List ℕ) → Opti
     pub keeps_rules : IsBoard board
     pub done : OnBoard board reports before now ending
 
-  -- the command did it with the board that the source told; or the source gave no board; or memory
-  -- was refused for anything but a step of a play, and nothing is handed out
+  -- the command did it with the board that the source told; or the source gave no board
   abbrev pub TakesBoard : Option (List ℕ) → Option (List ℕ) → List LineReport → Option (List ℕ)
       → Option (List ℕ) → Ending → Type 0
   TakesBoard told left reports before now (endings.Board fault) =
-      RefusesInput told left reports (refusals.Fault fault)
+      RefusesInput nobody told left reports (refusals.Fault fault)
       ⊎ TakesInput told left reports before now (endings.Board fault)
   TakesBoard told left reports before now endings.ReadFault =
-      RefusesInput told left reports refusals.ReadFault
-  TakesBoard told left reports before now (endings.NoMemory wants.Making) = reports ≡ []
+      RefusesInput nobody told left reports refusals.ReadFault
+  TakesBoard told left reports before now (endings.NoMemory wants.Making) =
+      RefusesInput nobody told left reports refusals.NoMemory
+      ⊎ TakesInput told left reports before now (endings.NoMemory wants.Making)
   TakesBoard told left reports before now ending = TakesInput told left reports before now ending
 
-  -- what a command does with a board is never a read fault, and it hands nothing out if memory was
-  -- refused for anything but a step
-  pub record IsSane : Type 0 where
-    pub no_read_fault : (b : BoardSeen) (reports : List LineReport) (before now : Option (List ℕ))
-        → OnBoard b reports before now endings.ReadFault → ⊥
-    pub unmade : (b : BoardSeen) (reports : List LineReport) (before now : Option (List ℕ))
-        → OnBoard b reports before now (endings.NoMemory wants.Making) → reports ≡ []
+  -- what a command does with a board is never a read fault
+  abbrev pub IsSane : Type 0
+  IsSane = (b : BoardSeen) (reports : List LineReport) (before now : Option (List ℕ))
+      → OnBoard b reports before now endings.ReadFault → ⊥
 
 -- a board was played. If all is printed, or after a fault of the output, the play's headline holds;
 -- else it was played until a log was full, or until a step was refused memory
@@ -96,133 +109,158 @@ module _ (Plays : BoardSeen → List LineReport → Option (List ℕ) → Option
       Plays b reports before now (plays.NoMemory wanted)
   EndsAs b reports before now _ = ⊥
 
--- the board isn't for what is asked: this fault of the whole text says so, and nothing is handed
--- out
-pub record IsRefused (isnt_for : Type 0) (kind : FaultKind) (reports : List LineReport)
+-- the board isn't for what is asked: this fault of the whole text says so, nothing is handed out,
+-- and `nobody` was called
+pub record IsRefused (isnt_for nobody : Type 0) (kind : FaultKind) (reports : List LineReport)
     (fault : BoardFault) : Type 0 where
   pub because : isnt_for
   pub fault_is : fault ≡ whole kind
   pub reports_are : reports ≡ []
+  pub uncalled : nobody
 
 -- a board was played, if it is for that; else it is refused
-module _ (IsntFor : BoardSeen → Type 0) (kind : FaultKind)
+module _ (IsntFor : BoardSeen → Type 0) (nobody : Type 0) (kind : FaultKind)
     (Plays : BoardSeen → List LineReport → Option (List ℕ) → Option (List ℕ) → PlayedEnd
     → Type 0) where
   abbrev pub EndsIfFit : BoardSeen → List LineReport → Option (List ℕ) → Option (List ℕ) → Ending
       → Type 0
   EndsIfFit b reports before now (endings.Board fault) =
-      IsRefused (IsntFor b) kind reports fault
+      IsRefused (IsntFor b) nobody kind reports fault
   EndsIfFit b reports before now ending = EndsAs Plays b reports before now ending
 
--- a board was played by the stated order
-abbrev pub PlaysAs : Bool → BoardSeen → List LineReport → Option (List ℕ) → Option (List ℕ) → Ending
-    → Type 0
-PlaysAs summary = EndsAs (λ b. PlaysBoard b summary)
+module _ (heard : List Run → Type 0) where
+  -- a board was played by the stated order
+  abbrev pub PlaysAs : Bool → BoardSeen → List LineReport → Option (List ℕ) → Option (List ℕ)
+      → Ending → Type 0
+  PlaysAs summary = EndsAs (λ b. PlaysBoard b summary heard)
 
--- a board was played behind one demultiplexer; exactly a board that isn't for a chain is refused
-abbrev pub ChainsAs : BoardSeen → List LineReport → Option (List ℕ) → Option (List ℕ) → Ending
-    → Type 0
-ChainsAs = EndsIfFit (λ b. is_for_chain b ≡ false) faults.NotForChain ChainsBoard
+  -- a board was played behind one demultiplexer; exactly a board that isn't for a chain is refused
+  abbrev pub ChainsAs : BoardSeen → List LineReport → Option (List ℕ) → Option (List ℕ) → Ending
+      → Type 0
+  ChainsAs = EndsIfFit (λ b. is_for_chain b ≡ false) (heard []) faults.NotForChain
+      (λ b. ChainsBoard b heard)
 
--- a board was played with processors that go offline and come back; exactly a board that isn't for
--- it is refused
-abbrev pub HotplugsAs : ℕ → List Event → BoardSeen → List LineReport → Option (List ℕ)
-    → Option (List ℕ) → Ending → Type 0
-HotplugsAs vectors events = EndsIfFit (λ b. IsForHotplug b → ⊥) faults.NotForHotplug
-    (λ b. HotplugsBoard b vectors events)
+  -- a board was played with processors that go offline and come back, and the notifier told of each
+  -- placing; exactly a board that isn't for it is refused
+  abbrev pub HotplugsAs : (List Notice → Type 0) → ℕ → List Event → BoardSeen → List LineReport
+      → Option (List ℕ) → Option (List ℕ) → Ending → Type 0
+  HotplugsAs placed vectors events = EndsIfFit (λ b. IsForHotplug b → ⊥) (CallsNobody heard placed)
+      faults.NotForHotplug (λ b. HotplugsBoard b vectors events heard placed)
 
--- a board was played with a sleep, from which the armed lines wake it; exactly a board that isn't
--- for it, with these lines, is refused
-abbrev pub SleepsAs : List LineNo → BoardSeen → List LineReport → Option (List ℕ)
-    → Option (List ℕ) → Ending → Type 0
-SleepsAs armed = EndsIfFit (λ b. is_for_sleep b armed ≡ false) faults.NotForSleep
-    (λ b. SleepsBoard b armed)
+  -- a board was played with a sleep, from which the armed lines wake it; exactly a board that isn't
+  -- for it, with these lines, is refused
+  abbrev pub SleepsAs : List LineNo → BoardSeen → List LineReport → Option (List ℕ)
+      → Option (List ℕ) → Ending → Type 0
+  SleepsAs armed = EndsIfFit (λ b. is_for_sleep b armed ≡ false) (heard []) faults.NotForSleep
+      (λ b. SleepsBoard b armed heard)
 
 -- a board was run by threads. If all is printed, or after a fault of the output, the headline of a
 -- run holds; else it was run until a log was full
-abbrev pub RunsAs : Bool → BoardSeen → List LineReport → Option (List ℕ) → Option (List ℕ) → Ending
-    → Type 0
-RunsAs summary b reports before now endings.Done = RunsBoard b summary reports before now runs.Done
-RunsAs summary b reports before now endings.WriteFault =
-    RunsBoard b summary reports before now runs.WriteFault
-RunsAs summary b reports before now (endings.LogFull line len) =
-    RunsBoard b summary reports before now (runs.LogFull line len)
-RunsAs summary b reports before now (endings.NoMemory wants.Making) = reports ≡ []
-RunsAs summary b reports before now _ = ⊥
+abbrev pub RunsAs : (gave : Run → Answer → Type 0) → Bool → BoardSeen → List LineReport
+    → Option (List ℕ) → Option (List ℕ) → Ending → Type 0
+RunsAs gave summary b reports before now endings.Done =
+    RunsBoard gave b summary reports before now runs.Done
+RunsAs gave summary b reports before now endings.WriteFault =
+    RunsBoard gave b summary reports before now runs.WriteFault
+RunsAs gave summary b reports before now (endings.LogFull line len) =
+    RunsBoard gave b summary reports before now (runs.LogFull line len)
+RunsAs gave summary b reports before now (endings.NoMemory wants.Making) =
+    RunsBoard gave b summary reports before now runs.NoMemory
+RunsAs gave summary b reports before now _ = ⊥
 
--- the input was checked, with this end, and no history is handed out
-pub record ChecksInput (told left : Option (List ℕ)) (reports : List LineReport)
+-- the input was checked, with this end, and no history is handed out; `why`: with the reason of a
+-- log that is unlawful
+pub record ChecksInput (why : Bool) (told left : Option (List ℕ)) (reports : List LineReport)
     (before now : Option (List ℕ)) (end : CheckEnd) : Type 0 where
-  pub reads : Reads told left end
-  pub says : SaysOrNot told before now end
+  pub reads : Reads why told left end
+  pub says : SaysOrNot why told before now end
   pub reports_are : reports ≡ []
+
+-- the log of the input has this verdict
+abbrev pub Answers : (why : Bool) → Option (List ℕ) → Option (List ℕ) → List LineReport
+    → Option (List ℕ) → Option (List ℕ) → Verdict → Type 0
+Answers why told left reports before now verdict =
+    (answer : Judgement) × (answer.verdict ≡ verdict)
+    × ChecksInput why told left reports before now (checks.Answered answer)
 
 -- `check`: the log of the input is lawful; or unlawful, or malformed, as the ending says; or the
 -- input is refused
-abbrev pub Checks : Option (List ℕ) → Option (List ℕ) → List LineReport → Option (List ℕ)
-    → Option (List ℕ) → Ending → Type 0
-Checks told left reports before now endings.Done =
-    ChecksInput told left reports before now (checks.Answered verdicts.Lawful)
-Checks told left reports before now (endings.Unlawful line entry) =
-    ChecksInput told left reports before now (checks.Answered (verdicts.Unlawful line entry))
-Checks told left reports before now (endings.Malformed row) =
-    ChecksInput told left reports before now (checks.Answered (verdicts.Malformed row))
-Checks told left reports before now endings.WriteFault =
-    ChecksInput told left reports before now checks.WriteFault
-Checks told left reports before now (endings.Board fault) =
-    ChecksInput told left reports before now (checks.Fault fault)
-Checks told left reports before now endings.ReadFault =
-    ChecksInput told left reports before now checks.ReadFault
-Checks told left reports before now (endings.NoMemory wants.Making) = reports ≡ []
-Checks told left reports before now _ = ⊥
+abbrev pub Checks : (why : Bool) → Option (List ℕ) → Option (List ℕ) → List LineReport
+    → Option (List ℕ) → Option (List ℕ) → Ending → Type 0
+Checks why told left reports before now endings.Done =
+    Answers why told left reports before now verdicts.Lawful
+Checks why told left reports before now (endings.Unlawful line entry) =
+    Answers why told left reports before now (verdicts.Unlawful line entry)
+Checks why told left reports before now (endings.Malformed row) =
+    Answers why told left reports before now (verdicts.Malformed row)
+Checks why told left reports before now endings.WriteFault =
+    ChecksInput why told left reports before now checks.WriteFault
+Checks why told left reports before now (endings.Board fault) =
+    ChecksInput why told left reports before now (checks.Fault fault)
+Checks why told left reports before now endings.ReadFault =
+    ChecksInput why told left reports before now checks.ReadFault
+Checks why told left reports before now (endings.NoMemory wants.Making) = reports ≡ []
+Checks why told left reports before now _ = ⊥
 
--- what each command does. `run`, `play`, `chained`, `hotplug` and `sleep` take a board, and run it,
+-- What each command does. `run`, `play`, `chained`, `hotplug` and `sleep` take a board, and run it,
 -- play it, or play it behind one demultiplexer, with processors that go offline, or with a sleep;
--- `check` judges a log; `gen N` plays the board that the number generates, and prints its summary
-abbrev pub Does : Command → Option (List ℕ) → Option (List ℕ) → List LineReport → Option (List ℕ)
-    → Option (List ℕ) → Ending → Type 0
-Does (commands.Run summary) told left reports before now ending =
-    TakesBoard (RunsAs summary) told left reports before now ending
-Does (commands.Play summary) told left reports before now ending =
-    TakesBoard (PlaysAs summary) told left reports before now ending
-Does commands.Check told left reports before now ending = Checks told left reports before now ending
-Does (commands.Gen n) told left reports before now ending =
-    PlaysAs true (generated n) reports before now ending
-Does commands.Chained told left reports before now ending =
-    TakesBoard ChainsAs told left reports before now ending
-Does (commands.Hotplug vectors events) told left reports before now ending =
-    TakesBoard (HotplugsAs vectors events) told left reports before now ending
-Does (commands.Sleep armed) told left reports before now ending =
-    TakesBoard (SleepsAs armed) told left reports before now ending
+-- `check` judges a log; `gen N` plays the board that the number generates, and prints its summary.
+-- `hotplug` alone tells the notifier of anything, `run` and `check` call no handler but shared ones.
+module _ (heard : List Run → Type 0) (gave : Run → Answer → Type 0) (placed : List Notice → Type 0)
+    where
+  abbrev pub Does : Command → Option (List ℕ) → Option (List ℕ) → List LineReport
+      → Option (List ℕ) → Option (List ℕ) → Ending → Type 0
+  Does (commands.Run summary) told left reports before now ending =
+      TakesBoard (Unit {0}) (RunsAs gave summary) told left reports before now ending
+      × CallsNobody heard placed
+  Does (commands.Play summary) told left reports before now ending =
+      TakesBoard (heard []) (PlaysAs heard summary) told left reports before now ending
+      × placed []
+  Does (commands.Check why) told left reports before now ending =
+      Checks why told left reports before now ending × CallsNobody heard placed
+  Does (commands.Gen n) told left reports before now ending =
+      PlaysAs heard true (generated n) reports before now ending × placed []
+  Does commands.Chained told left reports before now ending =
+      TakesBoard (heard []) (ChainsAs heard) told left reports before now ending × placed []
+  Does (commands.Hotplug vectors events) told left reports before now ending =
+      TakesBoard (CallsNobody heard placed) (HotplugsAs heard placed vectors events) told left
+      reports before now ending
+  Does (commands.Sleep armed) told left reports before now ending =
+      TakesBoard (heard []) (SleepsAs heard armed) told left reports before now ending × placed []
 
 -- which step of a play was refused memory; `may_want` says for which entry that is due a line may
 -- want memory, though its history has room
-abbrev pub TellsPlay : (Option Entry → Type 0) → BoardSeen → List LineReport → Ending → Type 0
-TellsPlay may_want b reports (endings.NoMemory wanted) =
-    TellsStep may_want b reports (plays.NoMemory wanted)
-TellsPlay may_want b reports ending = Unit {0}
+module _ (Tells : BoardSeen → List LineReport → PlayedEnd → Type 0) where
+  abbrev pub TellsPlay : BoardSeen → List LineReport → Ending → Type 0
+  TellsPlay b reports (endings.NoMemory wanted) = Tells b reports (plays.NoMemory wanted)
+  TellsPlay b reports ending = Unit {0}
 
--- if a step was refused memory, this is told, of the board that the source told
-abbrev pub TellsTaken : (BoardSeen → List LineReport → Ending → Type 0) → Option (List ℕ)
-    → List LineReport → Ending → Type 0
-TellsTaken Tells told reports (endings.NoMemory wants.Step) =
-    (b : BoardSeen) × IsStated told b × Tells b reports (endings.NoMemory wants.Step)
-TellsTaken Tells told reports ending = Unit {0}
+  -- the same, of the board that the source told
+  abbrev pub TellsTaken : Option (List ℕ) → List LineReport → Ending → Type 0
+  TellsTaken told reports (endings.NoMemory wants.Step) =
+      (b : BoardSeen) × IsStated told b × Tells b reports (plays.NoMemory wants.Step)
+  TellsTaken told reports ending = Unit {0}
 
--- what `play` and `gen N` tell of a step that was refused memory
+-- what each command tells of a step that was refused memory
 abbrev pub TellsWanted : (Option Entry → Type 0) → Command → Option (List ℕ) → List LineReport
     → Ending → Type 0
 TellsWanted may_want (commands.Play summary) told reports ending =
-    TellsTaken (TellsPlay may_want) told reports ending
+    TellsTaken (TellsStep may_want) told reports ending
 TellsWanted may_want (commands.Gen n) told reports ending =
-    TellsPlay may_want (generated n) reports ending
+    TellsPlay (TellsStep may_want) (generated n) reports ending
+TellsWanted may_want commands.Chained told reports ending =
+    TellsTaken (chains.TellsStep may_want) told reports ending
+TellsWanted may_want (commands.Hotplug vectors events) told reports ending =
+    TellsTaken (λ b. TellsStep may_want (planned_after b vectors events)) told reports ending
+TellsWanted may_want (commands.Sleep armed) told reports ending =
+    TellsTaken (λ b. sleeps.TellsStep may_want b armed) told reports ending
 TellsWanted may_want asked told reports ending = Unit {0}
 
 -- whether the command reads the source
 abbrev pub reads : Command → Bool
 reads (commands.Run summary) = true
 reads (commands.Play summary) = true
-reads commands.Check = true
+reads (commands.Check why) = true
 reads (commands.Gen n) = false
 reads commands.Chained = true
 reads (commands.Hotplug vectors events) = true

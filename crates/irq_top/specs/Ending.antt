@@ -3,6 +3,7 @@ use Rattle.std.specs.Prelude.{ℕ, Bool, true, false, List, [], ◌++◌, codes}
 use Rattle.program_io.specs.ErrorRows.{fault_row, full_row}
 use Rattle.program_io.specs.declared.inputs.InputRefused.{InputRefused}
 use Rattle.program_io.specs.declared.inputs.InputRefused.TheVariants as refusals
+use Rattle.log_check.specs.declared.verdict.Verdict.{Verdict}
 use Rattle.log_check.specs.declared.verdict.Verdict.TheVariants as verdicts
 use Rattle.irq_check.specs.declared.printing.CheckEnd.{CheckEnd}
 use Rattle.irq_check.specs.declared.printing.CheckEnd.TheVariants as checks
@@ -30,7 +31,7 @@ error_text endings.Done = []
 error_text (endings.Unlawful line entry) = []
 error_text (endings.Malformed row) = []
 error_text endings.Usage =
-    codes "usage: genirq run [--summary] | play [--summary] | check | gen N"
+    codes "usage: genirq run [--summary] | play [--summary] | check [--why] | gen N"
     ++ codes " | chained | hotplug V EVENT... | sleep LINE...\n"
 error_text (endings.Board fault) = fault_row fault
 error_text endings.ReadFault = codes "read fault\n"
@@ -55,10 +56,13 @@ ending_of_run runs.WriteFault = endings.WriteFault
 ending_of_run (runs.LogFull line len) = endings.LogFull line len
 ending_of_run runs.NoMemory = endings.NoMemory wants.Making
 
+abbrev pub ending_of_verdict : Verdict → Ending
+ending_of_verdict verdicts.Lawful = endings.Done
+ending_of_verdict (verdicts.Unlawful line entry) = endings.Unlawful line entry
+ending_of_verdict (verdicts.Malformed row) = endings.Malformed row
+
 abbrev pub ending_of_check : CheckEnd → Ending
-ending_of_check (checks.Answered verdicts.Lawful) = endings.Done
-ending_of_check (checks.Answered (verdicts.Unlawful line entry)) = endings.Unlawful line entry
-ending_of_check (checks.Answered (verdicts.Malformed row)) = endings.Malformed row
+ending_of_check (checks.Answered answer) = ending_of_verdict answer.verdict
 ending_of_check (checks.Fault fault) = endings.Board fault
 ending_of_check checks.ReadFault = endings.ReadFault
 ending_of_check checks.WriteFault = endings.WriteFault

@@ -1,6 +1,6 @@
 //! How a call of the program ends, in words and numbers.
 ghost use Rattle.std.specs.Prelude.{◌≡◌};
-ghost use Rattle.irq_top.specs.Ending.{status_of};
+ghost use Rattle.irq_top.specs.Ending.{ending_of_verdict, status_of};
 
 use board_text::BoardFault;
 use irq_base::LineNo;
@@ -99,6 +99,19 @@ impl From<RunEnd> for Ending {
     }
 }
 
+impl Ending {
+    /// The ending at which the verdict on a log is printed.
+    fn of_verdict(verdict: Verdict) -> Ending
+        ensures { result ≡ ending_of_verdict verdict }
+    {
+        match verdict {
+            Verdict::Lawful => Ending::Done,
+            Verdict::Unlawful { line, entry } => Ending::Unlawful { line, entry },
+            Verdict::Malformed { row } => Ending::Malformed { row },
+        }
+    }
+}
+
 impl From<CheckEnd> for Ending {
     ghost use Rattle.std.specs.Prelude.{◌≡◌};
     ghost use Rattle.irq_top.specs.Ending.{ending_of_check};
@@ -107,12 +120,7 @@ impl From<CheckEnd> for Ending {
 
     fn from(end: CheckEnd) -> Ending {
         match end {
-            CheckEnd::Answered(Verdict::Lawful) => Ending::Done,
-            CheckEnd::Answered(Verdict::Unlawful { line, entry }) => Ending::Unlawful {
-                line,
-                entry,
-            },
-            CheckEnd::Answered(Verdict::Malformed { row }) => Ending::Malformed { row },
+            CheckEnd::Answered(answer) => Ending::of_verdict(answer.verdict),
             CheckEnd::Fault(fault) => Ending::Board(fault),
             CheckEnd::ReadFault => Ending::ReadFault,
             CheckEnd::WriteFault => Ending::WriteFault,

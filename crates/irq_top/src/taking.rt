@@ -1,5 +1,6 @@
 //! The commands that read a board and play it.
 ghost use Rattle.std.specs.Prelude.{◌≡◌, [], false, true};
+ghost use Rattle.callbacks.specs.Heard.{Heard};
 ghost use Rattle.irq_io.specs.Faults.{Counts};
 ghost use Rattle.irq_top.specs.Commands.{TakesBoard, TellsTaken};
 ghost use Rattle.irq_top.specs.Ending.{is_printed, is_printing, is_read_fault_end};
@@ -8,7 +9,7 @@ ghost use Rattle.irq_top.specs.Ending.{is_write_fault_end};
 use crate::ending::Ending;
 use crate::outcome::Outcome;
 use board_def::Board;
-use callbacks::{Callbacks, Handler};
+use callbacks::Handler;
 use irq_io::{Sink, Source};
 use line_makers::MakesDomainLine;
 use program_io::read_input;
@@ -17,22 +18,25 @@ use std::alloc::Global;
 /// A way to play a board and print it.
 pub(crate) trait OnBoard {
     ghost use Rattle.std.specs.Prelude.{◌≡◌, ℕ, [], false, true, List, Option};
+    ghost use Rattle.irq_base.specs.declared.devices.Run.{Run};
     ghost use Rattle.irq_base.specs.declared.entries.Entry.{Entry};
     ghost use Rattle.irq_base.specs.declared.reporting.LineReport.{LineReport};
     ghost use Rattle.irq_io.specs.Faults.{Counts};
     ghost use Rattle.board_def.specs.Seen.{BoardSeen};
-    ghost use Rattle.irq_top.specs.Commands.{IsSane};
+    ghost use Rattle.irq_top.specs.Commands.{IsSane, TellsPlay};
     ghost use Rattle.irq_top.specs.Ending.{is_printed, is_printing, is_write_fault_end};
+    ghost use Rattle.callbacks.specs.Heard.{Heard};
+    ghost use Rattle.irq_play.specs.declared.ending.PlayedEnd.{PlayedEnd};
     ghost use Rattle.irq_top.specs.declared.ending.Ending.{Ending};
 
-    /// What it does with a board: with these reports, with this output before and now, and with
-    /// this ending.
-    ghost does: { Self → BoardSeen → List LineReport → Option (List ℕ) → Option (List ℕ)
-        → Ending → Type 0 };
+    /// What it does with a board: what says for which runs handlers were called, with these
+    /// reports, with this output before and now, and with this ending.
+    ghost does: { Self → (List Run → Type 0) → BoardSeen → List LineReport → Option (List ℕ)
+        → Option (List ℕ) → Ending → Type 0 };
 
     /// What it tells of a step that was refused memory, with lines that may want memory for these
     /// entries that are due.
-    ghost tells: { Self → (Option Entry → Type 0) → BoardSeen → List LineReport → Ending
+    ghost tells: { Self → (Option Entry → Type 0) → BoardSeen → List LineReport → PlayedEnd
         → Type 0 };
 
     /// Plays the board, and prints its log, or a summary.
@@ -40,20 +44,21 @@ pub(crate) trait OnBoard {
         self,
         alloc: Global,
         board: Board,
-        handlers: &Callbacks<H>,
+        handlers: &mut H,
         maker: &M,
         out: &mut O,
     ) -> Outcome
-        ensures does { does self board result.reports.reports (O.written out.old)
-            (O.written out.new) result.ending }
-        ensures wanted { tells self M.Line.may_want board result.reports.reports result.ending }
+        ensures does { does self (λ runs. Heard H.hears runs handlers.old handlers.new) board
+            result.reports.reports (O.written out.old) (O.written out.new) result.ending }
+        ensures wanted { TellsPlay (tells self M.Line.may_want) board result.reports.reports
+            result.ending }
         ensures emptied { is_printed result.ending ≡ true → O.kept out.new ≡ [] }
         ensures write_fault { Counts (O.faults out.old) (O.faults out.new)
             (is_write_fault_end result.ending) }
         ensures silent { is_printing result.ending ≡ false → out.new ≡ out.old };
 
-    /// It reads nothing, and hands nothing out if it had no memory to begin.
-    ghost sane: { (way : Self) → IsSane (does way) };
+    /// It reads nothing.
+    ghost sane: { (way : Self) (heard : List Run → Type 0) → IsSane (does way heard) };
 }
 
 /// Reads a board, plays it in this way, and prints it.
@@ -62,11 +67,13 @@ pub(crate) fn take_board<S: Source, O: Sink, P: OnBoard + Drop, H: Handler, M: M
     way: P,
     src: &mut S,
     out: &mut O,
-    handlers: &Callbacks<H>,
+    handlers: &mut H,
     maker: &M,
 ) -> Outcome
-    ensures takes { TakesBoard (P.does way) (S.left src.old) (S.left src.new)
-        result.reports.reports (O.written out.old) (O.written out.new) result.ending }
+    ensures takes { TakesBoard (Heard H.hears [] handlers.old handlers.new)
+        (P.does way (λ runs. Heard H.hears runs handlers.old handlers.new)) (S.left src.old)
+        (S.left src.new) result.reports.reports (O.written out.old) (O.written out.new)
+        result.ending }
     ensures wanted { TellsTaken (P.tells way M.Line.may_want) (S.left src.old)
         result.reports.reports result.ending }
     ensures read_fault { Counts (S.faults src.old) (S.faults src.new)

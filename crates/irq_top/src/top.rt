@@ -1,6 +1,8 @@
 //! The top call.
 ghost use Rattle.std.specs.Prelude.{◌≡◌, ◌↔◌, [], false, true, map};
+ghost use Rattle.callbacks.specs.Heard.{Heard};
 ghost use Rattle.irq_io.specs.Faults.{Counts};
+ghost use Rattle.notifiers.specs.Told.{Told};
 ghost use Rattle.irq_words.specs.Words.{Asks, AsksNothing};
 ghost use Rattle.irq_words.specs.declared.Command.{Command};
 ghost use Rattle.program_io.specs.ErrorRows.{Tells};
@@ -12,11 +14,11 @@ use crate::commands::act;
 use crate::ending::Ending;
 use crate::error_rows::error_row;
 use crate::outcome::Outcome;
-use callbacks::{Callbacks, Handler};
+use callbacks::{Handler, SharedHandler};
 use irq_io::{Sink, Source};
 use irq_words::read_command;
 use line_makers::MakesDomainLine;
-use notifiers::{Notifier, Notifiers};
+use notifiers::Notifier;
 use program_io::tell_row;
 use std::alloc::Global;
 use std::sync::Wait;
@@ -29,9 +31,12 @@ use workers::Gate;
 /// `play` plays it by the stated order, and prints its log as it was played, or a summary;
 /// `chained` plays it behind one demultiplexer, and prints the log with enters and exits; `hotplug`
 /// places its lines on processors that go offline and come online, tells each placing to the
-/// notifiers, and plays it with the moves; `sleep` plays it with a sleep from which the armed lines
+/// notifier, and plays it with the moves; `sleep` plays it with a sleep from which the armed lines
 /// wake it; `check` reads a board and a log of it, and prints the judgement of the log; `gen N`
 /// makes a board, plays it, and prints its summary.
+///
+/// What is played calls `handlers`, once for each run that the log shows and for no other; `run`
+/// calls `shared`, from all its threads.
 ///
 /// `run` alone waits, and passes the gate before each attempt of a worker: the other commands are
 /// done by functions that don't wait, and so return. Other words are refused before anything is
@@ -43,7 +48,8 @@ pub fn irq_main<
     O: Sink,
     E: Sink,
     G: Gate + Sync,
-    H: Handler + Sync,
+    H: Handler,
+    D: SharedHandler + Sync,
     M: MakesDomainLine,
     N: Notifier,
 >(
@@ -54,18 +60,23 @@ pub fn irq_main<
     out: &mut O,
     err: &mut E,
     gate: &G,
-    handlers: &Callbacks<H>,
+    handlers: &mut H,
+    shared: &D,
     maker: &M,
-    notify: &Notifiers<N>,
+    notify: &mut N,
 ) -> Outcome
 where
     M::Line: Send + Sync,
     ensures usage { (result.ending ≡ Ending.Usage) ↔ AsksNothing (map (λ w. w.now) words.now) }
     ensures unasked { result.ending ≡ Ending.Usage → result.reports.reports ≡ [] }
+    ensures uncalled { result.ending ≡ Ending.Usage
+        → (Heard H.hears [] handlers.old handlers.new) × Told N.tells [] notify.old notify.new }
     ensures unread { ReadsNothing (map (λ w. w.now) words.now) → src.new ≡ src.old }
     ensures does { (asked : Command) → Asks (map (λ w. w.now) words.now) asked
-        → Does asked (S.left src.old) (S.left src.new) result.reports.reports (O.written out.old)
-        (O.written out.new) result.ending }
+        → Does (λ runs. Heard H.hears runs handlers.old handlers.new) (D.gave shared.now)
+        (λ placings. Told N.tells placings notify.old notify.new) asked (S.left src.old)
+        (S.left src.new) result.reports.reports (O.written out.old) (O.written out.new)
+        result.ending }
     ensures wanted { (asked : Command) → Asks (map (λ w. w.now) words.now) asked
         → TellsWanted M.Line.may_want asked (S.left src.old) result.reports.reports result.ending }
     ensures read_fault { Counts (S.faults src.old) (S.faults src.new)
@@ -81,7 +92,9 @@ where
         (E.kept err.new) (E.faults err.old) (E.faults err.new) }
     ensures quiet { is_printed result.ending ≡ true → err.new ≡ err.old }
 {
-    let outcome = work(rt, alloc, words, src, out, gate, handlers, maker, notify);
+    let outcome = work(
+        rt, alloc, words, src, out, gate, handlers, shared, maker, notify,
+    );
     if !is_printed(outcome.ending) {
         tell(err, outcome.ending);
     }
@@ -94,7 +107,8 @@ fn work<
     S: Source,
     O: Sink,
     G: Gate + Sync,
-    H: Handler + Sync,
+    H: Handler,
+    D: SharedHandler + Sync,
     M: MakesDomainLine,
     N: Notifier,
 >(
@@ -104,18 +118,23 @@ fn work<
     src: &mut S,
     out: &mut O,
     gate: &G,
-    handlers: &Callbacks<H>,
+    handlers: &mut H,
+    shared: &D,
     maker: &M,
-    notify: &Notifiers<N>,
+    notify: &mut N,
 ) -> Outcome
 where
     M::Line: Send + Sync,
     ensures usage { (result.ending ≡ Ending.Usage) ↔ AsksNothing (map (λ w. w.now) words.now) }
     ensures unasked { result.ending ≡ Ending.Usage → result.reports.reports ≡ [] }
+    ensures uncalled { result.ending ≡ Ending.Usage
+        → (Heard H.hears [] handlers.old handlers.new) × Told N.tells [] notify.old notify.new }
     ensures unread { ReadsNothing (map (λ w. w.now) words.now) → src.new ≡ src.old }
     ensures does { (asked : Command) → Asks (map (λ w. w.now) words.now) asked
-        → Does asked (S.left src.old) (S.left src.new) result.reports.reports (O.written out.old)
-        (O.written out.new) result.ending }
+        → Does (λ runs. Heard H.hears runs handlers.old handlers.new) (D.gave shared.now)
+        (λ placings. Told N.tells placings notify.old notify.new) asked (S.left src.old)
+        (S.left src.new) result.reports.reports (O.written out.old) (O.written out.new)
+        result.ending }
     ensures wanted { (asked : Command) → Asks (map (λ w. w.now) words.now) asked
         → TellsWanted M.Line.may_want asked (S.left src.old) result.reports.reports result.ending }
     ensures read_fault { Counts (S.faults src.old) (S.faults src.new)
@@ -126,7 +145,9 @@ where
     ensures silent { is_printing result.ending ≡ false → out.new ≡ out.old }
 {
     match read_command(words) {
-        Some(asked) => act(rt, alloc, asked, src, out, gate, handlers, maker, notify),
+        Some(asked) => act(
+            rt, alloc, asked, src, out, gate, handlers, shared, maker, notify,
+        ),
         None => Outcome::without_reports(alloc, Ending::Usage),
     }
 }

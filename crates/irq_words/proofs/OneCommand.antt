@@ -62,7 +62,7 @@ abbrev by_first : List ℕ → List (List ℕ) → Command
 by_first first rest =
     cond (bytes_eq first (codes "run")) (commands.Run (is_some rest))
     (cond (bytes_eq first (codes "play")) (commands.Play (is_some rest))
-    (cond (bytes_eq first (codes "check")) commands.Check
+    (cond (bytes_eq first (codes "check")) (commands.Check (is_some rest))
     (cond (bytes_eq first (codes "gen")) (commands.Gen (number_of rest))
     (cond (bytes_eq first (codes "chained")) commands.Chained
     (cond (bytes_eq first (codes "hotplug")) (commands.Hotplug (number_of rest) (map event_of (drop 1 rest)))
@@ -70,7 +70,7 @@ by_first first rest =
 
 -- the command that words have, if they are a command's
 abbrev read : List (List ℕ) → Command
-read [] = commands.Check
+read [] = commands.Chained
 read (first ∷ rest) = by_first first rest
 
 read_back : (command : Command) → IsInRange command → read (words_of command) ≡ command
@@ -78,7 +78,8 @@ read_back (commands.Run false) h = refl
 read_back (commands.Run true) h = refl
 read_back (commands.Play false) h = refl
 read_back (commands.Play true) h = refl
-read_back commands.Check h = refl
+read_back (commands.Check false) h = refl
+read_back (commands.Check true) h = refl
 read_back (commands.Gen n) h = ap commands.Gen (digits_value-decimal own n (omega (arith, h)))
 read_back commands.Chained h = refl
 read_back (commands.Hotplug vectors es) h =

@@ -26,8 +26,9 @@ pub enum Command {
     Run { summary: bool },
     /// Read a board and play it. `summary`: print a row for each line in place of the entries.
     Play { summary: bool },
-    /// Read a board and a log of it, and judge the log.
-    Check,
+    /// Read a board and a log of it, and judge the log. `why`: say too why it is unlawful, if it
+    /// is.
+    Check { why: bool },
     /// Make the board that the number generates, play it, and print the summary. Nothing is read.
     Gen { n: u32 },
     /// Read a board, and play it with all its lines behind one demultiplexer.
@@ -80,10 +81,10 @@ fn read_play(words: &[&str]) -> Option<Command>
 fn read_check(words: &[&str]) -> Option<Command>
     ensures { Finds (codes "check" ∷ map (λ w. w.now) words.now) result }
 {
-    if words.is_empty() {
-        Some(Command::Check)
-    } else {
-        None
+    match words {
+        [] => Some(Command::Check { why: false }),
+        ["--why"] => Some(Command::Check { why: true }),
+        _ => None,
     }
 }
 

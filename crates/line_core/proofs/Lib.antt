@@ -7,3 +7,4 @@ pub mod Asked
 pub mod Stepping
 pub mod Steps
 pub mod Threaded
+pub mod InWay

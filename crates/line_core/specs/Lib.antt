@@ -5,3 +5,4 @@ pub mod Blocking
 pub mod Room
 pub mod Entries
 pub mod Steps
+pub mod InWay

@@ -18,6 +18,7 @@ pub mod due;
 mod line;
 mod making;
 pub mod moving;
+mod obstacles;
 mod processors;
 mod room;
 mod threads;

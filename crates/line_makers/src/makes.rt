@@ -4,7 +4,7 @@ ghost use Rattle.line_makers.specs.Chips.{HasChips};
 
 use domain_hier::Hierarchy;
 use irq_base::{LineDef, NoMemory};
-use irq_line::IrqLine;
+use line_obstacles::TellsObstacles;
 use std::alloc::Global;
 
 /// A maker of lines for the virqs of any hierarchy of interrupt domains (`irq_domain_alloc_irqs`,
@@ -13,7 +13,7 @@ use std::alloc::Global;
 /// the board's lines.
 pub trait MakesDomainLine {
     /// The lines that it makes.
-    type Line: IrqLine;
+    type Line: TellsObstacles;
 
     /// The line of this virq and definition, to which nothing has happened. The only error is
     /// `NoMemory`.

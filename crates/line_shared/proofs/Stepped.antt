@@ -1,10 +1,12 @@
 -- One hold of the line by a pass.
 use Rattle.std.proofs.Common.{◌≡◌, Option, Some, Result, Ok, Err, List, [], ◌∷◌, ◌++◌, length, refl, sym, ap, ◌∙◌}
+use Rattle.irq_base.specs.declared.devices.Run.{Run}
 use Rattle.irq_base.specs.declared.entries.Actor.{Actor}
 use Rattle.irq_base.specs.declared.entries.Entry.{Entry}
 use Rattle.irq_base.specs.declared.lines.LineDef.{LineDef}
-use Rattle.callbacks.specs.Seen.{SaidSeen}
+use Rattle.callbacks.specs.Heard.{Heard}
 use Rattle.irq_line.specs.Answers.{Answers}
+use Rattle.irq_line.specs.Hearing.{Lacks, runs_by}
 use Rattle.irq_line.specs.Memory.{WantsMemory}
 use Rattle.irq_line.specs.Seen.{LineSeen, IsSound}
 use Rattle.irq_line.specs.declared.answers.StepRefused.{StepRefused}
@@ -28,25 +30,27 @@ module _ (who : Actor) (old new : Known) (line after : LineSeen) (actor : old.ac
       let entries : after.entries ≡ line.entries = ap (λ (l : LineSeen). l.entries) same in
       (ap (λ (k : Known). k.seen) seen ∙ entries, mine_is line.entries entries ∙ sym mine)
 
-  gains : (said : Option SaidSeen) (result : Result Stepped StepRefused) → Answers line who said result after → Gains old line.entries result new
-  gains said (Ok (stepped.Added e)) a = (
+  gains : {L : Type 0} (result : Result (Stepped L) StepRefused) → Answers line who result after → Gains old line.entries result new
+  gains (Ok (stepped.Added e)) a = (
     ap (λ (k : Known). k.seen) seen ∙ a.entries,
     mine_is (line.entries ++ e ∷ []) a.entries ∙ (placed_own who line.entries e a.actor
         ∙ ap (λ (xs : List Placed). xs ++ record { place = length line.entries; entry = e } ∷ []) (sym mine)),
   )
-  gains said (Ok (stepped.Run run)) a = unchanged a.1
-  gains said (Ok stepped.NotYet) a = unchanged a.1
-  gains said (Err (refusals.Full len)) a = unchanged a.1
-  gains said (Err refusals.NoMemory) a = unchanged a
+  gains (Ok (stepped.Lacks lack)) a = (ap (λ (k : Known). k.seen) seen ∙ a.entries, mine_is line.entries a.entries ∙ sym mine)
+  gains (Ok stepped.NotYet) a = unchanged a.1
+  gains (Err (refusals.Full number len)) a = unchanged a.1
+  gains (Err refusals.NoMemory) a = unchanged a
 
-module _ {T : Type 0} (seen_of : T → LineSeen) (may_want : Option Entry → Type 0) where
-  pub steps : (key : LineDef) (who : Actor) (old new : Known) (held : T) (after : LineSeen) (said : Option SaidSeen)
-      (result : Result Stepped StepRefused) → (seen_of held).def ≡ key → old.actor ≡ Some who → IsSound (seen_of held)
+module _ {T E L : Type 0} (seen_of : T → LineSeen) (may_want : Option Entry → Type 0)
+    (hears : E → Run → E → Type 0) (lacks : E → Run → L → Type 0) where
+  pub steps : (key : LineDef) (who : Actor) (old new : Known) (held : T) (after : LineSeen) (ears after_ears : E)
+      (result : Result (Stepped L) StepRefused) → (seen_of held).def ≡ key → old.actor ≡ Some who → IsSound (seen_of held)
       → BeginsWith (seen_of held).entries old.seen
-      → old.mine ≡ placed_of old.actor (seen_of held).entries → Answers (seen_of held) who said result after
+      → old.mine ≡ placed_of old.actor (seen_of held).entries → Answers (seen_of held) who result after
+      → Heard hears (runs_by (seen_of held) result) ears after_ears → Lacks lacks (seen_of held) who ears result
       → WantsMemory may_want (seen_of held) who result → after.def ≡ key → IsSound after → new ≡ looked old after.entries
-      → Steps seen_of may_want key who old said result new
-  steps key who old new held after said result def actor sound begins mine answer memory def_after sound_after seen =
+      → Steps seen_of may_want hears lacks key who old ears result new after_ears
+  steps key who old new held after ears after_ears result def actor sound begins mine answer heard lacking memory def_after sound_after seen =
       let own = mine ∙ ap (λ (o : Option Actor). placed_of o (seen_of held).entries) actor in
       record {
         held = held;
@@ -58,10 +62,12 @@ module _ {T : Type 0} (seen_of : T → LineSeen) (may_want : Option Entry → Ty
         begins = begins;
         mine = own;
         answer = answer;
+        heard = heard;
+        lacking = lacking;
         memory = memory;
         def_after = def_after;
         sound_after = sound_after;
         seen = seen;
-        gains = gains who old new (seen_of held) after actor own seen said result answer;
+        gains = gains who old new (seen_of held) after actor own seen result answer;
         own = mine_is who old new (seen_of held) after actor own seen after.entries refl;
       }

@@ -2,16 +2,18 @@
 ghost use Rattle.std.specs.Prelude.{◌≡◌, ◌≤◌, true, false, [], Some, None, IsSome, IfOk, IfErr};
 ghost use Rattle.std.specs.Prelude.{length};
 ghost use Rattle.irq_base.specs.declared.entries.Actor.{Actor};
+ghost use Rattle.callbacks.specs.Heard.{Heard};
 ghost use Rattle.line_lock.specs.Knows.{nothing_known, is_among, forked, newcomer, Meets};
 ghost use Rattle.irq_line.specs.Answers.{Answers};
+ghost use Rattle.irq_line.specs.Hearing.{Lacks, runs_by};
 ghost use Rattle.irq_line.specs.Memory.{WantsMemory};
 ghost use Rattle.irq_line.specs.Seen.{IsSound};
 ghost use Rattle.line_lock.specs.Passes.{IsPassOf, Extends};
 ghost use Rattle.line_shared.specs.Stepping.{Steps};
 
 use crate::held::HeldLine;
-use callbacks::Said;
-use irq_base::{Actor, LineDef};
+use callbacks::{Before, Hears};
+use irq_base::{Actor, LineDef, Run};
 use irq_line::{IrqLine, StepRefused, Stepped};
 use line_lock::{CountedLock, LockRefused};
 use std::alloc::{AllocFailed, Global};
@@ -79,7 +81,8 @@ impl<L: IrqLine> SharedLine<L> {
     }
 
     /// Waits for the line, and has it make a step of the pass's actor: `IrqLine::step` on the
-    /// history as it is then.
+    /// history as it is then. No handler is called while the line is held: if the step ends a run,
+    /// it takes the answer that was said before, or answers which run's it lacks.
     ///
     /// # Errors
     ///
@@ -89,8 +92,8 @@ impl<L: IrqLine> SharedLine<L> {
         &self,
         rt: &R,
         pass: &mut Pass<L>,
-        said: Option<Said>,
-    ) -> Result<Stepped, StepRefused>
+        before: &mut Before,
+    ) -> Result<Stepped<Run>, StepRefused>
         requires pass { IsPassOf self.now pass.old }
         requires idle { pass.old.turn ≡ false }
         requires actor { IsSome pass.old.knows.actor }
@@ -98,13 +101,14 @@ impl<L: IrqLine> SharedLine<L> {
         ensures idle { pass.new.turn ≡ false }
         ensures same_actor { pass.new.knows.actor ≡ pass.old.knows.actor }
         ensures steps { (who : Actor) → pass.old.knows.actor ≡ Some who
-            → Steps L.seen L.may_want self.now.def who pass.old.knows said result pass.new.knows }
+            → Steps L.seen L.may_want ⟦<Before as Hears>⟧.hears ⟦<Before as Hears>⟧.lacks
+            self.now.def who pass.old.knows before.old result pass.new.knows before.new }
     {
         let Some(actor) = pass.actor() else {
             unreachable!()
         };
         let mut held = self.lock.hold(rt, pass);
-        let answer = step_held(&mut held, actor, said);
+        let answer = step_held(&mut held, actor, before);
         self.lock.leave(pass, held);
         answer
     }
@@ -147,19 +151,23 @@ impl<L: IrqLine> SharedLine<L> {
 fn step_held<L: IrqLine>(
     held: &mut HeldLine<L>,
     actor: Actor,
-    said: Option<Said>,
-) -> Result<Stepped, StepRefused>
+    before: &mut Before,
+) -> Result<Stepped<Run>, StepRefused>
     ensures def { (L.seen held.new.line.value).def ≡ (L.seen held.old.line.value).def }
     ensures sound { IsSound (L.seen held.old.line.value) × IsSound (L.seen held.new.line.value) }
-    ensures answer { Answers (L.seen held.old.line.value) actor said result
+    ensures answer { Answers (L.seen held.old.line.value) actor result
         (L.seen held.new.line.value) }
+    ensures heard { Heard ⟦<Before as Hears>⟧.hears (runs_by (L.seen held.old.line.value) result)
+        before.old before.new }
+    ensures lacking { Lacks ⟦<Before as Hears>⟧.lacks (L.seen held.old.line.value) actor before.old
+        result }
     ensures memory { WantsMemory L.may_want (L.seen held.old.line.value) actor result }
     ensures few { length (L.seen held.new.line.value).entries ≤ 100000000 }
     ensures extends { Extends (Some actor) (L.seen held.old.line.value).entries
         (L.seen held.new.line.value).entries }
 {
     held.line.is_sound();
-    let answer = held.line.step(actor, said);
+    let answer = held.line.step(actor, before);
     held.line.is_sound();
     answer
 }

@@ -7,3 +7,4 @@ mod Eights
 mod Lines
 mod WholeLog
 mod NewJudges
+pub mod OneUndue

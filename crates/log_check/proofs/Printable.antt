@@ -25,13 +25,13 @@ use Rattle.irq_laws.proofs.ImpliesDriver.{disable_synced, nosync, enable, sync_c
 use Rattle.irq_laws.proofs.ImpliesDriver.{driver_row, opened_with}
 use Rattle.irq_laws.proofs.ImpliesThread.{thread_return_answer}
 use Rattle.irq_laws.proofs.OwnLaws.{no_cpu_call, no_thread_call}
-use Rattle.irq_line.specs.Heard.{Heard}
 use Rattle.irq_line.specs.Seen.{LineSeen}
 use Rattle.irq_model.specs.Due.{due_call}
 use Rattle.irq_model.specs.Legal.{IsDue}
 use Rattle.irq_model.specs.Next.{link_answer, next_past}
 use Rattle.irq_model.specs.Signal.{lowest_in}
 use Rattle.log_check.proofs.OneLine.{get_last}
+use Rattle.log_check.specs.Judged.{AddsDue}
 use Rattle.log_check.specs.Judging.{Adds, Follows}
 use Rattle.log_text.specs.EntryWords.{IsPrintable}
 use Rattle.log_text.specs.Formed.{HasSmallNumbers, IsSmall}
@@ -82,12 +82,12 @@ printable def past (by.DriverCall r call) due = by_driver def r past (by.DriverC
 
 -- what is due has a row that may follow in a text
 
-heard_due : (old new : LineSeen) (a : Actor) (e : Entry) → Heard old a (Ok (Some e)) new → IsDue old.def e (reverse old.entries)
+heard_due : (old new : LineSeen) (a : Actor) (e : Entry) → AddsDue old a (Some e) new → IsDue old.def e (reverse old.entries)
 heard_due old new a e heard = subst (λ (x : Actor). next_past old.def (reverse old.entries) x ≡ Some e) (sym heard.actor) heard.due
 
-module _ (old new : LineSeen) (actor : Actor) (due : Option Entry) (e : Entry) (heard : Heard old actor (Ok due) new) (is : due ≡ Some e) where
-  was_heard : Heard old actor (Ok (Some e)) new
-  was_heard = subst (λ (o : Option Entry). Heard old actor (Ok o) new) is heard
+module _ (old new : LineSeen) (actor : Actor) (due : Option Entry) (e : Entry) (heard : AddsDue old actor due new) (is : due ≡ Some e) where
+  was_heard : AddsDue old actor (Some e) new
+  was_heard = subst (λ (o : Option Entry). AddsDue old actor o new) is heard
 
   pub heard_printable : IsPrintable e
   heard_printable = printable old.def (reverse old.entries) e (heard_due old new actor e was_heard)
@@ -108,10 +108,10 @@ module _ (old new : LineSeen) (actor : Actor) (due : Option Entry) (e : Entry) (
 none_due : (e : Entry) → ◌≡◌ {A = Option Entry} None (Some e) → ⊥
 none_due e same = cc
 
-pub adds_none : (old new : LineSeen) (actor : Actor) (due : Option Entry) (text : List ℕ) (number : LineNo) → Heard old actor (Ok due) new → due ≡ None
+pub adds_none : (old new : LineSeen) (actor : Actor) (due : Option Entry) (text : List ℕ) (number : LineNo) → AddsDue old actor due new → due ≡ None
     → Adds text number actor None old new
 adds_none old new actor due text number heard is f after owed follows =
-    let none : Heard old actor (Ok None) new = subst (λ (o : Option Entry). Heard old actor (Ok o) new) is heard in
+    let none : AddsDue old actor None new = subst (λ (o : Option Entry). AddsDue old actor o new) is heard in
     none_due f (sym none.0 ∙ owed)
 
 -- what follows a row that the text begins with

@@ -12,20 +12,19 @@ use Rattle.irq_base.specs.declared.entries.Actor.{Actor}
 use Rattle.irq_base.specs.declared.entries.Entry.{Entry}
 use Rattle.irq_base.specs.declared.lines.LineDef.{LineDef}
 use Rattle.irq_base.proofs.SameEntries.{found_same}
-use Rattle.irq_line.specs.Heard.{Heard}
 use Rattle.irq_line.specs.Seen.{LineSeen}
 use Rattle.irq_model.specs.Legal.{IsDue, IsLegal, IsLegalPast}
 use Rattle.irq_model.specs.Next.{next}
-use Rattle.log_check.specs.Judged.{Tried, IsFirstUndue}
+use Rattle.log_check.specs.Judged.{AddsDue, Tried, IsFirstUndue}
 
-heard_due : (old new : LineSeen) (a : Actor) (due : Option Entry) → Heard old a (Ok due) new → due ≡ next old.def old.entries a
+heard_due : (old new : LineSeen) (a : Actor) (due : Option Entry) → AddsDue old a due new → due ≡ next old.def old.entries a
 heard_due old new a None heard = sym heard.0
 heard_due old new a (Some e) heard = sym heard.due
 
-pub tried : (old new : LineSeen) (e : Entry) (due : Option Entry) (t : Bool) → Heard old (actor_of e) (Ok due) new
+pub tried : (old new : LineSeen) (e : Entry) (due : Option Entry) (t : Bool) → AddsDue old (actor_of e) due new
     → t ≡ option_eq (entry_eq.eq-value).it due (Some e) → Tried old e t new
 tried old new e due true heard h =
-    let added = subst (λ (o : Option Entry). Heard old (actor_of e) (Ok o) new)
+    let added = subst (λ (o : Option Entry). AddsDue old (actor_of e) o new)
     ((found_same due e true h).0 refl) heard in (added.due, added.entries)
 tried old new e due false heard h = λ owed. false≢true ((found_same due e false h).1 (heard_due old new (actor_of e) due heard ∙ owed))
 

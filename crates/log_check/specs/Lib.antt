@@ -3,3 +3,4 @@ pub mod Verdicts
 pub mod JudgeSeen
 pub mod Heads
 pub mod Judging
+pub mod Why

@@ -1,12 +1,11 @@
 //! One line's history.
 ghost use Rattle.std.specs.Prelude.{◌≡◌, ◌≤◌, ◌<◌, [], length, Ok, IfOk};
 ghost use Rattle.irq_model.specs.Legal.{IsDue};
-ghost use Rattle.irq_line.specs.Heard.{Heard};
-ghost use Rattle.log_check.specs.Judged.{Judged, Tried};
+ghost use Rattle.log_check.specs.Judged.{AddsDue, Judged, Tried};
 
-use callbacks::{ByKind, Callbacks};
+use callbacks::ByKind;
 use irq_base::{Actor, Entry, History, NoMemory};
-use irq_line::{IrqLine, StepRefused, step_heard};
+use irq_line::{IrqLine, StepRefused, Stepped};
 
 /// The number, counted from 1, of the first entry that isn't due of its actor after the entries
 /// before it; none if all are due. Nothing has happened to the line, and its log limit is at least
@@ -39,16 +38,18 @@ fn adds<L: IrqLine>(line: &mut L, entry: Entry) -> Result<bool, NoMemory>
     Ok(due == Some(entry))
 }
 
-/// `step_heard` on a line whose history isn't full. The handler of the device's kind answers.
+/// A step of a line whose history isn't full, and the entry that it added. The handler of the
+/// device's kind answers.
 #[inline(always)]
 pub(crate) fn step<L: IrqLine>(line: &mut L, actor: Actor) -> Result<Option<Entry>, NoMemory>
     requires { length (L.seen line.old).entries < (L.seen line.old).def.log }
     ensures def { (L.seen line.new).def ≡ (L.seen line.old).def }
-    ensures heard { IfOk result
-        (λ due. Heard (L.seen line.old) actor (Ok due) (L.seen line.new)) }
+    ensures added { IfOk result
+        (λ due. AddsDue (L.seen line.old) actor due (L.seen line.new)) }
 {
-    match step_heard(line, actor, &Callbacks::new(ByKind)) {
-        Ok(due) => Ok(due),
+    match line.step(actor, &mut ByKind) {
+        Ok(Stepped::Added(entry)) => Ok(Some(entry)),
+        Ok(Stepped::NotYet) => Ok(None),
         Err(StepRefused::NoMemory) => Err(NoMemory),
         Err(StepRefused::Full { .. }) => unreachable!(),
     }

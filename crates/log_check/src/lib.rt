@@ -15,7 +15,9 @@ pub mod judging;
 mod line_judge;
 mod making;
 pub mod verdict;
+pub mod why;
 
 pub use checking::check_log;
 pub use judging::judge;
 pub use verdict::Verdict;
+pub use why::{DueThen, Undue, explain_log};

@@ -35,7 +35,7 @@ pub(crate) fn make_judges<L: IrqLine, M: MakesLine<L>>(
 }
 
 /// The line of the definition, but for its log limit; none if the layout refused it.
-fn make_line<L: IrqLine, M: MakesLine<L>>(
+pub(crate) fn make_line<L: IrqLine, M: MakesLine<L>>(
     alloc: Global,
     placement: Option<Placement>,
     def: &mut LineDef,

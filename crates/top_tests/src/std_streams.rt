@@ -22,7 +22,7 @@ const LOG: &str = "# irq 1 virq 1 intc:2
 ";
 
 const USAGE: &str =
-    "usage: genirq run [--summary] | play [--summary] | check | gen N | chained | hotplug V EVENT... | sleep LINE...\n";
+    "usage: genirq run [--summary] | play [--summary] | check [--why] | gen N | chained | hotplug V EVENT... | sleep LINE...\n";
 
 /// An argument that isn't UTF-8, and arguments that there is no memory for: the status, and the row
 /// that is told.

@@ -1,22 +1,21 @@
 -- One try with a pass of a job.
 use Rattle.std.proofs.Common.{◌≡◌, ℕ, ◌+◌, ◌<◌, inl, inr, true, false, IsSome, IsSomeAnd, Option, Some, None, Result, Ok, Err}
 use Rattle.std.proofs.Common.{List, length, get_or, set, slice_get, slice_set, refl, sym, ap, ◌∙◌, subst, arith}
-use Rattle.std.proofs.Math.ListN.{length-map}
 use Rattle.irq_base.specs.declared.entries.Actor.{Actor}
 use Rattle.irq_base.specs.declared.entries.Entry.{Entry}
 use Rattle.irq_base.specs.declared.lines.LineDef.{LineDef}
-use Rattle.irq_base.specs.declared.numbers.LineNo.{LineNo}
 use Rattle.irq_laws.proofs.Chosen.{the_same}
 use Rattle.irq_line.specs.declared.answers.StepRefused.{StepRefused}
 use Rattle.irq_line.specs.declared.answers.StepRefused.TheVariants as refusals
 use Rattle.line_lock.specs.Passes.{LockSeen, IsPassOf}
 use Rattle.line_lock.specs.declared.view.Known.{Known}
-use Rattle.workers.specs.Fit.{IsPost, ArePosted, numbers_of}
+use Rattle.workers.specs.Fit.{IsPost, ArePosted}
 use Rattle.workers.specs.Seen.{PostSeen, JobSeen}
 use Rattle.workers.specs.Tries.{IsIdle, Tries, rests_after}
 use Rattle.workers.specs.Attempts.{attempt_of, FlowMoves, StepsPost}
 use Rattle.workers.specs.declared.attempts.Attempt.{Attempt}
-use Rattle.workers.proofs.Lists.{at_map, at_set, there, there_or, within}
+use Rattle.workers.proofs.Lists.{at_set, there, there_or, within}
+use Rattle.workers.specs.Terms.{Terms}
 
 -- the line of the pass at index `place`
 pub record AtPlace (lines : List LockSeen) (j : JobSeen) (place : ℕ) : Type 0 where
@@ -45,12 +44,12 @@ at_place lines j place posted less =
     }
 
 -- when nothing was due, that is known
-rests_idle : (wanted : LineDef → List Entry → Actor → Type 0) (def : LineDef) (who : Actor) (old new : Known)
-    (tried : Result (Option Entry) StepRefused) → Tries wanted def who old tried new → rests_after tried ≡ true → IsIdle def who new
-rests_idle wanted def who old new (Ok (Some e)) t is = cc
-rests_idle wanted def who old new (Ok None) t is = t.came.0
-rests_idle wanted def who old new (Err (refusals.Full len)) t is = cc
-rests_idle wanted def who old new (Err refusals.NoMemory) t is = cc
+rests_idle : (terms : Terms) (def : LineDef) (who : Actor) (old new : Known)
+    (tried : Result (Option Entry) StepRefused) → Tries terms def who old tried new → rests_after tried ≡ true → IsIdle def who new
+rests_idle terms def who old new (Ok (Some e)) t is = cc
+rests_idle terms def who old new (Ok None) t is = t.came.0
+rests_idle terms def who old new (Err (refusals.Full number len)) t is = cc
+rests_idle terms def who old new (Err refusals.NoMemory) t is = cc
 
 -- what a step with a pass of the line asks for, and what it leaves: the contract of `Post::step`
 pub record CanStep (line : LockSeen) (post : PostSeen) : Type 0 where
@@ -59,34 +58,29 @@ pub record CanStep (line : LockSeen) (post : PostSeen) : Type 0 where
   pub actor : IsSome post.pass.knows.actor
   pub known : post.rests ≡ true → (who : Actor) → post.pass.knows.actor ≡ Some who → IsIdle line.def who post.pass.knows
 
-pub record Stepped (wanted : LineDef → List Entry → Actor → Type 0) (line : LockSeen) (post : PostSeen)
+pub record Stepped (terms : Terms) (line : LockSeen) (post : PostSeen)
     (tried : Result (Option Entry) StepRefused) (after : PostSeen) : Type 0 where
   pub of_line : IsPassOf line after.pass
   pub idle : after.pass.turn ≡ false
   pub actor : after.pass.knows.actor ≡ post.pass.knows.actor
   pub rests : after.rests ≡ rests_after tried
-  pub tries : (who : Actor) → post.pass.knows.actor ≡ Some who → Tries wanted line.def who post.pass.knows tried after.pass.knows
+  pub tries : (who : Actor) → post.pass.knows.actor ≡ Some who → Tries terms line.def who post.pass.knows tried after.pass.knows
   pub flows : post.rests ≡ false → FlowMoves line.def post.pass.knows tried
 
--- The code's own lines, their numbers and its own job, where the job tries the pass at index `place`: they are those that contracts
+-- The code's own lines and its own job, where the job tries the pass at index `place`: they are those that contracts
 -- see, and the line and the pass at that place are these.
 pub record AtHand (lines : List LockSeen) (j : JobSeen) (place : ℕ) : Type 0 where
   pub here : List LockSeen
-  pub numbers : List LineNo
   pub inside : JobSeen
-  pub numbers_are : numbers ≡ numbers_of here
   pub lines_are : here ≡ lines
   pub job_is : inside ≡ j
   pub at : AtPlace lines j place
 
-abbrev pub at_hand : {here lines : List LockSeen} {numbers : List LineNo} {inside j : JobSeen} {place : ℕ} → numbers ≡ numbers_of here
-    → here ≡ lines → inside ≡ j → ArePosted lines j → place < length j.posts → AtHand lines j place
-at_hand {here} {lines} {numbers} {inside} {j} {place} numbers_are lines_are job_is posted less =
+abbrev pub at_hand : {here lines : List LockSeen} {inside j : JobSeen} {place : ℕ} → here ≡ lines → inside ≡ j → ArePosted lines j → place < length j.posts → AtHand lines j place
+at_hand {here} {lines} {inside} {j} {place} lines_are job_is posted less =
     record {
       here = here;
-      numbers = numbers;
       inside = inside;
-      numbers_are = numbers_are;
       lines_are = lines_are;
       job_is = job_is;
       at = at_place lines j place posted less;
@@ -98,10 +92,6 @@ module _ {lines : List LockSeen} {j : JobSeen} {place : ℕ} (h : AtHand lines j
 
   pub in_here : h.inside.first + place < length h.here
   in_here = let w = h.at.in_lines in let e = ap (λ (ls : List LockSeen). length ls) h.lines_are in let k = k_is in omega (arith, w, e, k)
-
-  pub in_numbers : h.inside.first + place < length h.numbers
-  in_numbers = let w = in_here in let e = ap (λ (ns : List LineNo). length ns) h.numbers_are in
-      let m = length-map h.here (λ (l : LockSeen). l.def.line) in omega (arith, w, e, m)
 
   pub line_is : {l : LockSeen} → l ≡ get_or h.here (h.inside.first + place) l → l ≡ h.at.line
   line_is {l} is =
@@ -118,13 +108,6 @@ module _ {lines : List LockSeen} {j : JobSeen} {place : ℕ} (h : AtHand lines j
       the_same s h.at.post (ap (λ (x : PostSeen). Some x) is
       ∙ (sym (there_or h.inside.posts place s less) ∙ (ap (λ (ss : List PostSeen). slice_get ss place) are ∙ h.at.at_post)))
 
-  pub number_is : (d : LineNo) → get_or h.numbers (h.inside.first + place) d ≡ h.at.line.def.line
-  number_is d =
-      the_same (get_or h.numbers (h.inside.first + place) d) h.at.line.def.line
-      (sym (there_or h.numbers (h.inside.first + place) d in_numbers)
-      ∙ (ap (λ (ns : List LineNo). slice_get ns (h.inside.first + place)) (h.numbers_are ∙ ap numbers_of h.lines_are)
-      ∙ (ap (λ (i : ℕ). slice_get (numbers_of lines) i) k_is ∙ at_map (λ (l : LockSeen). l.def.line) lines (j.first + place) h.at.line h.at.at_line)))
-
   -- the line and the pass, as the code has them
   module _ {line : LockSeen} (is_line : line ≡ get_or h.here (h.inside.first + place) line)
       {post : PostSeen} (is_post : post ≡ get_or h.inside.posts place post) where
@@ -138,14 +121,14 @@ module _ {lines : List LockSeen} {j : JobSeen} {place : ℕ} (h : AtHand lines j
           known = λ still who is. subst (λ (b : Actor). IsIdle h.at.line.def b h.at.post.pass.knows) (the_same j.actor who (sym p.actor ∙ is)) (p.rests still);
         }))
 
-    pub steps_post : (wanted : LineDef → List Entry → Actor → Type 0) {tried : Result (Option Entry) StepRefused} {after : PostSeen}
-        → Stepped wanted line post tried after → (d : LineNo) → {attempt : Attempt}
-        → attempt ≡ attempt_of (get_or h.numbers (h.inside.first + place) d) tried
-        → StepsPost wanted lines place attempt j (record h.inside { posts = slice_set h.inside.posts place after })
-    steps_post wanted {tried} {after} stepped d told =
+    pub steps_post : (terms : Terms) {tried : Result (Option Entry) StepRefused} {after : PostSeen}
+        → Stepped terms line post tried after → {attempt : Attempt}
+        → attempt ≡ attempt_of tried
+        → StepsPost terms lines place attempt j (record h.inside { posts = slice_set h.inside.posts place after })
+    steps_post terms {tried} {after} stepped told =
         let a = h.at in
-        let s : Stepped wanted a.line a.post tried after = subst (λ (x : PostSeen). Stepped wanted a.line x tried after) (post_is is_post)
-        (subst (λ (l : LockSeen). Stepped wanted l post tried after) (line_is is_line) stepped) in
+        let s : Stepped terms a.line a.post tried after = subst (λ (x : PostSeen). Stepped terms a.line x tried after) (post_is is_post)
+        (subst (λ (l : LockSeen). Stepped terms l post tried after) (line_is is_line) stepped) in
         let t = s.tries j.actor a.is_post.actor in
         record {
           line = a.line;
@@ -154,7 +137,7 @@ module _ {lines : List LockSeen} {j : JobSeen} {place : ℕ} (h : AtHand lines j
           tried = tried;
           at_line = a.at_line;
           at_post = a.at_post;
-          told = told ∙ ap (λ (n : LineNo). attempt_of n tried) (number_is d);
+          told = told;
           is = ap (λ (x : JobSeen). record x { posts = slice_set x.posts place after }) h.job_is;
           is_post = record {
             of_line = s.of_line;
@@ -162,7 +145,7 @@ module _ {lines : List LockSeen} {j : JobSeen} {place : ℕ} (h : AtHand lines j
             actor = s.actor ∙ a.is_post.actor;
             legal = t.legal a.is_post.legal;
             own = t.own a.is_post.own;
-            rests = λ r. rests_idle wanted a.line.def j.actor a.post.pass.knows after.pass.knows tried t (sym s.rests ∙ r);
+            rests = λ r. rests_idle terms a.line.def j.actor a.post.pass.knows after.pass.knows tried t (sym s.rests ∙ r);
           };
           tries = t;
           rests = s.rests;
@@ -171,9 +154,9 @@ module _ {lines : List LockSeen} {j : JobSeen} {place : ℕ} (h : AtHand lines j
 
 -- ---- what a try keeps
 
-module _ (wanted : LineDef → List Entry → Actor → Type 0) where
+module _ (terms : Terms) where
   pub still_posted : (lines : List LockSeen) (place : ℕ) (attempt : Attempt) (old new : JobSeen) → ArePosted lines old
-      → StepsPost wanted lines place attempt old new → ArePosted lines new
+      → StepsPost terms lines place attempt old new → ArePosted lines new
   still_posted lines place attempt old new posted s =
       subst (λ (j : JobSeen). ArePosted lines j) (sym s.is) each
     where

@@ -2,8 +2,8 @@
 use Rattle.std.proofs.Common.{◌≡◌, ℕ, suc, ◌+◌, ◌<◌, inl, inr, Bool, true, false, cond, IsSomeAnd, Option, Some, None}
 use Rattle.std.proofs.Common.{Result, Ok, Err, IfOk, List, [], ◌∷◌, ◌++◌, map, filter, length, get_or, take, reverse}
 use Rattle.std.proofs.Common.{◌&&◌, slice_get, IsPermutation, ◌||◌, refl, sym, ap, ◌∙◌, subst, arith, append-nil}
-use Rattle.std.proofs.Common.{append_assoc}
-use Rattle.std.proofs.lemmas.Bool.{false≢true, false_from_ne_true}
+use Rattle.std.proofs.Common.{append_assoc, nat_le, nat_lt, ◌-◌, ◌≤◌, ◌⊎◌}
+use Rattle.std.proofs.lemmas.Bool.{and_parts, false≢true, false_from_ne_true}
 use Rattle.std.proofs.lemmas.List.{reverse-append, reverse-reverse}
 use Rattle.irq_base.specs.declared.calls.Call.{Call}
 use Rattle.irq_base.specs.declared.devices.DeviceDef.{DeviceDef}
@@ -18,7 +18,7 @@ use Rattle.irq_laws.specs.Kept.{complete as complete_of}
 use Rattle.irq_model.specs.Due.{calls_by, entries_by, due_of, due_call}
 use Rattle.irq_model.specs.Kinds.{same_line, same_driver, same_actor}
 use Rattle.irq_model.specs.Legal.{IsLegalPast}
-use Rattle.irq_steps.proofs.Same.{driver_from_same, same_self_actor}
+use Rattle.irq_steps.proofs.Same.{actor_from_same, driver_from_same, same_self_actor}
 use Rattle.std.specs.List.{list_any}
 use Rattle.std.proofs.lemmas.List.Sorted.{list_any-IsPermutation}
 use Rattle.irq_laws.proofs.Chosen.{the_same}
@@ -33,10 +33,11 @@ use Rattle.board_play.specs.Order.{cpus_of, drivers_of}
 use Rattle.board_play.proofs.Counting.{completed}
 use Rattle.board_play.proofs.Members.{def_there}
 use Rattle.board_play.proofs.OfBoard.{calls_fit}
-use Rattle.line_lock.specs.Knows.{BeginsWith, is_among}
+use Rattle.line_lock.specs.Knows.{BeginsWith, IsKnown, is_among}
+use Rattle.line_lock.specs.Placed.{placed}
 use Rattle.line_lock.specs.Passes.{LockSeen, PassSeen}
-use Rattle.workers.specs.Fit.{IsFirst, actors_on, has_worker, workers_of, Fit}
-use Rattle.workers.specs.Gathers.{board_line, board_lines, IsHome, AreHome, seen_line, seen_lines, AreOut, Gathers, IsFinal, AreFinal, AreSound}
+use Rattle.workers.specs.Fit.{AreFirsts, IsFirst, actors_on, works_on, has_worker, workers_of, Fit}
+use Rattle.workers.specs.Gathers.{AreKnown, HasPass, board_line, board_lines, IsHome, AreHome, seen_line, seen_lines, AreOut, Gathers, IsFinal, AreFinal, AreSound}
 use Rattle.workers.specs.Gathers.{IsMetIn, HasAllOf, IsSeenIn, AreBack, IsSeenBy, AreGathered}
 use Rattle.workers.specs.Seen.{PostSeen, JobSeen, JobsSeen}
 use Rattle.workers.proofs.Lists.{at_map, at_snoc, of_map, there, there_or, within, none_left, length_snoc}
@@ -49,10 +50,11 @@ pub record AreFinishing (all : List PassSeen) (n : ℕ) (left : List PassSeen) (
   pub count : length done ≡ n
   pub are : board_lines lines ≡ seen_lines done
   pub sound : AreSound lines
+  pub known : AreKnown done
 
 pub none_finished : (all left : List PassSeen) → left ≡ reverse all → AreFinishing all 0 left []
 none_finished all left is =
-    record { done = []; split = sym (ap reverse is ∙ reverse-reverse all); count = refl; are = refl; sound = λ i x at. cc }
+    record { done = []; split = sym (ap reverse is ∙ reverse-reverse all); count = refl; are = refl; sound = λ i x at. cc; known = λ k p at. cc }
 
 module _ {all : List PassSeen} {n : ℕ} {left : List PassSeen} {lines : List LineSeen} (f : AreFinishing all n left lines)
     (before : List PassSeen) (p : PassSeen) (popped : left ≡ before ++ p ∷ []) where
@@ -68,8 +70,8 @@ module _ {all : List PassSeen} {n : ℕ} {left : List PassSeen} {lines : List Li
       behind (x ∷ xs) y ys = behind xs y ys
 
   pub finished_more : {x : LineSeen} {more : List LineSeen} → more ≡ lines ++ x ∷ [] → x.def ≡ p.def
-      → x.entries ≡ p.knows.seen → IsSound x → AreFinishing all (n + 1) before more
-  finished_more {x} {more} is def entries sound =
+      → x.entries ≡ p.knows.seen → IsSound x → IsKnown p.knows → AreFinishing all (n + 1) before more
+  finished_more {x} {more} is def entries sound known =
       record {
         done = f.done ++ p ∷ [];
         split = next ∙ sym (append_assoc f.done (p ∷ []) (reverse before));
@@ -78,6 +80,7 @@ module _ {all : List PassSeen} {n : ℕ} {left : List PassSeen} {lines : List Li
             ∙ (ap (λ (xs : List BoardLine). xs ++ board_line x ∷ []) f.are
             ∙ (ap (λ (y : BoardLine). seen_lines f.done ++ y ∷ []) line_is ∙ sym (map_more seen_line f.done p))));
         sound = subst AreSound (sym is) each;
+        known = λ k q at. elim (at_snoc f.done p k q at) [ inl old ↦ f.known k q old | inr new ↦ subst (λ (y : PassSeen). IsKnown y.knows) new.1 known ];
       }
     where
       line_is : board_line x ≡ seen_line p
@@ -100,17 +103,24 @@ some_left all n left lines f less none =
     let l = ap (λ (ps : List PassSeen). length ps) e in
     omega (arith, c, l, less)
 
-pub all_finished : (all : List PassSeen) (n : ℕ) (left : List PassSeen) (lines : List LineSeen)
-    → AreFinishing all n left lines → n ≡ length all → board_lines lines ≡ seen_lines all
-all_finished all n left lines f whole = f.are ∙ ap seen_lines (sym (f.split ∙ (ap (λ (ps : List PassSeen). f.done ++ ps) rest ∙ append-nil f.done)))
-  where
-    longer : (xs ys : List PassSeen) → length (xs ++ ys) ≡ length xs + length ys
-    longer [] ys = omega arith
-    longer (x ∷ xs) ys = let l = longer xs ys in omega (arith, l)
+module _ (all : List PassSeen) (n : ℕ) (left : List PassSeen) (lines : List LineSeen) (f : AreFinishing all n left lines)
+    (whole : n ≡ length all) where
+  all_done : all ≡ f.done
+  all_done = f.split ∙ (ap (λ (ps : List PassSeen). f.done ++ ps) rest ∙ append-nil f.done)
+    where
+      longer : (xs ys : List PassSeen) → length (xs ++ ys) ≡ length xs + length ys
+      longer [] ys = omega arith
+      longer (x ∷ xs) ys = let l = longer xs ys in omega (arith, l)
 
-    rest : reverse left ≡ []
-    rest = none_left (reverse left) (let a = ap (λ (ps : List PassSeen). length ps) f.split in
-        let b = longer f.done (reverse left) in let c = f.count in omega (arith, a, b, c, whole))
+      rest : reverse left ≡ []
+      rest = none_left (reverse left) (let a = ap (λ (ps : List PassSeen). length ps) f.split in
+          let b = longer f.done (reverse left) in let c = f.count in omega (arith, a, b, c, whole))
+
+  pub all_finished : board_lines lines ≡ seen_lines all
+  all_finished = f.are ∙ ap seen_lines (sym all_done)
+
+  pub all_known : AreKnown all
+  all_known = subst AreKnown (sym all_done) f.known
 
 -- ---- before and after all jobs
 
@@ -247,6 +257,52 @@ are_kept board locks firsts lines isb defs home g are sound =
             none_is_none : ◌≡◌ {A = Option (Call × ℕ)} None (Some (c, suc n)) → ⊥
             none_is_none h = cc
 
+-- ---- who has a pass
+
+-- an actor with a job that works on the line has a pass of it
+pass_among : (k : ℕ) (who : Actor) (jobs : List JobSeen) → is_among who (actors_on k jobs) ≡ true → HasPass jobs k who
+pass_among k who [] among = cc
+pass_among k who (j ∷ jobs) among = by_work (λ its. pass_among k who jobs its) (works_on k j) refl among
+  where
+    later : HasPass jobs k who → HasPass (j ∷ jobs) k who
+    later h = record {
+      number = suc h.number;
+      place = h.place;
+      job = h.job;
+      post = h.post;
+      at_job = h.at_job;
+      at_post = h.at_post;
+      is = h.is;
+      actor = h.actor;
+    }
+
+    here : works_on k j ≡ true → j.actor ≡ who → HasPass (j ∷ jobs) k who
+    here works same =
+        let a = and_parts (nat_le j.first k) (nat_lt k (j.first + length j.posts)) works in
+        let from : j.first ≤ k = grind (arith, a.0) in
+        let to : k < j.first + length j.posts = grind (arith, a.1) in
+        let t = there j.posts (k - j.first) (omega (arith, from, to)) in
+        record {
+          number = 0;
+          place = k - j.first;
+          job = j;
+          post = t.0;
+          at_job = refl;
+          at_post = t.1;
+          is = omega (arith, from);
+          actor = same;
+        }
+
+    by_actor : (is_among who (actors_on k jobs) ≡ true → HasPass jobs k who) → (t : Bool) → same_actor who j.actor ≡ t → works_on k j ≡ true → cond t true (is_among who (actors_on k jobs)) ≡ true
+        → HasPass (j ∷ jobs) k who
+    by_actor deeper true same works among = here works (sym (actor_from_same who j.actor same))
+    by_actor deeper false other works among = later (deeper among)
+
+    by_work : (is_among who (actors_on k jobs) ≡ true → HasPass jobs k who) → (t : Bool) → works_on k j ≡ t → is_among who (map (λ (x : JobSeen). x.actor) (cond t (j ∷ filter (works_on k) jobs)
+        (filter (works_on k) jobs))) ≡ true → HasPass (j ∷ jobs) k who
+    by_work deeper true works among = by_actor deeper (same_actor who j.actor) refl works among
+    by_work deeper false idle among = later (deeper among)
+
 -- ---- the histories are what was seen
 
 module _ (s : JobsSeen) (firsts : List PassSeen) (lines : List LineSeen) (are : board_lines lines ≡ seen_lines firsts)
@@ -301,11 +357,36 @@ module _ (s : JobsSeen) (firsts : List PassSeen) (lines : List LineSeen) (are : 
           (subst (λ (d : LineDef). HasAllOf d x.0.entries j.actor t.pass) (sym x.2)
           (subst (λ (es : List Entry). HasAllOf p.def es j.actor t.pass) (sym x.3) all.0))
 
-  pub are_gathered : length s.firsts ≡ length firsts → AreGathered s lines
-  are_gathered as_many = record {
+  -- an actor to which the line's first pass gave no pass has no entry there
+  made_by_jobs : (locks : List LockSeen) → AreFirsts locks s.jobs s.firsts → AreHome locks firsts → AreKnown firsts → (k : ℕ) (x : LineSeen) (who : Actor)
+      → slice_get lines k ≡ Some x → HasPass s.jobs k who ⊎ (placed who x.entries ≡ [])
+  made_by_jobs locks begun home known k x who at =
+      let p = pass_of k x at in
+      let q = b.given k p.0 p.1 in
+      let given : p.0.knows.given ≡ actors_on k s.jobs = q.2 ∙ given_at (slice_get locks k) q.0 (begun.each k q.0 q.1) in
+      by_test (is_among who (actors_on k s.jobs)) refl p.0 p.3 (ap (is_among who) given) (first_at (slice_get locks k) p.0 (home.each k p.0 p.1)) (known k p.0 p.1)
+    where
+      given_at : (o : Option LockSeen) (q : PassSeen) → IsSomeAnd o (λ l. IsFirst l (actors_on k s.jobs) q) → q.knows.given ≡ actors_on k s.jobs
+      given_at None q is = absurd is
+      given_at (Some l) q is = is.given
+
+      first_at : (o : Option LockSeen) (p : PassSeen) → IsSomeAnd o (λ l. IsHome l p) → p.knows.actor ≡ None
+      first_at None p is = absurd is
+      first_at (Some l) p is = is.first
+
+      by_test : (t : Bool) → is_among who (actors_on k s.jobs) ≡ t → (p : PassSeen) → x.entries ≡ p.knows.seen
+          → is_among who p.knows.given ≡ is_among who (actors_on k s.jobs) → p.knows.actor ≡ None → IsKnown p.knows
+          → HasPass s.jobs k who ⊎ (placed who x.entries ≡ [])
+      by_test true among p same given first known = inl (pass_among k who s.jobs among)
+      by_test false not p same given first known = inr (ap (placed who) same ∙ known.strangers who first (given ∙ not))
+
+  pub are_gathered : (locks : List LockSeen) → AreFirsts locks s.jobs s.firsts → AreHome locks firsts → AreKnown firsts
+      → length s.firsts ≡ length firsts → AreGathered s lines
+  are_gathered locks begun home known as_many = record {
     seen = seen_by;
     firsts = firsts_seen as_many;
     each = each_has;
+    made = made_by_jobs locks begun home known;
     drivers = λ i j r at is. subst (λ (ls : List BoardLine). IsUpTo s.board.calls ls r j.at) (sym are) (b.drivers i j r at is).1;
   }
 
@@ -343,8 +424,8 @@ module _ {lines here : List LockSeen} {inside s : JobsSeen} (t : TakenApart line
     kept_result f (Err e) isb home g are sound = tt
 
     pub gathered_result : {A E : Type 0} (f : A → List LineSeen) (r : Result A E) → AreHome here new → AreBack s.board s.jobs s.firsts new
-        → IfOk r (λ all. board_lines (f all) ≡ seen_lines new) → IfOk r (λ all. AreGathered s (f all))
-    gathered_result f (Ok all) home back are =
-        are_gathered s new (f all) are back
+        → IfOk r (λ all. board_lines (f all) ≡ seen_lines new) → IfOk r (λ all. AreKnown new) → IfOk r (λ all. AreGathered s (f all))
+    gathered_result f (Ok all) home back are known =
+        are_gathered s new (f all) are back here (subst (λ (ls : List LockSeen). AreFirsts ls s.jobs s.firsts) (sym t.lines_are) t.fit.firsts) home known
         (t.fit.firsts.as_many ∙ (ap (λ (ls : List LockSeen). length ls) (sym t.lines_are) ∙ sym home.as_many))
-    gathered_result f (Err e) home back are = tt
+    gathered_result f (Err e) home back are known = tt

@@ -12,7 +12,6 @@ use Rattle.irq_base.specs.declared.entries.CpuEntry.TheVariants as cpus
 use Rattle.irq_base.specs.declared.lines.FlowKind.{FlowKind}
 use Rattle.irq_base.specs.declared.lines.LineDef.{LineDef}
 use Rattle.irq_base.specs.declared.numbers.CpuNo.{CpuNo}
-use Rattle.irq_base.specs.declared.numbers.LineNo.{LineNo}
 use Rattle.irq_laws.proofs.Chosen.{the_same}
 use Rattle.irq_laws.proofs.OwnLaws.{due_is_own}
 use Rattle.irq_line.specs.declared.answers.StepRefused.{StepRefused}
@@ -37,6 +36,7 @@ use Rattle.workers.proofs.Manning.{map_more}
 use Rattle.workers.proofs.Rooms.{StaysSo, room_after, room_as, room_from}
 use Rattle.workers.proofs.Attempting.{still_posted}
 use Rattle.workers.proofs.Growing.{posts_grew, posts_self, posts_more}
+use Rattle.workers.specs.Terms.{Terms}
 
 -- one more entry of one's own
 pub own_more : (old new : List Placed) (n : ℕ) (e : Entry) → new ≡ old ++ record { place = n; entry = e } ∷ [] → own_past new ≡ e ∷ own_past old
@@ -44,87 +44,87 @@ own_more old new n e is =
     ap own_past is ∙ (ap reverse (map_more (λ (x : Placed). x.entry) old (record { place = n; entry = e }))
     ∙ reverse-append (map (λ (x : Placed). x.entry) old) (e ∷ []))
 
-pub keeps_posts : (wanted : LineDef → List Entry → Actor → Type 0) (lines : List LockSeen) (place : ℕ)
+pub keeps_posts : (terms : Terms) (lines : List LockSeen) (place : ℕ)
     (attempt : Attempt) (old new : JobSeen) → ArePosted lines old
-    → StepsPost wanted lines place attempt old new → KeepsPosts lines old new
-keeps_posts wanted lines place attempt old new posted s =
+    → StepsPost terms lines place attempt old new → KeepsPosts terms lines old new
+keeps_posts terms lines place attempt old new posted s =
     record {
       actor = ap (λ (j : JobSeen). j.actor) s.is;
       first = ap (λ (j : JobSeen). j.first) s.is;
       as_many = ap (λ (j : JobSeen). length j.posts) s.is ∙ length-set old.posts place s.after;
-      posted = still_posted wanted lines place attempt old new posted s;
-      grew = posts_grew wanted lines place attempt old new posted s;
+      posted = still_posted terms lines place attempt old new posted s;
+      grew = posts_grew terms lines place attempt old new posted s;
     }
 
 -- the pass that was tried, and the others
-pub post_now : (wanted : LineDef → List Entry → Actor → Type 0) (lines : List LockSeen) (place : ℕ) (attempt : Attempt) (old new : JobSeen)
-    (s : StepsPost wanted lines place attempt old new) (i : ℕ) (t : PostSeen) → slice_get new.posts i ≡ Some t
+pub post_now : (terms : Terms) (lines : List LockSeen) (place : ℕ) (attempt : Attempt) (old new : JobSeen)
+    (s : StepsPost terms lines place attempt old new) (i : ℕ) (t : PostSeen) → slice_get new.posts i ≡ Some t
     → ((i ≡ place) × (t ≡ s.after)) ⊎ ((i ≡ place → ⊥) × (slice_get old.posts i ≡ Some t))
-post_now wanted lines place attempt old new s i t at = at_set old.posts place s.after i t (ap (λ (j : JobSeen). slice_get j.posts i) (sym s.is) ∙ at)
+post_now terms lines place attempt old new s i t at = at_set old.posts place s.after i t (ap (λ (j : JobSeen). slice_get j.posts i) (sym s.is) ∙ at)
 
-pub post_there : (wanted : LineDef → List Entry → Actor → Type 0) (lines : List LockSeen) (place : ℕ) (attempt : Attempt) (old new : JobSeen)
-    (s : StepsPost wanted lines place attempt old new) → slice_get new.posts place ≡ Some s.after
-post_there wanted lines place attempt old new s = ap (λ (j : JobSeen). slice_get j.posts place) s.is ∙ set_there old.posts place s.after s.post s.at_post
+pub post_there : (terms : Terms) (lines : List LockSeen) (place : ℕ) (attempt : Attempt) (old new : JobSeen)
+    (s : StepsPost terms lines place attempt old new) → slice_get new.posts place ≡ Some s.after
+post_there terms lines place attempt old new s = ap (λ (j : JobSeen). slice_get j.posts place) s.is ∙ set_there old.posts place s.after s.post s.at_post
 
 -- a post rests only if nothing was due
 never_rests : (tried : Result (Option Entry) StepRefused) → (tried ≡ Ok None → ⊥) → rests_after tried ≡ false
 never_rests (Ok (Some e)) not = refl
 never_rests (Ok None) not = absurd (not refl)
-never_rests (Err (refusals.Full len)) not = refl
+never_rests (Err (refusals.Full number len)) not = refl
 never_rests (Err refusals.NoMemory) not = refl
 
-pub refused_is_so : (wanted : LineDef → List Entry → Actor → Type 0) (lines : List LockSeen) (place : ℕ) (attempt : Attempt) (old new : JobSeen)
-    → StepsPost wanted lines place attempt old new → RefusedIsSo wanted new attempt
-refused_is_so wanted lines place attempt old new s = subst (λ (t : Attempt). RefusedIsSo wanted new t) (sym s.told) (by_tried s.tried s.tries)
+pub refused_is_so : (terms : Terms) (lines : List LockSeen) (place : ℕ) (attempt : Attempt) (old new : JobSeen)
+    → StepsPost terms lines place attempt old new → RefusedIsSo terms new attempt
+refused_is_so terms lines place attempt old new s = subst (λ (t : Attempt). RefusedIsSo terms new t) (sym s.told) (by_tried s.tried s.tries)
   where
     by_tried : (tried : Result (Option Entry) StepRefused)
-        → Tries wanted s.line.def old.actor s.post.pass.knows tried s.after.pass.knows
-        → RefusedIsSo wanted new (attempt_of s.line.def.line tried)
+        → Tries terms s.line.def old.actor s.post.pass.knows tried s.after.pass.knows
+        → RefusedIsSo terms new (attempt_of tried)
     by_tried (Ok (Some e)) t = tt
     by_tried (Ok None) t = tt
-    by_tried (Err (refusals.Full len)) t =
+    by_tried (Err (refusals.Full number len)) t =
         let def : s.after.pass.def ≡ s.line.def = s.is_post.of_line.1 in
         record {
           place = place;
           post = s.after;
-          at = post_there wanted lines place attempt old new s;
-          number = ap (λ (d : LineDef). d.line) def;
+          at = post_there terms lines place attempt old new s;
+          number = ap (λ (d : LineDef). d.line) def ∙ sym t.came.1;
           is = subst (λ (d : LineDef). IsFull d new.actor s.after.pass.knows) (sym def)
               (subst (λ (a : Actor). IsFull s.line.def a s.after.pass.knows) (sym (ap (λ (j : JobSeen). j.actor) s.is))
               t.came.0);
-          log = t.came.1 ∙ ap (λ (d : LineDef). d.log) (sym def);
+          log = t.came.2 ∙ ap (λ (d : LineDef). d.log) (sym def);
         }
     by_tried (Err refusals.NoMemory) t =
         record {
           place = place;
           post = s.after;
-          at = post_there wanted lines place attempt old new s;
-          is = subst (λ (d : LineDef). wanted d s.after.pass.knows.seen new.actor) (sym s.is_post.of_line.1)
-              (subst (λ (a : Actor). wanted s.line.def s.after.pass.knows.seen a) (sym (ap (λ (j : JobSeen). j.actor) s.is)) t.came.0);
+          at = post_there terms lines place attempt old new s;
+          is = subst (λ (d : LineDef). terms.wanted d s.after.pass.knows.seen new.actor) (sym s.is_post.of_line.1)
+              (subst (λ (a : Actor). terms.wanted s.line.def s.after.pass.knows.seen a) (sym (ap (λ (j : JobSeen). j.actor) s.is)) t.came.0);
         }
 
 -- ---- what was tried
 
-pub moved_is : (n : LineNo) (e : Entry) (tried : Result (Option Entry) StepRefused) → attempts.Moved e ≡ attempt_of n tried → tried ≡ Ok (Some e)
-moved_is n e (Ok (Some f)) is = let same : e ≡ f = cc in ap (λ (x : Entry). Ok (Some x)) (sym same)
-moved_is n e (Ok None) is = cc
-moved_is n e (Err (refusals.Full len)) is = cc
-moved_is n e (Err refusals.NoMemory) is = cc
+pub moved_is : (e : Entry) (tried : Result (Option Entry) StepRefused) → attempts.Moved e ≡ attempt_of tried → tried ≡ Ok (Some e)
+moved_is e (Ok (Some f)) is = let same : e ≡ f = cc in ap (λ (x : Entry). Ok (Some x)) (sym same)
+moved_is e (Ok None) is = cc
+moved_is e (Err (refusals.Full number len)) is = cc
+moved_is e (Err refusals.NoMemory) is = cc
 
-pub not_yet_is : (n : LineNo) (tried : Result (Option Entry) StepRefused) → attempts.NotYet ≡ attempt_of n tried → tried ≡ Ok None
-not_yet_is n (Ok (Some f)) is = cc
-not_yet_is n (Ok None) is = refl
-not_yet_is n (Err (refusals.Full len)) is = cc
-not_yet_is n (Err refusals.NoMemory) is = cc
+pub not_yet_is : (tried : Result (Option Entry) StepRefused) → attempts.NotYet ≡ attempt_of tried → tried ≡ Ok None
+not_yet_is (Ok (Some f)) is = cc
+not_yet_is (Ok None) is = refl
+not_yet_is (Err (refusals.Full number len)) is = cc
+not_yet_is (Err refusals.NoMemory) is = cc
 
 -- without an entry the pass's own stay
-pub nothing_gained : (wanted : LineDef → List Entry → Actor → Type 0) (def : LineDef) (who : Actor) (n : LineNo) (old new : Known)
-    (tried : Result (Option Entry) StepRefused) (attempt : Attempt) → attempt ≡ attempt_of n tried
-    → ((e : Entry) → attempt ≡ attempts.Moved e → ⊥) → Tries wanted def who old tried new → new.mine ≡ old.mine
-nothing_gained wanted def who n old new (Ok (Some e)) attempt told not t = absurd (not e told)
-nothing_gained wanted def who n old new (Ok None) attempt told not t = t.came.1
-nothing_gained wanted def who n old new (Err (refusals.Full len)) attempt told not t = t.came.2
-nothing_gained wanted def who n old new (Err refusals.NoMemory) attempt told not t = t.came.1
+pub nothing_gained : (terms : Terms) (def : LineDef) (who : Actor) (old new : Known)
+    (tried : Result (Option Entry) StepRefused) (attempt : Attempt) → attempt ≡ attempt_of tried
+    → ((e : Entry) → attempt ≡ attempts.Moved e → ⊥) → Tries terms def who old tried new → new.mine ≡ old.mine
+nothing_gained terms def who old new (Ok (Some e)) attempt told not t = absurd (not e told)
+nothing_gained terms def who old new (Ok None) attempt told not t = t.came.1
+nothing_gained terms def who old new (Err (refusals.Full number len)) attempt told not t = t.came.3
+nothing_gained terms def who old new (Err refusals.NoMemory) attempt told not t = t.came.1
 
 -- ---- flows
 
@@ -153,13 +153,13 @@ flow_on def e past h c is_h is_c none = (
     last_before : List Entry → Option Entry
     last_before es = last_of (λ f. is_handle f || closes def f) es
 
-module _ (wanted : LineDef → List Entry → Actor → Type 0) (lines : List LockSeen) (place : ℕ) (old mid : JobSeen)
+module _ (terms : Terms) (lines : List LockSeen) (place : ℕ) (old mid : JobSeen)
     (posted : ArePosted lines old) (one : HasOneFlow old)
     (its : HasItsFlow old) (free : (i : ℕ) → old.flow ≡ Some i → i ≡ place) where
   others_flow : (i : ℕ) (t : PostSeen) → (i ≡ place → ⊥) → slice_get old.posts i ≡ Some t → has_flow t.pass.def (own_past t.pass.knows.mine) ≡ false
   others_flow i t other at = one i t at (λ is. other (free i is))
 
-  module _ (attempt : Attempt) (s : StepsPost wanted lines place attempt old mid) where
+  module _ (attempt : Attempt) (s : StepsPost terms lines place attempt old mid) where
     post_def : s.post.pass.def ≡ s.line.def
     post_def = (subst (λ (o : Option LockSeen). IsSomeAnd o (λ l. IsPost l old.actor s.post)) s.at_line (posted place s.post s.at_post)).of_line.1
 
@@ -167,24 +167,24 @@ module _ (wanted : LineDef → List Entry → Actor → Type 0) (lines : List Lo
     post_actor = (subst (λ (o : Option LockSeen). IsSomeAnd o (λ l. IsPost l old.actor s.post)) s.at_line (posted place s.post s.at_post)).actor
 
     -- when no entry was added
-    pub cpu_rests : ((e : Entry) → attempt ≡ attempts.Moved e → ⊥) → StepsCpu wanted lines place attempt old mid
+    pub cpu_rests : ((e : Entry) → attempt ≡ attempts.Moved e → ⊥) → StepsCpu terms lines place attempt old mid
     cpu_rests not =
         record {
-          keeps = keeps_posts wanted lines place attempt old mid posted s;
+          keeps = keeps_posts terms lines place attempt old mid posted s;
           flow = one_flow;
           its = still_its;
-          moves = λ was is. due was (not_yet_is s.line.def.line s.tried (sym is ∙ s.told));
+          moves = λ was is. due was (not_yet_is s.tried (sym is ∙ s.told));
           rests = rests;
           still = λ is. ap (λ (j : JobSeen). j.flow) s.is;
           others = others;
-          refused = refused_is_so wanted lines place attempt old mid s;
-          room = room_after wanted lines place attempt old mid posted s;
+          refused = refused_is_so terms lines place attempt old mid s;
+          room = room_after terms lines place attempt old mid posted s;
         }
       where
         one_flow : HasOneFlow mid
-        one_flow i t at none = elim (post_now wanted lines place attempt old mid s i t at) [
+        one_flow i t at none = elim (post_now terms lines place attempt old mid s i t at) [
           | inl here ↦
-              let mine = nothing_gained wanted s.line.def old.actor s.line.def.line s.post.pass.knows s.after.pass.knows s.tried attempt s.told not s.tries in
+              let mine = nothing_gained terms s.line.def old.actor s.post.pass.knows s.after.pass.knows s.tried attempt s.told not s.tries in
               ap (λ (x : PostSeen). has_flow x.pass.def (own_past x.pass.knows.mine)) here.1
               ∙ (ap (λ (d : LineDef). has_flow d (own_past s.after.pass.knows.mine)) (s.is_post.of_line.1 ∙ sym post_def)
               ∙ (ap (λ (ps : List Placed). has_flow s.post.pass.def (own_past ps)) mine
@@ -207,11 +207,11 @@ module _ (wanted : LineDef → List Entry → Actor → Type 0) (lines : List Lo
             let at_place : old.flow ≡ Some place = was ∙ ap (λ (k : ℕ). Some k) here in
             let f = its place at_place in
             let same : f.1 ≡ s.post = the_same f.1 s.post (sym f.3 ∙ s.at_post) in
-            let mine = nothing_gained wanted s.line.def old.actor s.line.def.line s.post.pass.knows s.after.pass.knows s.tried attempt s.told not s.tries in (
+            let mine = nothing_gained terms s.line.def old.actor s.post.pass.knows s.after.pass.knows s.tried attempt s.told not s.tries in (
               f.0,
               s.after,
               ap (λ (j : JobSeen). j.actor) s.is ∙ f.2,
-              ap (λ (k : ℕ). slice_get mid.posts k) here ∙ post_there wanted lines place attempt old mid s,
+              ap (λ (k : ℕ). slice_get mid.posts k) here ∙ post_there terms lines place attempt old mid s,
               s.rests ∙ never_rests s.tried (due at_place),
               ap (λ (d : LineDef). flow d (own_past s.after.pass.knows.mine)) (s.is_post.of_line.1 ∙ sym post_def)
                   ∙ (ap (λ (ps : List Placed). flow s.post.pass.def (own_past ps)) mine
@@ -219,27 +219,27 @@ module _ (wanted : LineDef → List Entry → Actor → Type 0) (lines : List Lo
             )
 
         rests : attempt ≡ attempts.NotYet → (t : PostSeen) → slice_get mid.posts place ≡ Some t → t.rests ≡ true
-        rests is t at = elim (post_now wanted lines place attempt old mid s place t at) [
-          | inl here ↦ ap (λ (x : PostSeen). x.rests) here.1 ∙ (s.rests ∙ ap rests_after (not_yet_is s.line.def.line s.tried (sym is ∙ s.told)))
+        rests is t at = elim (post_now terms lines place attempt old mid s place t at) [
+          | inl here ↦ ap (λ (x : PostSeen). x.rests) here.1 ∙ (s.rests ∙ ap rests_after (not_yet_is s.tried (sym is ∙ s.told)))
           | inr other ↦ absurd (other.0 refl)
         ]
 
         others : (i : ℕ) (t : PostSeen) → (i ≡ place → ⊥) → slice_get mid.posts i ≡ Some t → slice_get old.posts i ≡ Some t
-        others i t apart at = elim (post_now wanted lines place attempt old mid s i t at) [ inl here ↦ absurd (apart here.0) | inr other ↦ other.1 ]
+        others i t apart at = elim (post_now terms lines place attempt old mid s i t at) [ inl here ↦ absurd (apart here.0) | inr other ↦ other.1 ]
 
   -- when an entry was added
-  pub cpu_moved : (e : Entry) (s : StepsPost wanted lines place (attempts.Moved e) old mid) (w : FlowKind) (new : JobSeen)
+  pub cpu_moved : (e : Entry) (s : StepsPost terms lines place (attempts.Moved e) old mid) (w : FlowKind) (new : JobSeen)
       → w ≡ s.line.def.flow → new ≡ record mid { flow = flow_after w e place mid.flow }
-      → StepsCpu wanted lines place (attempts.Moved e) old new
+      → StepsCpu terms lines place (attempts.Moved e) old new
   cpu_moved e s w new way is =
-      let k = keeps_posts wanted lines place (attempts.Moved e) old mid posted s in
+      let k = keeps_posts terms lines place (attempts.Moved e) old mid posted s in
       record {
         keeps = record {
           actor = ap (λ (j : JobSeen). j.actor) is ∙ k.actor;
           first = ap (λ (j : JobSeen). j.first) is ∙ k.first;
           as_many = ap (λ (j : JobSeen). length j.posts) is ∙ k.as_many;
           posted = subst (λ (j : JobSeen). ArePosted lines j) (sym is) k.posted;
-          grew = subst (λ (j : JobSeen). PostsGrow old.posts j.posts) (sym is) k.grew;
+          grew = subst (λ (j : JobSeen). PostsGrow terms.gave old.posts j.posts) (sym is) k.grew;
         };
         flow = one_flow;
         its = new_its;
@@ -248,18 +248,18 @@ module _ (wanted : LineDef → List Entry → Actor → Type 0) (lines : List Lo
         still = λ h. cc;
         others = others;
         refused = tt;
-        room = room_as (attempts.Moved e) old mid new (ap (λ (j : JobSeen). j.posts) is) (room_after wanted lines place (attempts.Moved e) old mid posted s);
+        room = room_as (attempts.Moved e) old mid new (ap (λ (j : JobSeen). j.posts) is) (room_after terms lines place (attempts.Moved e) old mid posted s);
       }
     where
       post_at : (i : ℕ) (t : PostSeen) → slice_get new.posts i ≡ Some t → ((i ≡ place) × (t ≡ s.after)) ⊎ ((i ≡ place → ⊥) × (slice_get old.posts i ≡ Some t))
-      post_at i t at = post_now wanted lines place (attempts.Moved e) old mid s i t (ap (λ (j : JobSeen). slice_get j.posts i) (sym is) ∙ at)
+      post_at i t at = post_now terms lines place (attempts.Moved e) old mid s i t (ap (λ (j : JobSeen). slice_get j.posts i) (sym is) ∙ at)
 
       others : (i : ℕ) (t : PostSeen) → (i ≡ place → ⊥) → slice_get new.posts i ≡ Some t → slice_get old.posts i ≡ Some t
       others i t apart at = elim (post_at i t at) [ inl here ↦ absurd (apart here.0) | inr other ↦ other.1 ]
 
-      gains : Gains s.line.def old.actor s.post.pass.knows e s.after.pass.knows
-      gains = (subst (λ (r : Result (Option Entry) StepRefused). Tries wanted s.line.def old.actor s.post.pass.knows r
-          s.after.pass.knows) (moved_is s.line.def.line e s.tried s.told) s.tries).came
+      gains : Gains terms.gave s.line.def old.actor s.post.pass.knows e s.after.pass.knows
+      gains = (subst (λ (r : Result (Option Entry) StepRefused). Tries terms s.line.def old.actor s.post.pass.knows r
+          s.after.pass.knows) (moved_is e s.tried s.told) s.tries).came
 
       def_is : s.after.pass.def ≡ s.post.pass.def
       def_is = s.is_post.of_line.1 ∙ sym (post_def (attempts.Moved e) s)
@@ -298,8 +298,8 @@ module _ (wanted : LineDef → List Entry → Actor → Type 0) (lines : List Lo
         s.after,
         ap (λ (j : JobSeen). j.actor) is ∙ (ap (λ (j : JobSeen). j.actor) s.is ∙ actor),
         ap (λ (j : JobSeen). slice_get j.posts i) is ∙
-            (ap (λ (k : ℕ). slice_get mid.posts k) here ∙ post_there wanted lines place (attempts.Moved e) old mid s),
-        s.rests ∙ ap rests_after (moved_is s.line.def.line e s.tried s.told),
+            (ap (λ (k : ℕ). slice_get mid.posts k) here ∙ post_there terms lines place (attempts.Moved e) old mid s),
+        s.rests ∙ ap rests_after (moved_is e s.tried s.told),
         its_flow,
       )
 
@@ -333,17 +333,17 @@ module _ (wanted : LineDef → List Entry → Actor → Type 0) (lines : List Lo
 
 -- ---- one pass after another
 
-pub keeps_first : (lines : List LockSeen) (j : JobSeen) → ArePosted lines j → KeepsPosts lines j j
-keeps_first lines j posted = record { actor = refl; first = refl; as_many = refl; posted = posted; grew = posts_self j.posts }
+pub keeps_first : {terms : Terms} (lines : List LockSeen) (j : JobSeen) → ArePosted lines j → KeepsPosts terms lines j j
+keeps_first {terms} lines j posted = record { actor = refl; first = refl; as_many = refl; posted = posted; grew = posts_self terms.gave j.posts }
 
-pub keeps_on : (lines : List LockSeen) (a b c : JobSeen) → KeepsPosts lines a b → KeepsPosts lines b c → KeepsPosts lines a c
-keeps_on lines a b c k l =
+pub keeps_on : {terms : Terms} (lines : List LockSeen) (a b c : JobSeen) → KeepsPosts terms lines a b → KeepsPosts terms lines b c → KeepsPosts terms lines a c
+keeps_on {terms} lines a b c k l =
     record {
       actor = l.actor ∙ k.actor;
       first = l.first ∙ k.first;
       as_many = l.as_many ∙ k.as_many;
       posted = l.posted;
-      grew = posts_more a.posts b.posts c.posts k.grew l.grew;
+      grew = posts_more terms.gave a.posts b.posts c.posts k.grew l.grew;
     }
 
 pub not_yet_from : (attempt : Attempt) → is_not_yet attempt ≡ true → attempt ≡ attempts.NotYet
@@ -352,23 +352,23 @@ not_yet_from attempts.NotYet is = refl
 not_yet_from (attempts.Full line len) is = cc
 not_yet_from attempts.NoMemory is = cc
 
-pub rests_more : (wanted : LineDef → List Entry → Actor → Type 0) (lines : List LockSeen) (place : ℕ)
+pub rests_more : (terms : Terms) (lines : List LockSeen) (place : ℕ)
     (attempt : Attempt) (old new : JobSeen) → attempt ≡ attempts.NotYet
-    → StepsCpu wanted lines place attempt old new → ((i : ℕ) (s : PostSeen) → i < place → slice_get old.posts i ≡ Some s
+    → StepsCpu terms lines place attempt old new → ((i : ℕ) (s : PostSeen) → i < place → slice_get old.posts i ≡ Some s
     → s.rests ≡ true)
     → (i : ℕ) (s : PostSeen) → i < place + 1 → slice_get new.posts i ≡ Some s → s.rests ≡ true
-rests_more wanted lines place attempt old new not s rest i t less at = elim (two i place less) [
+rests_more terms lines place attempt old new not s rest i t less at = elim (two i place less) [
   | inl before ↦ rest i t before (s.others i t (λ same. omega (arith, same, before)) at)
   | inr here ↦ s.rests not t (ap (λ (k : ℕ). slice_get new.posts k) (sym here) ∙ at)
 ]
 
 -- a processor's attempt that did something, after tries at which nothing was due
-pub cpu_after : (wanted : LineDef → List Entry → Actor → Type 0) (lines : List LockSeen) (attempt : Attempt)
-    (old mid now new : JobSeen) (place : ℕ) → KeepsPosts lines old mid → StaysSo old mid
-    → StepsCpu wanted lines place attempt mid now → is_not_yet attempt ≡ false → new ≡ now
-    → AttemptsCpu wanted lines attempt old new
-cpu_after wanted lines attempt old mid now new place k stay s not same =
-    subst (λ (j : JobSeen). AttemptsCpu wanted lines attempt old j) (sym same)
+pub cpu_after : (terms : Terms) (lines : List LockSeen) (attempt : Attempt)
+    (old mid now new : JobSeen) (place : ℕ) → KeepsPosts terms lines old mid → StaysSo old mid
+    → StepsCpu terms lines place attempt mid now → is_not_yet attempt ≡ false → new ≡ now
+    → AttemptsCpu terms lines attempt old new
+cpu_after terms lines attempt old mid now new place k stay s not same =
+    subst (λ (j : JobSeen). AttemptsCpu terms lines attempt old j) (sym same)
     (record {
       keeps = keeps_on lines old mid now k s.keeps;
       flow = s.flow;
@@ -379,11 +379,11 @@ cpu_after wanted lines attempt old mid now new place k stay s not same =
     })
 
 -- a processor's attempt when nothing was due on any line
-pub cpu_done : (wanted : LineDef → List Entry → Actor → Type 0) (lines : List LockSeen) (old now : JobSeen) (place : ℕ)
-    → KeepsPosts lines old now → HasOneFlow now → now.flow ≡ None
+pub cpu_done : (terms : Terms) (lines : List LockSeen) (old now : JobSeen) (place : ℕ)
+    → KeepsPosts terms lines old now → HasOneFlow now → now.flow ≡ None
     → ((i : ℕ) (s : PostSeen) → i < place → slice_get now.posts i ≡ Some s → s.rests ≡ true) → length now.posts ≤ place
-    → StaysSo old now → AttemptsCpu wanted lines attempts.NotYet old now
-cpu_done wanted lines old now place k flow none rest all stay =
+    → StaysSo old now → AttemptsCpu terms lines attempts.NotYet old now
+cpu_done terms lines old now place k flow none rest all stay =
     record {
       keeps = k;
       flow = flow;

@@ -392,6 +392,17 @@ module _ (board : BoardSeen) (lines : List LockSeen) (rest : List JobSeen) (j : 
               })
             ]
 
+    given_more : (k : ℕ) (p : PassSeen) → slice_get new k ≡ Some p
+        → (q : PassSeen) × (slice_get start k ≡ Some q) × (p.knows.given ≡ q.knows.given)
+    given_more k p at =
+        let e = m.each k p at in
+        let s = b.given k e.0 e.1 in
+        (s.0, s.1, same e.0 e.2 ∙ s.2)
+      where
+        same : (q : PassSeen) → HasMetOne lines j k q p ⊎ HasMetNone j k q p → p.knows.given ≡ q.knows.given
+        same q (inl one) = given_same k p q one
+        same q (inr none) = ap (λ (x : PassSeen). x.knows.given) none.1
+
     each_more : (i place : ℕ) (x : JobSeen) (s : PostSeen) → slice_get (j ∷ done) i ≡ Some x → slice_get x.posts place ≡ Some s
         → IsSomeAnd (slice_get new (x.first + place)) (λ p. HasAllOf p.def p.knows.seen x.actor s.pass × IsMetIn x.actor p)
     each_more zero place x s at_job at_post =
@@ -417,11 +428,12 @@ module _ (board : BoardSeen) (lines : List LockSeen) (rest : List JobSeen) (j : 
     drivers_more (suc i) x r at is = let before = b.drivers i x r at is in back_still r x.at before.0 before.1
 
     pub back_on : AreBack board (j ∷ done) start new
-    back_on = record { lines = lines_more; each = each_more; drivers = drivers_more }
+    back_on = record { lines = lines_more; given = given_more; each = each_more; drivers = drivers_more }
 
 pub none_back : (board : BoardSeen) (firsts : List PassSeen) → AreBack board [] firsts firsts
 none_back board firsts = record {
   lines = λ k p at. (p, at, begins_self p.knows.seen, inl refl);
+  given = λ k p at. (p, at, refl);
   each = λ i place j s at_job at_post. cc;
   drivers = λ i j r at is. cc;
 }

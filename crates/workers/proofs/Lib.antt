@@ -12,6 +12,7 @@ pub mod InFlow
 pub mod Gathering
 pub mod Finishing
 pub mod Attempting
+pub mod Given
 pub mod Growing
 pub mod Rooms
 pub mod Flowing

@@ -1,7 +1,6 @@
 -- How much more the passes of jobs can see, and how many steps were made, after a try, an attempt and a shift.
 use Rattle.std.proofs.Common.{◌≡◌, ℕ, zero, suc, ◌<◌, ◌≤◌, IsSomeAnd, Option, Some, None, Result, Ok, Err, List, []}
 use Rattle.std.proofs.Common.{◌∷◌, length, get_or, set, slice_get, sym, ap, ◌∙◌, subst, arith, length-append}
-use Rattle.irq_base.specs.declared.entries.Actor.{Actor}
 use Rattle.irq_base.specs.declared.entries.Entry.{Entry}
 use Rattle.irq_base.specs.declared.lines.LineDef.{LineDef}
 use Rattle.irq_laws.proofs.Chosen.{the_same}
@@ -20,6 +19,7 @@ use Rattle.workers.specs.declared.job.PartEnd.{PartEnd}
 use Rattle.workers.specs.declared.job.PartEnd.TheVariants as part_ends
 use Rattle.workers.specs.declared.attempts.Attempt.{Attempt}
 use Rattle.workers.specs.declared.attempts.Attempt.TheVariants as attempts
+use Rattle.workers.specs.Terms.{Terms}
 
 -- ---- one pass
 
@@ -53,9 +53,9 @@ made_same (z ∷ zs) (suc k) y x at same = let l = made_same zs k y x at same in
 
 -- ---- one try
 
-pub room_after : (wanted : LineDef → List Entry → Actor → Type 0) (lines : List LockSeen) (place : ℕ) (attempt : Attempt)
-    (old new : JobSeen) → ArePosted lines old → StepsPost wanted lines place attempt old new → RoomAfter attempt old new
-room_after wanted lines place attempt old new posted s = subst (λ (t : Attempt). RoomAfter t old new) (sym s.told) (by_tried s.tried s.tries)
+pub room_after : (terms : Terms) (lines : List LockSeen) (place : ℕ) (attempt : Attempt)
+    (old new : JobSeen) → ArePosted lines old → StepsPost terms lines place attempt old new → RoomAfter attempt old new
+room_after terms lines place attempt old new posted s = subst (λ (t : Attempt). RoomAfter t old new) (sym s.told) (by_tried s.tried s.tries)
   where
     posts_are : new.posts ≡ set old.posts place s.after
     posts_are = ap (λ (j : JobSeen). j.posts) s.is
@@ -86,8 +86,8 @@ room_after wanted lines place attempt old new posted s = subst (λ (t : Attempt)
         omega (arith, m, same_made)
 
     by_tried : (tried : Result (Option Entry) StepRefused)
-        → Tries wanted s.line.def old.actor s.post.pass.knows tried s.after.pass.knows
-        → RoomAfter (attempt_of s.line.def.line tried) old new
+        → Tries terms s.line.def old.actor s.post.pass.knows tried s.after.pass.knows
+        → RoomAfter (attempt_of tried) old new
     by_tried (Ok (Some e)) t =
         let g = t.came in
         let l = no_shorter g.history s.post.pass.knows.seen g.onto in
@@ -101,7 +101,7 @@ room_after wanted lines place attempt old new posted s = subst (λ (t : Attempt)
         let more = made_more old.posts place s.after s.post s.at_post (omega (arith, p, q)) in
         (omega (arith, m, same), omega (arith, more, same_made))
     by_tried (Ok None) t = (no_more t.begins, none t.came.1)
-    by_tried (Err (refusals.Full len)) t = (no_more t.begins, none t.came.2)
+    by_tried (Err (refusals.Full number len)) t = (no_more t.begins, none t.came.3)
     by_tried (Err refusals.NoMemory) t = (no_more t.begins, none t.came.1)
 
 -- ---- attempts

@@ -4,7 +4,6 @@ use Rattle.std.proofs.Common.{ltb-false, cond, All, IsSomeAnd, Option, Some, Non
 use Rattle.std.proofs.Common.{take, drop, length, get_or, slice_get, IsPermutation, refl, sym, ap, ◌∙◌, subst, arith}
 use Rattle.irq_base.specs.declared.entries.Actor.{Actor}
 use Rattle.irq_base.specs.declared.entries.Actor.TheVariants as actors
-use Rattle.irq_base.specs.declared.entries.Entry.{Entry}
 use Rattle.irq_base.specs.declared.lines.LineDef.{LineDef}
 use Rattle.irq_base.specs.declared.numbers.CpuNo.{CpuNo}
 use Rattle.irq_base.specs.declared.numbers.DevNo.{DevNo}
@@ -32,13 +31,14 @@ use Rattle.workers.proofs.Flowing.{keeps_posts, post_now, refused_is_so, not_yet
 use Rattle.workers.proofs.Growing.{posts_self, posts_more, jobs_grew}
 use Rattle.workers.proofs.Lists.{within, there_or, two}
 use Rattle.workers.proofs.Rooms.{room_after, room_after_part, all_no_more, some_less}
+use Rattle.workers.specs.Terms.{Terms}
 
-comes : (wanted : LineDef → List Entry → Actor → Type 0) (board : BoardSeen) (j : JobSeen) (attempt : Attempt)
-    → (attempt ≡ attempts.NotYet → IsAtRest board j j.actor) → RefusedIsSo wanted j attempt → ComesTo wanted board j attempt
-comes wanted board j (attempts.Moved e) rest refused = tt
-comes wanted board j attempts.NotYet rest refused = rest refl
-comes wanted board j (attempts.Full line len) rest refused = refused
-comes wanted board j attempts.NoMemory rest refused = refused
+comes : (terms : Terms) (board : BoardSeen) (j : JobSeen) (attempt : Attempt)
+    → (attempt ≡ attempts.NotYet → IsAtRest board j j.actor) → RefusedIsSo terms j attempt → ComesTo terms board j attempt
+comes terms board j (attempts.Moved e) rest refused = tt
+comes terms board j attempts.NotYet rest refused = rest refl
+comes terms board j (attempts.Full line len) rest refused = refused
+comes terms board j attempts.NoMemory rest refused = refused
 
 -- a pass that rests
 idle_of : (lines : List LockSeen) (j : JobSeen) → ArePosted lines j → (i : ℕ) (s : PostSeen)
@@ -49,12 +49,12 @@ idle_of lines j posted i s at rests = by_line (slice_get lines (j.first + i)) (p
     by_line None is = absurd is
     by_line (Some l) is = subst (λ (d : LineDef). IsIdle d j.actor s.pass.knows) (sym is.of_line.1) (is.rests rests)
 
-module _ (wanted : LineDef → List Entry → Actor → Type 0) (board : BoardSeen) (lines : List LockSeen)
+module _ (terms : Terms) (board : BoardSeen) (lines : List LockSeen)
     (attempt : Attempt) (old new : JobSeen) (job : IsJob board lines old) where
   manned_as : (a : Actor) → old.actor ≡ a → IsManned board lines old a
   manned_as a is = subst (λ (b : Actor). IsManned board lines old b) is job.manned
 
-  works : (k : KeepsPosts lines old new) (a : Actor) → old.actor ≡ a → IsManned board lines new a → WorksOn board lines old new
+  works : (k : KeepsPosts terms lines old new) (a : Actor) → old.actor ≡ a → IsManned board lines new a → WorksOn terms board lines old new
   works k a is manned = record {
     actor = k.actor;
     first = k.first;
@@ -69,7 +69,7 @@ module _ (wanted : LineDef → List Entry → Actor → Type 0) (board : BoardSe
   }
 
   pub thread_attempted : (dev : DevNo) → old.actor ≡ actors.Thread dev
-      → StepsPost wanted lines 0 attempt old new → AttemptsJob wanted board lines attempt old new
+      → StepsPost terms lines 0 attempt old new → AttemptsJob terms board lines attempt old new
   thread_attempted dev is s =
       record {
         works = works k (actors.Thread dev) is (
@@ -77,12 +77,12 @@ module _ (wanted : LineDef → List Entry → Actor → Type 0) (board : BoardSe
               omega (arith, l, o),
           subst (λ (n : ℕ). IsPlaceOfDevice board lines dev n) (sym k.first) m.1,
         );
-        came = comes wanted board new attempt rest (refused_is_so wanted lines 0 attempt old new s);
-        room = room_after wanted lines 0 attempt old new job.posted s;
+        came = comes terms board new attempt rest (refused_is_so terms lines 0 attempt old new s);
+        room = room_after terms lines 0 attempt old new job.posted s;
       }
     where
-      k : KeepsPosts lines old new
-      k = keeps_posts wanted lines 0 attempt old new job.posted s
+      k : KeepsPosts terms lines old new
+      k = keeps_posts terms lines 0 attempt old new job.posted s
 
       m : IsManned board lines old (actors.Thread dev)
       m = manned_as (actors.Thread dev) is
@@ -91,20 +91,20 @@ module _ (wanted : LineDef → List Entry → Actor → Type 0) (board : BoardSe
       rest not = subst (λ (a : Actor). IsAtRest board new a) (sym (k.actor ∙ is)) each
         where
           each : (i : ℕ) (t : PostSeen) → slice_get new.posts i ≡ Some t → IsIdle t.pass.def (actors.Thread dev) t.pass.knows
-          each i t at = elim (post_now wanted lines 0 attempt old new s i t at) [
+          each i t at = elim (post_now terms lines 0 attempt old new s i t at) [
             | inl here ↦
                 subst (λ (a : Actor). IsIdle t.pass.def a t.pass.knows) (k.actor ∙ is)
                 (idle_of lines new k.posted i t at (ap (λ (x : PostSeen). x.rests) here.1
-                ∙ (s.rests ∙ ap rests_after (not_yet_is s.line.def.line s.tried (sym not ∙ s.told)))))
+                ∙ (s.rests ∙ ap rests_after (not_yet_is s.tried (sym not ∙ s.told)))))
             | inr other ↦ absurd (other.0 (let w = within new.posts i t at in let l = k.as_many in let o = m.0 in omega (arith, w, l, o)))
           ]
 
-  pub cpu_attempted : (c : CpuNo) → old.actor ≡ actors.Cpu c → AttemptsCpu wanted lines attempt old new
-      → AttemptsJob wanted board lines attempt old new
+  pub cpu_attempted : (c : CpuNo) → old.actor ≡ actors.Cpu c → AttemptsCpu terms lines attempt old new
+      → AttemptsJob terms board lines attempt old new
   cpu_attempted c is t =
       record {
         works = works t.keeps (actors.Cpu c) is (t.keeps.first ∙ m.0, t.keeps.as_many ∙ m.1, t.flow, t.its);
-        came = comes wanted board new attempt rest t.refused;
+        came = comes terms board new attempt rest t.refused;
         room = t.room;
       }
     where
@@ -123,29 +123,29 @@ module _ (wanted : LineDef → List Entry → Actor → Type 0) (board : BoardSe
       let m = manned_as (actors.Driver r) is in
       record { actor = is; posted = job.posted; first = m.0; as_many = m.1; up_to = m.2; within = m.3 }
 
-  pub job_driven : (r : DriverNo) → old.actor ≡ actors.Driver r → AttemptsDriver wanted board lines r attempt old new
-      → AttemptsJob wanted board lines attempt old new
+  pub job_driven : (r : DriverNo) → old.actor ≡ actors.Driver r → AttemptsDriver terms board lines r attempt old new
+      → AttemptsJob terms board lines attempt old new
   job_driven r is t =
       let m = manned_as (actors.Driver r) is in
       record {
         works = works t.keeps (actors.Driver r) is (t.keeps.first ∙ m.0, t.keeps.as_many ∙ m.1, t.up_to, t.within);
-        came = comes wanted board new attempt (λ not. subst (λ (a : Actor). IsAtRest board new a) (sym (t.keeps.actor ∙ is)) (t.rests not)) t.refused;
+        came = comes terms board new attempt (λ not. subst (λ (a : Actor). IsAtRest board new a) (sym (t.keeps.actor ∙ is)) (t.rests not)) t.refused;
         room = t.room;
       }
 
 -- ---- one attempt after another
 
-pub works_first : (board : BoardSeen) (lines : List LockSeen) (j : JobSeen) → IsJob board lines j → WorksOn board lines j j
-works_first board lines j job = record { actor = refl; first = refl; as_many = refl; job = job; grew = posts_self j.posts }
+pub works_first : {terms : Terms} (board : BoardSeen) (lines : List LockSeen) (j : JobSeen) → IsJob board lines j → WorksOn terms board lines j j
+works_first {terms} board lines j job = record { actor = refl; first = refl; as_many = refl; job = job; grew = posts_self terms.gave j.posts }
 
-pub works_more : (board : BoardSeen) (lines : List LockSeen) (a b c : JobSeen) → WorksOn board lines a b → WorksOn board lines b c → WorksOn board lines a c
-works_more board lines a b c v w =
+pub works_more : {terms : Terms} (board : BoardSeen) (lines : List LockSeen) (a b c : JobSeen) → WorksOn terms board lines a b → WorksOn terms board lines b c → WorksOn terms board lines a c
+works_more {terms} board lines a b c v w =
     record {
       actor = w.actor ∙ v.actor;
       first = w.first ∙ v.first;
       as_many = w.as_many ∙ v.as_many;
       job = w.job;
-      grew = posts_more a.posts b.posts c.posts v.grew w.grew;
+      grew = posts_more terms.gave a.posts b.posts c.posts v.grew w.grew;
     }
 
 module _ (board : BoardSeen) (lines : List LockSeen) (now : JobSeen) (end : PartEnd) where
@@ -172,21 +172,21 @@ module _ (board : BoardSeen) (lines : List LockSeen) (now : JobSeen) (end : Part
     })
   ]
 
-  end_so : (wanted : LineDef → List Entry → Actor → Type 0) (l : PartEnd) → EndIsSo wanted board now l
-      → EndIsSo wanted board (record now { end = end }) l
-  end_so wanted part_ends.Idle is = rest_ended now.actor is
-  end_so wanted part_ends.Busy is = tt
-  end_so wanted (part_ends.Full line len) is = record { place = is.place; post = is.post; at = is.at; number = is.number; is = is.is; log = is.log }
-  end_so wanted part_ends.NoMemory is = record { place = is.place; post = is.post; at = is.at; is = is.is }
+  end_so : (terms : Terms) (l : PartEnd) → EndIsSo terms board now l
+      → EndIsSo terms board (record now { end = end }) l
+  end_so terms part_ends.Idle is = rest_ended now.actor is
+  end_so terms part_ends.Busy is = tt
+  end_so terms (part_ends.Full line len) is = record { place = is.place; post = is.post; at = is.at; number = is.number; is = is.is; log = is.log }
+  end_so terms part_ends.NoMemory is = record { place = is.place; post = is.post; at = is.at; is = is.is }
 
   pub job_ended : IsJob board lines now → IsJob board lines (record now { end = end })
   job_ended j = record { posted = j.posted; manned = manned_ended now.actor j.manned }
 
-  pub ended_at : (wanted : LineDef → List Entry → Actor → Type 0) (old new : JobSeen) → WorksOn board lines old now
-      → EndIsSo wanted board now end → RoomAfterPart end old now → new ≡ record now { end = end }
-      → WorksJob wanted board lines old new
-  ended_at wanted old new w is room same =
-      subst (λ (j : JobSeen). WorksJob wanted board lines old j) (sym same)
+  pub ended_at : (terms : Terms) (old new : JobSeen) → WorksOn terms board lines old now
+      → EndIsSo terms board now end → RoomAfterPart end old now → new ≡ record now { end = end }
+      → WorksJob terms board lines old new
+  ended_at terms old new w is room same =
+      subst (λ (j : JobSeen). WorksJob terms board lines old j) (sym same)
       (record {
         works = record {
           actor = w.actor;
@@ -196,15 +196,15 @@ module _ (board : BoardSeen) (lines : List LockSeen) (now : JobSeen) (end : Part
           grew = w.grew;
         };
         end
-            = end_so wanted end is;
+            = end_so terms end is;
         room = room_after_part end old now (record now { end = end }) refl room;
       })
 
 -- ---- all jobs
 
-module _ (wanted : LineDef → List Entry → Actor → Type 0) (board : BoardSeen) (lines : List LockSeen) where
+module _ (terms : Terms) (board : BoardSeen) (lines : List LockSeen) where
   abbrev EachWorks : List JobSeen → List JobSeen → Type 0
-  EachWorks old new = (k : ℕ) (d : JobSeen) → k < length old → WorksJob wanted board lines (get_or old k d) (get_or new k d)
+  EachWorks old new = (k : ℕ) (d : JobSeen) → k < length old → WorksJob terms board lines (get_or old k d) (get_or new k d)
 
   later : (x y : JobSeen) (xs ys : List JobSeen) → EachWorks (x ∷ xs) (y ∷ ys) → EachWorks xs ys
   later x y xs ys each k d less = each (suc k) d (omega (arith, less))
@@ -225,7 +225,7 @@ module _ (wanted : LineDef → List Entry → Actor → Type 0) (board : BoardSe
       ap (λ (b : Bool). map (λ (j : JobSeen). j.actor) (cond b (y ∷ filter (works_on k) ys) (filter (works_on k) ys))) works_same
       ∙ by_test (works_on k x) (same_on k xs ys (omega (arith, long)) (later x y xs ys each))
     where
-      w : WorksOn board lines x y
+      w : WorksOn terms board lines x y
       w = (each 0 x (omega arith)).works
 
       works_same : works_on k y ≡ works_on k x
@@ -238,37 +238,37 @@ module _ (wanted : LineDef → List Entry → Actor → Type 0) (board : BoardSe
       by_test false deeper = deeper
 
   each_at : (old new : List JobSeen) → length new ≡ length old → EachWorks old new → (i : ℕ) (j : JobSeen)
-      → slice_get new i ≡ Some j → IsJob board lines j × EndIsSo wanted board j j.end
+      → slice_get new i ≡ Some j → IsJob board lines j × EndIsSo terms board j j.end
   each_at old new long each i j at =
       let less : i < length old = let w = within new i j at in omega (arith, w, long) in
       let e = each i j less in
       let is : get_or new i j ≡ j = the_same (get_or new i j) j (sym (there_or new i j (within new i j at)) ∙ at) in
-      (subst (λ (x : JobSeen). IsJob board lines x) is e.works.job, subst (λ (x : JobSeen). EndIsSo wanted board x x.end) is e.end)
+      (subst (λ (x : JobSeen). IsJob board lines x) is e.works.job, subst (λ (x : JobSeen). EndIsSo terms board x x.end) is e.end)
 
 -- the jobs fit after a shift, as they did
-pub still_fit : (wanted : LineDef → List Entry → Actor → Type 0) (lines : List LockSeen) (old new : JobsSeen) → Fit lines old → new.board ≡ old.board
-    → new.firsts ≡ old.firsts → length new.jobs ≡ length old.jobs → KeepsJobs wanted old.board lines old.jobs new.jobs
+pub still_fit : (terms : Terms) (lines : List LockSeen) (old new : JobsSeen) → Fit lines old → new.board ≡ old.board
+    → new.firsts ≡ old.firsts → length new.jobs ≡ length old.jobs → KeepsJobs terms old.board lines old.jobs new.jobs
     → Fit lines new
-still_fit wanted lines old new fit board firsts long each =
+still_fit terms lines old new fit board firsts long each =
     record {
       defs = fit.defs ∙ ap defs_of (sym board);
       actors = subst (λ (b : BoardSeen). IsPermutation (workers_of b lines) (map (λ (j : JobSeen). j.actor) new.jobs)) (sym board)
           (subst (λ (ws : List Actor). IsPermutation (workers_of old.board lines) ws)
-          (sym (same_actors wanted old.board lines old.jobs new.jobs long each)) fit.actors);
-      each = λ i j at. subst (λ (b : BoardSeen). IsJob b lines j) (sym board) (each_at wanted old.board lines old.jobs new.jobs long each i j at).0;
+          (sym (same_actors terms old.board lines old.jobs new.jobs long each)) fit.actors);
+      each = λ i j at. subst (λ (b : BoardSeen). IsJob b lines j) (sym board) (each_at terms old.board lines old.jobs new.jobs long each i j at).0;
       firsts = subst (λ (ps : List PassSeen). AreFirsts lines new.jobs ps) (sym firsts)
           (record {
             as_many = fit.firsts.as_many;
             each
                 = λ k p at. subst (λ (whom : List Actor). IsSomeAnd (slice_get lines k) (λ l. IsFirst l whom p))
-                (sym (same_on wanted old.board lines k old.jobs new.jobs long each)) (fit.firsts.each k p at);
+                (sym (same_on terms old.board lines k old.jobs new.jobs long each)) (fit.firsts.each k p at);
           });
     }
 
-pub ended_after : (wanted : LineDef → List Entry → Actor → Type 0) (lines : List LockSeen) (board : BoardSeen)
+pub ended_after : (terms : Terms) (lines : List LockSeen) (board : BoardSeen)
     (old new : List JobSeen) → length new ≡ length old
-    → KeepsJobs wanted board lines old new → (i : ℕ) (j : JobSeen) → slice_get new i ≡ Some j → EndIsSo wanted board j j.end
-ended_after wanted lines board old new long each i j at = (each_at wanted board lines old new long each i j at).1
+    → KeepsJobs terms board lines old new → (i : ℕ) (j : JobSeen) → slice_get new i ≡ Some j → EndIsSo terms board j j.end
+ended_after terms lines board old new long each i j at = (each_at terms board lines old new long each i j at).1
 
 -- all of them may be worked on
 pub all_jobs : (lines : List LockSeen) (s : JobsSeen) → Fit lines s → All (IsJob s.board lines) s.jobs
@@ -387,39 +387,39 @@ module _ (jobs : List JobSeen) (n : ℕ) (job : JobSeen) (at : slice_get jobs n 
 
 -- ---- how shifts end
 
-module _ (wanted : LineDef → List Entry → Actor → Type 0) (s : JobsSeen) (end : EachEndedSo wanted s) where
-  pub quiet : SumsUp s.jobs (length s.jobs) part_ends.Idle → Ends wanted s ends.Quiet
-  quiet all i j at = subst (λ (l : PartEnd). EndIsSo wanted s.board j l) (all i j (within s.jobs i j at) at) (end i j at)
+module _ (terms : Terms) (s : JobsSeen) (end : EachEndedSo terms s) where
+  pub quiet : SumsUp s.jobs (length s.jobs) part_ends.Idle → Ends terms s ends.Quiet
+  quiet all i j at = subst (λ (l : PartEnd). EndIsSo terms s.board j l) (all i j (within s.jobs i j at) at) (end i j at)
 
-  pub full_for : (line : LineNo) (len : ℕ) → SumsUp s.jobs (length s.jobs) (part_ends.Full line len) → Ends wanted s (ends.Full line len)
+  pub full_for : (line : LineNo) (len : ℕ) → SumsUp s.jobs (length s.jobs) (part_ends.Full line len) → Ends terms s (ends.Full line len)
   full_for line len f =
       record {
         place = f.place;
         job = f.job;
         at = f.at;
-        is = subst (λ (l : PartEnd). EndIsSo wanted s.board f.job l) f.end (end f.place f.job f.at);
+        is = subst (λ (l : PartEnd). EndIsSo terms s.board f.job l) f.end (end f.place f.job f.at);
         lowest = λ k j other m at is. f.lowest k j other m (within s.jobs k j at) at is;
       }
 
-  pub wanted_for : SumsUp s.jobs (length s.jobs) part_ends.NoMemory → Ends wanted s ends.NoMemory
+  pub wanted_for : SumsUp s.jobs (length s.jobs) part_ends.NoMemory → Ends terms s ends.NoMemory
   wanted_for f =
       record {
         place = f.0.place;
         job = f.0.job;
         at = f.0.at;
-        is = subst (λ (l : PartEnd). EndIsSo wanted s.board f.0.job l) f.0.is (end f.0.place f.0.job f.0.at);
+        is = subst (λ (l : PartEnd). EndIsSo terms s.board f.0.job l) f.0.is (end f.0.place f.0.job f.0.at);
         none_full = f.1;
       }
 
 -- ---- one shift, as the code has it
 
 -- A shift of all jobs: the board and the first passes stay, and each job works.
-pub record OneShift (wanted : LineDef → List Entry → Actor → Type 0) (lines : List LockSeen) (old new : JobsSeen) : Type 0 where
+pub record OneShift (terms : Terms) (lines : List LockSeen) (old new : JobsSeen) : Type 0 where
   pub fit : Fit lines old
   pub board : new.board ≡ old.board
   pub firsts : new.firsts ≡ old.firsts
   pub as_many : length new.jobs ≡ length old.jobs
-  pub keeps : KeepsJobs wanted old.board lines old.jobs new.jobs
+  pub keeps : KeepsJobs terms old.board lines old.jobs new.jobs
 
 -- the code's own jobs, board and first passes, `inside`, where a shift begins, and the slice of the jobs, `here`
 module _ {lines : List LockSeen} {inside old : JobsSeen} (fit : Fit lines old) (is : inside ≡ old)
@@ -432,26 +432,26 @@ module _ {lines : List LockSeen} {inside old : JobsSeen} (fit : Fit lines old) (
       (subst (λ (js : List JobSeen). All (IsJob old.board lines) js) (sym jobs_are) (all_jobs lines old fit))
 
   -- the jobs `new` that it leaves, once they stand in the list again
-  pub one_shift : (wanted : LineDef → List Entry → Actor → Type 0) {new after : List JobSeen} → length new ≡ length here
-      → KeepsJobs wanted inside.board lines here new → after ≡ new → OneShift wanted lines old (record inside { jobs = after })
-  one_shift wanted {new} {after} long keeps back =
+  pub one_shift : (terms : Terms) {new after : List JobSeen} → length new ≡ length here
+      → KeepsJobs terms inside.board lines here new → after ≡ new → OneShift terms lines old (record inside { jobs = after })
+  one_shift terms {new} {after} long keeps back =
       record {
         fit = fit;
         board = ap (λ (x : JobsSeen). x.board) is;
         firsts = ap (λ (x : JobsSeen). x.firsts) is;
         as_many = ap (λ (js : List JobSeen). length js) back ∙ (long ∙ ap (λ (js : List JobSeen). length js) jobs_are);
-        keeps = subst (λ (js : List JobSeen). KeepsJobs wanted old.board lines old.jobs js) (sym back)
-            (subst (λ (js : List JobSeen). KeepsJobs wanted old.board lines js new) jobs_are
-            (subst (λ (b : BoardSeen). KeepsJobs wanted b lines here new) (ap (λ (x : JobsSeen). x.board) is) keeps));
+        keeps = subst (λ (js : List JobSeen). KeepsJobs terms old.board lines old.jobs js) (sym back)
+            (subst (λ (js : List JobSeen). KeepsJobs terms old.board lines js new) jobs_are
+            (subst (λ (b : BoardSeen). KeepsJobs terms b lines here new) (ap (λ (x : JobsSeen). x.board) is) keeps));
       }
 
-module _ {wanted : LineDef → List Entry → Actor → Type 0} {lines : List LockSeen} {old new : JobsSeen} (s : OneShift wanted lines old new) where
+module _ {terms : Terms} {lines : List LockSeen} {old new : JobsSeen} (s : OneShift terms lines old new) where
   pub shift_fit : Fit lines new
-  shift_fit = still_fit wanted lines old new s.fit s.board s.firsts s.as_many s.keeps
+  shift_fit = still_fit terms lines old new s.fit s.board s.firsts s.as_many s.keeps
 
-  pub shift_ended : EachEndedSo wanted new
-  shift_ended i j at = subst (λ (b : BoardSeen). EndIsSo wanted b j j.end) (sym s.board)
-      (ended_after wanted lines old.board old.jobs new.jobs s.as_many s.keeps i j at)
+  pub shift_ended : EachEndedSo terms new
+  shift_ended i j at = subst (λ (b : BoardSeen). EndIsSo terms b j j.end) (sym s.board)
+      (ended_after terms lines old.board old.jobs new.jobs s.as_many s.keeps i j at)
 
   pub shift_room : room_of_jobs new.jobs ≤ room_of_jobs old.jobs
   shift_room = all_no_more old.jobs new.jobs s.as_many (λ k d less. (s.keeps k d less).room)
@@ -459,7 +459,7 @@ module _ {wanted : LineDef → List Entry → Actor → Type 0} {lines : List Lo
   pub shift_busy : SumsUp new.jobs (length new.jobs) part_ends.Busy → room_of_jobs new.jobs < room_of_jobs old.jobs
   shift_busy f = some_less old.jobs new.jobs f.0.place f.0.job s.as_many (λ k d less. (s.keeps k d less).room) f.0.at f.0.is
 
-  pub shift_grew : JobsGrow old.jobs new.jobs
+  pub shift_grew : JobsGrow terms.gave old.jobs new.jobs
   shift_grew = jobs_grew old.jobs new.jobs s.as_many (λ k d less. let v = (s.keeps k d less).works in
       record { actor = v.actor; first = v.first; as_many = v.as_many; posts = v.grew })
 

@@ -1,9 +1,6 @@
 -- One sweep of a shift after another.
 use Rattle.std.proofs.Common.{◌≡◌, ℕ, ◌+◌, ◌<◌, ◌≤◌, inl, inr, false, All, List, length, get_or, set, sym, ◌∙◌, subst, arith}
 use Rattle.std.proofs.lemmas.List.{get_or-set_same, get_or-set_other, get_or_default}
-use Rattle.irq_base.specs.declared.entries.Actor.{Actor}
-use Rattle.irq_base.specs.declared.entries.Entry.{Entry}
-use Rattle.irq_base.specs.declared.lines.LineDef.{LineDef}
 use Rattle.board_def.specs.Seen.{BoardSeen}
 use Rattle.line_lock.specs.Passes.{LockSeen}
 use Rattle.workers.specs.Fit.{IsJob}
@@ -15,6 +12,7 @@ use Rattle.workers.specs.declared.job.PartEnd.{PartEnd}
 use Rattle.workers.specs.declared.job.PartEnd.TheVariants as part_ends
 use Rattle.workers.proofs.Lists.{two}
 use Rattle.workers.proofs.Shifting.{works_first, works_more, job_ended, ended_at}
+use Rattle.workers.specs.Terms.{Terms}
 
 -- ---- one job
 
@@ -41,8 +39,8 @@ since_start start old now part_ends.Idle end not a b = further start old now end
 since_start start old now (part_ends.Full line len) end not a b = cc
 since_start start old now part_ends.NoMemory end not a b = cc
 
-module _ (wanted : LineDef → List Entry → Actor → Type 0) (board : BoardSeen) (lines : List LockSeen) where
-  so : (now : JobSeen) (before end : PartEnd) → EndIsSo wanted board now end → EndIsSo wanted board now (with_earlier before end)
+module _ (terms : Terms) (board : BoardSeen) (lines : List LockSeen) where
+  so : (now : JobSeen) (before end : PartEnd) → EndIsSo terms board now end → EndIsSo terms board now (with_earlier before end)
   so now part_ends.Busy part_ends.Idle is = tt
   so now part_ends.Busy part_ends.Busy is = is
   so now part_ends.Busy (part_ends.Full line len) is = is
@@ -51,11 +49,11 @@ module _ (wanted : LineDef → List Entry → Actor → Type 0) (board : BoardSe
   so now (part_ends.Full line len) end is = is
   so now part_ends.NoMemory end is = is
 
-  pub goes_on : (old now new : JobSeen) (end : PartEnd) → is_refused old.end ≡ false → WorksOn board lines old now → EndIsSo wanted board now end
-      → RoomAfterPart end old now → new ≡ record now { end = with_earlier old.end end } → GoesOn wanted board lines old new
+  pub goes_on : (old now new : JobSeen) (end : PartEnd) → is_refused old.end ≡ false → WorksOn terms board lines old now → EndIsSo terms board now end
+      → RoomAfterPart end old now → new ≡ record now { end = with_earlier old.end end } → GoesOn terms board lines old new
   goes_on old now new end not w is room same =
       record {
-        works = subst (WorksOn board lines old) (sym same)
+        works = subst (WorksOn terms board lines old) (sym same)
             (record {
               actor = w.actor;
               first = w.first;
@@ -63,34 +61,34 @@ module _ (wanted : LineDef → List Entry → Actor → Type 0) (board : BoardSe
               job = job_ended board lines now (with_earlier old.end end) w.job;
               grew = w.grew;
             });
-        since = λ start before. ended_at board lines now (with_earlier old.end end) wanted start new
+        since = λ start before. ended_at board lines now (with_earlier old.end end) terms start new
             (works_more board lines start old now before.works w) (so now old.end end is)
             (since_start start old now old.end end not before.room room) same;
       }
 
-  pub goes_first : (j : JobSeen) → IsJob board lines j → GoesOn wanted board lines j j
+  pub goes_first : (j : JobSeen) → IsJob board lines j → GoesOn terms board lines j j
   goes_first j job = record { works = works_first board lines j job; since = λ start before. before }
 
-  pub goes_more : (a b c : JobSeen) → GoesOn wanted board lines a b → GoesOn wanted board lines b c → GoesOn wanted board lines a c
+  pub goes_more : (a b c : JobSeen) → GoesOn terms board lines a b → GoesOn terms board lines b c → GoesOn terms board lines a c
   goes_more a b c v w = record { works = works_more board lines a b c v.works w.works; since = λ start before. w.since start (v.since start before) }
 
   -- ---- all jobs of a thread
 
-  pub all_first : (jobs : List JobSeen) → All (IsJob board lines) jobs → GoOnJobs wanted board lines jobs jobs
+  pub all_first : (jobs : List JobSeen) → All (IsJob board lines) jobs → GoOnJobs terms board lines jobs jobs
   all_first jobs all k d less = goes_first (get_or jobs k d) (all k d less)
 
-  pub all_more : (a b c : List JobSeen) → length b ≡ length a → GoOnJobs wanted board lines a b
-      → GoOnJobs wanted board lines b c → GoOnJobs wanted board lines a c
+  pub all_more : (a b c : List JobSeen) → length b ≡ length a → GoOnJobs terms board lines a b
+      → GoOnJobs terms board lines b c → GoOnJobs terms board lines a c
   all_more a b c long v w k d less = goes_more (get_or a k d) (get_or b k d) (get_or c k d) (v k d less) (w k d (omega (arith, long, less)))
 
-  pub all_since : (start a b : List JobSeen) → length a ≡ length start → KeepsJobs wanted board lines start a
-      → GoOnJobs wanted board lines a b → KeepsJobs wanted board lines start b
+  pub all_since : (start a b : List JobSeen) → length a ≡ length start → KeepsJobs terms board lines start a
+      → GoOnJobs terms board lines a b → KeepsJobs terms board lines start b
   all_since start a b long v w k d less = (w k d (omega (arith, long, less))).since (get_or start k d) (v k d less)
 
-  pub all_jobs_on : (a b : List JobSeen) → length b ≡ length a → GoOnJobs wanted board lines a b → All (IsJob board lines) b
+  pub all_jobs_on : (a b : List JobSeen) → length b ≡ length a → GoOnJobs terms board lines a b → All (IsJob board lines) b
   all_jobs_on a b long v k d less = (v k d (omega (arith, long, less))).works.job
 
-  pub all_jobs_kept : (a b : List JobSeen) → length b ≡ length a → KeepsJobs wanted board lines a b → All (IsJob board lines) b
+  pub all_jobs_kept : (a b : List JobSeen) → length b ≡ length a → KeepsJobs terms board lines a b → All (IsJob board lines) b
   all_jobs_kept a b long v k d less = (v k d (omega (arith, long, less))).works.job
 
 -- a loop's step over the jobs: the job at k is done, those behind it are as they were

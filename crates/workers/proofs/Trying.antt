@@ -1,6 +1,7 @@
 -- One try of a worker: steps of the shared line until none of them needs an answer first.
-use Rattle.std.proofs.Common.{◌≡◌, ◌<◌, false, IsSome, Option, Some, None, Result, Ok, Err, List, [], ◌∷◌, ◌++◌, length}
+use Rattle.std.proofs.Common.{◌≡◌, ◌<◌, false, reverse, IfSome, IsSome, Option, Some, None, Result, Ok, Err, List, [], ◌∷◌, ◌++◌, length}
 use Rattle.std.proofs.Common.{refl, sym, ap, subst, arith, ◌∙◌, append_assoc}
+use Rattle.irq_base.specs.declared.devices.Answer.{Answer}
 use Rattle.irq_base.specs.declared.devices.Run.{Run}
 use Rattle.irq_base.specs.declared.entries.Actor.{Actor}
 use Rattle.irq_base.specs.declared.entries.Actor.TheVariants as actors
@@ -9,7 +10,10 @@ use Rattle.irq_base.specs.declared.lines.LineDef.{LineDef}
 use Rattle.irq_base.specs.declared.numbers.CpuNo.{CpuNo}
 use Rattle.irq_model.specs.Legal.{IsLegal}
 use Rattle.irq_model.specs.Next.{next}
-use Rattle.callbacks.specs.Seen.{SaidSeen}
+use Rattle.callbacks.specs.Heard.{Heard, one_run}
+use Rattle.callbacks.specs.Seen.{IsSaidFor, SaidSeen, answer_to}
+use Rattle.callbacks.proofs.Calls.{was_heard}
+use Rattle.irq_line.specs.Runs.{run_ended}
 use Rattle.irq_line.specs.Seen.{LineSeen, IsSound}
 use Rattle.irq_line.specs.declared.answers.StepRefused.{StepRefused}
 use Rattle.irq_line.specs.declared.answers.StepRefused.TheVariants as refusals
@@ -22,8 +26,9 @@ use Rattle.line_lock.specs.declared.view.Known.{Known}
 use Rattle.line_lock.proofs.Placing.{begins_self, begins_more}
 use Rattle.line_shared.specs.Stepping.{Steps}
 use Rattle.workers.specs.Fit.{IsInFlow}
+use Rattle.workers.specs.Given.{IsGiven}
 use Rattle.workers.specs.Tries.{IsIdle, Tries}
-use Rattle.workers.specs.Wanted.{Wanted}
+use Rattle.workers.specs.Terms.{Terms, terms_of}
 use Rattle.workers.proofs.InFlow.{moves_within}
 
 -- what stays while answers are asked for
@@ -48,10 +53,33 @@ module _ (def : LineDef) (who : Actor) (old mid new : Known) (begins : BeginsWit
       let b = begins_more entries mid.seen old.seen sees begins in
       subst (λ (h : List Entry). BeginsWith h old.seen) (sym is) (b.0 ++ e ∷ [], ap (λ (h : List Entry). h ++ e ∷ []) b.1 ∙ append_assoc old.seen b.0 (e ∷ []))
 
-module _ {T : Type 0} (seen_of : T → LineSeen) (may_want : Option Entry → Type 0) where
-  module _ (line : LockSeen) (who : Actor) (old mid new : PassSeen) (said : Option SaidSeen) (w : Waits line old mid) where
+-- what a call says is given
+pub called_given : (gave : Run → Answer → Type 0) (run : Run) (said : SaidSeen) → said ≡ record { run = run; answer = answer_to run }
+    → gave run said.answer → gave said.run (answer_to said.run)
+called_given gave run said is given =
+    subst (λ (r : Run). gave r (answer_to r)) (sym (ap (λ (s : SaidSeen). s.run) is))
+    (subst (gave run) (ap (λ (s : SaidSeen). s.answer) is) given)
+
+-- what was said before was given
+pub said_given : (gave : Run → Answer → Type 0) (said : Option SaidSeen) (run : Run) → IfSome said (λ x. gave x.run (answer_to x.run))
+    → IsSaidFor said run → gave run (answer_to run)
+said_given gave None run given is = absurd is
+said_given gave (Some x) run given is = subst (λ (r : Run). gave r (answer_to r)) is given
+
+module _ {T E : Type 0} (seen_of : T → LineSeen) (may_want : Option Entry → Type 0) (hears : E → Run → E → Type 0)
+    (lacks : E → Run → Run → Type 0) (gave : Run → Answer → Type 0) where
+  module _ (line : LockSeen) (who : Actor) (old mid new : PassSeen) (ears after : E) (w : Waits line old mid) where
+    abbrev pub StepsSo : Result (Stepped Run) StepRefused → Type 0
+    StepsSo result = Steps seen_of may_want hears lacks line.def who mid.knows ears result new.knows after
+
+    -- the run that ended was given
+    given_of : (run : Option Run) → ((run : Run) → hears ears run after → gave run (answer_to run)) → Heard hears (one_run run) ears after
+        → IfSome run (λ run. gave run (answer_to run))
+    given_of None given heard = tt
+    given_of (Some run) given heard = given run (was_heard hears run ears after heard)
+
     -- what is seen is the line's history, which is legal, and the pass knows its actor's entries there
-    module _ (result : Result Stepped StepRefused) (s : Steps seen_of may_want line.def who mid.knows said result new.knows) where
+    module _ (result : Result (Stepped Run) StepRefused) (s : StepsSo result) where
       seen_is : new.knows.seen ≡ s.after.entries
       seen_is = ap (λ (k : Known). k.seen) s.seen
 
@@ -62,9 +90,9 @@ module _ {T : Type 0} (seen_of : T → LineSeen) (may_want : Option Entry → Ty
       is_own : new.knows.mine ≡ placed who new.knows.seen
       is_own = s.own ∙ ap (λ (h : List Entry). placed who h) (sym seen_is)
 
-    pub tries_added : (e : Entry) → Steps seen_of may_want line.def who mid.knows said (Ok (stepped.Added e)) new.knows
-        → Tries (Wanted seen_of may_want) line.def who old.knows (Ok (Some e)) new.knows
-    tries_added e s =
+    pub tries_added : (e : Entry) → ((run : Run) → hears ears run after → gave run (answer_to run)) → StepsSo (Ok (stepped.Added e))
+        → Tries (terms_of seen_of may_want gave) line.def who old.knows (Ok (Some e)) new.knows
+    tries_added e given s =
         record {
           begins = more_begins line.def who old.knows mid.knows new.knows w.begins s.line.entries s.begins e s.gains.0;
           legal = λ was. is_legal (Ok (stepped.Added e)) s;
@@ -77,11 +105,13 @@ module _ {T : Type 0} (seen_of : T → LineSeen) (may_want : Option Entry → Ty
             below = subst (λ (d : LineDef). length s.line.entries < d.log) s.def s.answer.below;
             seen = s.gains.0;
             mine = s.gains.1 ∙ ap (λ ps. ps ++ record { place = length s.line.entries; entry = e } ∷ []) w.mine;
+            given = subst (λ (d : LineDef). IsGiven gave d (reverse s.line.entries) e) s.def
+                (given_of (run_ended s.line.def (reverse s.line.entries) e) given s.heard);
           };
         }
 
-    pub tries_not_yet : Steps seen_of may_want line.def who mid.knows said (Ok stepped.NotYet) new.knows
-        → Tries (Wanted seen_of may_want) line.def who old.knows (Ok None) new.knows
+    pub tries_not_yet : StepsSo (Ok stepped.NotYet)
+        → Tries (terms_of seen_of may_want gave) line.def who old.knows (Ok None) new.knows
     tries_not_yet s =
         record {
           begins = same_begins line.def who old.knows mid.knows new.knows w.begins s.line.entries s.begins s.gains.0;
@@ -95,26 +125,26 @@ module _ {T : Type 0} (seen_of : T → LineSeen) (may_want : Option Entry → Ty
         }
 
     -- within a flow something was due
-    pub flow_not_yet : Steps seen_of may_want line.def who mid.knows said (Ok stepped.NotYet) new.knows → (c : CpuNo)
+    pub flow_not_yet : StepsSo (Ok stepped.NotYet) → (c : CpuNo)
         → who ≡ actors.Cpu c → IsInFlow line.def c old.knows → ⊥
     flow_not_yet s c same own =
         moves_within line.def c s.line.entries old.knows.mine (subst (λ (d : LineDef). IsLegal d s.line.entries) s.def s.sound.legal)
         (sym w.mine ∙ (s.mine ∙ ap (λ (a : Actor). placed a s.line.entries) same)) own
         (ap (λ (a : Actor). next line.def s.line.entries a) (sym same) ∙ subst (λ (d : LineDef). next d s.line.entries who ≡ None) s.def s.answer.0)
 
-    pub tries_refused : (refused : StepRefused) → Steps seen_of may_want line.def who mid.knows said (Err refused)
-        new.knows → Tries (Wanted seen_of may_want) line.def who old.knows (Err refused) new.knows
-    tries_refused (refusals.Full len) s =
+    pub tries_refused : (refused : StepRefused) → StepsSo (Err refused) → Tries (terms_of seen_of may_want gave) line.def who old.knows (Err refused) new.knows
+    tries_refused (refusals.Full number len) s =
         record {
           begins = same_begins line.def who old.knows mid.knows new.knows w.begins s.line.entries s.begins s.gains.0;
-          legal = λ was. is_legal (Err (refusals.Full len)) s;
-          own = λ was. is_own (Err (refusals.Full len)) s;
+          legal = λ was. is_legal (Err (refusals.Full number len)) s;
+          own = λ was. is_own (Err (refusals.Full number len)) s;
           came = (
             record {
               due = subst (λ (h : List Entry). IsSome (next line.def h who)) (sym s.gains.0)
                   (subst (λ (d : LineDef). IsSome (next d s.line.entries who)) s.def s.answer.0.due);
               length = ap length s.gains.0 ∙ full;
             },
+            s.answer.0.line_is ∙ ap (λ (d : LineDef). d.line) s.def,
             s.answer.0.told ∙ full,
             s.gains.1 ∙ w.mine,
           );
@@ -141,7 +171,7 @@ module _ {T : Type 0} (seen_of : T → LineSeen) (may_want : Option Entry → Ty
           );
         }
 
-    pub waits_on : (run : Run) → Steps seen_of may_want line.def who mid.knows said (Ok (stepped.Run run)) new.knows → IsPassOf line new
+    pub waits_on : (run : Run) → StepsSo (Ok (stepped.Lacks run)) → IsPassOf line new
         → new.turn ≡ false → new.knows.actor ≡ mid.knows.actor → Waits line old new
     waits_on run s of_line idle actor =
         record {
@@ -157,6 +187,6 @@ its_actor None is = cc
 its_actor (Some who) is = (who, refl)
 
 -- when nothing happened since nothing was due
-pub tries_still : (wanted : LineDef → List Entry → Actor → Type 0) (def : LineDef) (who : Actor) (k : Known) → IsIdle def who k
-    → Tries wanted def who k (Ok None) k
-tries_still wanted def who k idle = record { begins = begins_self k.seen; legal = λ was. was; own = λ was. was; came = (idle, refl) }
+pub tries_still : (terms : Terms) (def : LineDef) (who : Actor) (k : Known) → IsIdle def who k
+    → Tries terms def who k (Ok None) k
+tries_still terms def who k idle = record { begins = begins_self k.seen; legal = λ was. was; own = λ was. was; came = (idle, refl) }

@@ -2,7 +2,6 @@
 use Rattle.std.specs.Prelude.{◌≡◌, ℕ, ◌+◌, ◌≤◌, ◌⊎◌, Bool, true, false, ◌&&◌, ◌||◌, Option, Some}
 use Rattle.std.specs.Prelude.{None, Result, Ok, Err, List, length, slice_get, slice_set}
 use Rattle.std.specs.Prelude.{if◌then◌else◌}
-use Rattle.irq_base.specs.declared.entries.Actor.{Actor}
 use Rattle.irq_base.specs.declared.entries.Actor.TheVariants as actors
 use Rattle.irq_base.specs.declared.entries.Entry.{Entry}
 use Rattle.irq_base.specs.declared.lines.FlowKind.{FlowKind}
@@ -26,12 +25,13 @@ use Rattle.workers.specs.Seen.{PostSeen, JobSeen}
 use Rattle.workers.specs.Tries.{IsIdle, IsFull, Tries, rests_after}
 use Rattle.workers.specs.declared.attempts.Attempt.{Attempt}
 use Rattle.workers.specs.declared.attempts.Attempt.TheVariants as attempts
+use Rattle.workers.specs.Terms.{Terms}
 
-abbrev pub attempt_of : LineNo → Result (Option Entry) StepRefused → Attempt
-attempt_of line (Ok (Some e)) = attempts.Moved e
-attempt_of line (Ok None) = attempts.NotYet
-attempt_of line (Err (refusals.Full len)) = attempts.Full line len
-attempt_of line (Err refusals.NoMemory) = attempts.NoMemory
+abbrev pub attempt_of : Result (Option Entry) StepRefused → Attempt
+attempt_of (Ok (Some e)) = attempts.Moved e
+attempt_of (Ok None) = attempts.NotYet
+attempt_of (Err (refusals.Full line len)) = attempts.Full line len
+attempt_of (Err refusals.NoMemory) = attempts.NoMemory
 
 -- if a processor has its flow on the line, its try there never answers that nothing is due
 abbrev pub FlowMoves : LineDef → Known → Result (Option Entry) StepRefused → Type 0
@@ -51,12 +51,12 @@ is_not_yet _ = false
 
 -- the job has the same actor, and as many passes of the same lines, all right, which have seen as
 -- much or more
-pub record KeepsPosts (lines : List LockSeen) (old new : JobSeen) : Type 0 where
+pub record KeepsPosts (terms : Terms) (lines : List LockSeen) (old new : JobSeen) : Type 0 where
   pub actor : new.actor ≡ old.actor
   pub first : new.first ≡ old.first
   pub as_many : length new.posts ≡ length old.posts
   pub posted : ArePosted lines new
-  pub grew : PostsGrow old.posts new.posts
+  pub grew : PostsGrow terms.gave old.posts new.posts
 
 -- a step is due with one of the passes on this line, and the line has the greatest length
 pub record IsFullOn (j : JobSeen) (line : LineNo) (len : ℕ) : Type 0 where
@@ -92,8 +92,8 @@ pub record WaitsAt (board : BoardSeen) (j : JobSeen) (r : DriverNo) : Type 0 whe
 
 -- ---- what is left of the job
 
--- `wanted` says on what history of a line an actor may be refused memory
-module _ (wanted : LineDef → List Entry → Actor → Type 0) where
+-- the terms say when memory may be refused, and what the handlers gave
+module _ (terms : Terms) where
   -- a try with the pass at index `place`: the pass is right afterwards, and all else is as it was
   pub record StepsPost (lines : List LockSeen) (place : ℕ) (attempt : Attempt) (old new : JobSeen)
       : Type 0 where
@@ -103,10 +103,10 @@ module _ (wanted : LineDef → List Entry → Actor → Type 0) where
     pub tried : Result (Option Entry) StepRefused
     pub at_line : slice_get lines (old.first + place) ≡ Some line
     pub at_post : slice_get old.posts place ≡ Some post
-    pub told : attempt ≡ attempt_of line.def.line tried
+    pub told : attempt ≡ attempt_of tried
     pub is : new ≡ record old { posts = slice_set old.posts place after }
     pub is_post : IsPost line old.actor after
-    pub tries : Tries wanted line.def old.actor post.pass.knows tried after.pass.knows
+    pub tries : Tries terms line.def old.actor post.pass.knows tried after.pass.knows
     pub rests : after.rests ≡ rests_after tried
     pub flows : post.rests ≡ false → FlowMoves line.def post.pass.knows tried
 
@@ -115,7 +115,7 @@ module _ (wanted : LineDef → List Entry → Actor → Type 0) where
     pub place : ℕ
     pub post : PostSeen
     pub at : slice_get j.posts place ≡ Some post
-    pub is : wanted post.pass.def post.pass.knows.seen j.actor
+    pub is : terms.wanted post.pass.def post.pass.knows.seen j.actor
 
   abbrev pub RefusedIsSo : JobSeen → Attempt → Type 0
   RefusedIsSo j (attempts.Full line len) = IsFullOn j line len
@@ -127,7 +127,7 @@ module _ (wanted : LineDef → List Entry → Actor → Type 0) where
   -- due
   pub record StepsCpu (lines : List LockSeen) (place : ℕ) (attempt : Attempt) (old new : JobSeen)
       : Type 0 where
-    pub keeps : KeepsPosts lines old new
+    pub keeps : KeepsPosts terms lines old new
     pub flow : HasOneFlow new
     pub its : HasItsFlow new
     pub moves : old.flow ≡ Some place → attempt ≡ attempts.NotYet → ⊥
@@ -143,7 +143,7 @@ module _ (wanted : LineDef → List Entry → Actor → Type 0) where
   -- nothing was due, the flow is as it was
   pub record TriesLast (lines : List LockSeen) (attempt : Attempt) (old new : JobSeen)
       : Type 0 where
-    pub keeps : KeepsPosts lines old new
+    pub keeps : KeepsPosts terms lines old new
     pub flow : HasOneFlow new
     pub its : HasItsFlow new
     pub still : attempt ≡ attempts.NotYet → new.flow ≡ old.flow
@@ -153,7 +153,7 @@ module _ (wanted : LineDef → List Entry → Actor → Type 0) where
   -- a processor's attempt: if nothing was due, all its posts say so
   pub record AttemptsCpu (lines : List LockSeen) (attempt : Attempt) (old new : JobSeen)
       : Type 0 where
-    pub keeps : KeepsPosts lines old new
+    pub keeps : KeepsPosts terms lines old new
     pub flow : HasOneFlow new
     pub its : HasItsFlow new
     pub rests : attempt ≡ attempts.NotYet → (i : ℕ) (s : PostSeen) → slice_get new.posts i ≡ Some s
@@ -167,7 +167,7 @@ module _ (wanted : LineDef → List Entry → Actor → Type 0) where
   pub record AttemptsDriver (board : BoardSeen) (lines : List LockSeen) (r : DriverNo)
       (attempt : Attempt)
       (old new : JobSeen) : Type 0 where
-    pub keeps : KeepsPosts lines old new
+    pub keeps : KeepsPosts terms lines old new
     pub up_to : IsUpTo board.calls (own_lines new.posts) r new.at
     pub within : new.at ≤ length board.calls
     pub rests : attempt ≡ attempts.NotYet → (length board.calls ≤ new.at) ⊎ WaitsAt board new r

@@ -11,7 +11,7 @@ use Rattle.board_def.specs.Rules.{has_driver}
 use Rattle.board_def.specs.Seen.{BoardSeen}
 use Rattle.board_play.specs.Kept.{IsUpTo}
 use Rattle.board_play.specs.Lines.{BoardLine}
-use Rattle.line_lock.specs.Knows.{BeginsWith, is_among, Meets}
+use Rattle.line_lock.specs.Knows.{BeginsWith, is_among, IsKnown, Meets}
 use Rattle.line_lock.specs.Passes.{LockSeen, PassSeen, IsPassOf}
 use Rattle.line_lock.specs.Placed.{placed}
 use Rattle.workers.specs.Fit.{IsJob, actors_on}
@@ -101,6 +101,10 @@ pub record AreFinal (lines : List LockSeen) (firsts : List PassSeen) : Type 0 wh
   pub each : (k : ℕ) (p : PassSeen) → slice_get firsts k ≡ Some p
       → IsSomeAnd (slice_get lines k) (λ l. IsFinal l p)
 
+-- what holds of all that these passes know
+abbrev pub AreKnown : List PassSeen → Type 0
+AreKnown firsts = (k : ℕ) (p : PassSeen) → slice_get firsts k ≡ Some p → IsKnown p.knows
+
 abbrev pub AreSound : List LineSeen → Type 0
 AreSound lines = (i : ℕ) (x : LineSeen) → slice_get lines i ≡ Some x → IsSound x
 
@@ -125,6 +129,17 @@ pub record IsSeenIn (jobs : List JobSeen) (k : ℕ) (entries : List Entry) : Typ
   pub is : k ≡ job.first + place
   pub seen : entries ≡ post.pass.knows.seen
 
+-- a job of the actor has a pass of the line at place k
+pub record HasPass (jobs : List JobSeen) (k : ℕ) (who : Actor) : Type 0 where
+  pub number : ℕ
+  pub place : ℕ
+  pub job : JobSeen
+  pub post : PostSeen
+  pub at_job : slice_get jobs number ≡ Some job
+  pub at_post : slice_get job.posts place ≡ Some post
+  pub is : k ≡ job.first + place
+  pub actor : job.actor ≡ who
+
 -- These jobs' passes have come back, and the first passes, which were `old`, have met them: what
 -- they have seen now.
 pub record AreBack (board : BoardSeen) (jobs : List JobSeen) (old new : List PassSeen)
@@ -132,6 +147,8 @@ pub record AreBack (board : BoardSeen) (jobs : List JobSeen) (old new : List Pas
   pub lines : (k : ℕ) (p : PassSeen) → slice_get new k ≡ Some p
       → (q : PassSeen) × (slice_get old k ≡ Some q) × BeginsWith p.knows.seen q.knows.seen
       × ((p.knows.seen ≡ q.knows.seen) ⊎ IsSeenIn jobs k p.knows.seen)
+  pub given : (k : ℕ) (p : PassSeen) → slice_get new k ≡ Some p
+      → (q : PassSeen) × (slice_get old k ≡ Some q) × (p.knows.given ≡ q.knows.given)
   pub each : (i place : ℕ) (j : JobSeen) (s : PostSeen) → slice_get jobs i ≡ Some j
       → slice_get j.posts place ≡ Some s → IsSomeAnd (slice_get new (j.first + place))
       (λ p. HasAllOf p.def p.knows.seen j.actor s.pass × IsMetIn j.actor p)
@@ -153,6 +170,9 @@ pub record AreGathered (s : JobsSeen) (lines : List LineSeen) : Type 0 where
   pub each : (i place : ℕ) (j : JobSeen) (t : PostSeen) → slice_get s.jobs i ≡ Some j
       → slice_get j.posts place ≡ Some t → IsSomeAnd (slice_get lines (j.first + place))
       (λ x. HasAllOf x.def x.entries j.actor t.pass)
+  -- each actor has a job with a pass of the line, or made none of the line's entries
+  pub made : (k : ℕ) (x : LineSeen) (who : Actor) → slice_get lines k ≡ Some x
+      → HasPass s.jobs k who ⊎ (placed who x.entries ≡ [])
   -- each driver's calls are made up to the place of its job
   pub drivers : (i : ℕ) (j : JobSeen) (r : DriverNo) → slice_get s.jobs i ≡ Some j
       → j.actor ≡ actors.Driver r → IsUpTo s.board.calls (board_lines lines) r j.at

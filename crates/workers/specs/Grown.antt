@@ -1,34 +1,41 @@
 -- How what passes have seen grows.
 use Rattle.std.specs.Prelude.{◌≡◌, ℕ, ◌+◌, IsSomeAnd, Some, None, List, [], ◌∷◌, ◌++◌, length}
 use Rattle.std.specs.Prelude.{slice_get}
+use Rattle.irq_base.specs.declared.devices.Answer.{Answer}
+use Rattle.irq_base.specs.declared.devices.Run.{Run}
 use Rattle.line_lock.specs.Knows.{BeginsWith}
 use Rattle.line_lock.specs.Passes.{PassSeen}
 use Rattle.line_lock.specs.declared.view.Placed.{Placed}
+use Rattle.workers.specs.Given.{IsPassGiven}
 use Rattle.workers.specs.Seen.{PostSeen, JobSeen, JobsSeen}
 
 -- The later pass is of the same line and actor. What it has seen begins with what the earlier one
--- had seen, and its own entries begin with the earlier one's.
-pub record Grows (old new : PostSeen) : Type 0 where
+-- had seen, and its own entries begin with the earlier one's. If each run that the actor had ended
+-- was answered by a call, so is each that it has ended now.
+pub record Grows (gave : Run → Answer → Type 0) (old new : PostSeen) : Type 0 where
   pub table : new.pass.table ≡ old.pass.table
   pub def : new.pass.def ≡ old.pass.def
   pub actor : new.pass.knows.actor ≡ old.pass.knows.actor
   pub seen : BeginsWith new.pass.knows.seen old.pass.knows.seen
   pub mine : (rest : List Placed) × (new.pass.knows.mine ≡ old.pass.knows.mine ++ rest)
+  pub given : IsPassGiven gave old.pass → IsPassGiven gave new.pass
 
-abbrev pub PostsGrow : List PostSeen → List PostSeen → Type 0
-PostsGrow old new = (i : ℕ) (s : PostSeen) → slice_get old i ≡ Some s
-    → IsSomeAnd (slice_get new i) (λ t. Grows s t)
+abbrev pub PostsGrow : (gave : Run → Answer → Type 0) → List PostSeen → List PostSeen → Type 0
+PostsGrow gave old new = (i : ℕ) (s : PostSeen) → slice_get old i ≡ Some s
+    → IsSomeAnd (slice_get new i) (λ t. Grows gave s t)
 
 -- the same actor's job, with passes of the same lines, which have seen as much or more
-pub record JobGrows (old new : JobSeen) : Type 0 where
+pub record JobGrows (gave : Run → Answer → Type 0) (old new : JobSeen) : Type 0 where
   pub actor : new.actor ≡ old.actor
   pub first : new.first ≡ old.first
   pub as_many : length new.posts ≡ length old.posts
-  pub posts : PostsGrow old.posts new.posts
+  pub posts : PostsGrow gave old.posts new.posts
 
-abbrev pub JobsGrow : List JobSeen → List JobSeen → Type 0
-JobsGrow old new = (i : ℕ) (j : JobSeen) → slice_get old i ≡ Some j
-    → IsSomeAnd (slice_get new i) (λ k. JobGrows j k)
+-- each job is there still, and grows
+pub record JobsGrow (gave : Run → Answer → Type 0) (old new : List JobSeen) : Type 0 where
+  pub as_many : length new ≡ length old
+  pub each : (i : ℕ) (j : JobSeen) → slice_get old i ≡ Some j
+      → IsSomeAnd (slice_get new i) (λ k. JobGrows gave j k)
 
 -- how many entries the passes know as their own, that is, how many steps they have made
 abbrev pub made_by : List PostSeen → ℕ

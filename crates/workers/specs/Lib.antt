@@ -1,5 +1,7 @@
 pub mod Seen
 pub mod Wanted
+pub mod Terms
+pub mod Given
 pub mod Grown
 pub mod Tries
 pub mod Room

@@ -4,8 +4,6 @@ use Rattle.std.specs.Prelude.{slice_get}
 use Rattle.std.specs.Prelude.{slice_index_or, nat_lt, if◌then◌else◌}
 use Rattle.irq_base.specs.declared.entries.Actor.{Actor}
 use Rattle.irq_base.specs.declared.entries.Actor.TheVariants as actors
-use Rattle.irq_base.specs.declared.entries.Entry.{Entry}
-use Rattle.irq_base.specs.declared.lines.LineDef.{LineDef}
 use Rattle.irq_base.specs.declared.numbers.LineNo.{LineNo}
 use Rattle.board_def.specs.Seen.{BoardSeen}
 use Rattle.line_lock.specs.Passes.{LockSeen}
@@ -21,6 +19,7 @@ use Rattle.workers.specs.declared.shifts.ShiftsEnd.{ShiftsEnd}
 use Rattle.workers.specs.declared.shifts.ShiftsEnd.TheVariants as ends
 use Rattle.workers.specs.declared.attempts.Attempt.{Attempt}
 use Rattle.workers.specs.declared.attempts.Attempt.TheVariants as attempts
+use Rattle.workers.specs.Terms.{Terms}
 
 -- Nothing is due of the actor. For a thread or a processor: on what each of its passes has seen.
 -- For a driver: it is past all calls, or nothing is due on what its pass of the current call's line
@@ -32,12 +31,13 @@ IsAtRest board j who =
 
 -- the job is right; it has the same actor, and passes of the same lines, which have seen as much or
 -- more
-pub record WorksOn (board : BoardSeen) (lines : List LockSeen) (old new : JobSeen) : Type 0 where
+pub record WorksOn (terms : Terms) (board : BoardSeen) (lines : List LockSeen) (old new : JobSeen)
+    : Type 0 where
   pub actor : new.actor ≡ old.actor
   pub first : new.first ≡ old.first
   pub as_many : length new.posts ≡ length old.posts
   pub job : IsJob board lines new
-  pub grew : PostsGrow old.posts new.posts
+  pub grew : PostsGrow terms.gave old.posts new.posts
 
 -- how a worker's part of a shift ended that had ended as `before`, and then as `end` of its next
 -- attempts
@@ -51,17 +51,17 @@ is_refused (part_ends.Full line len) = true
 is_refused part_ends.NoMemory = true
 is_refused _ = false
 
--- `wanted` says on what history of a line an actor may be refused memory
-module _ (wanted : LineDef → List Entry → Actor → Type 0) where
+-- the terms say when memory may be refused, and what the handlers gave
+module _ (terms : Terms) where
   abbrev pub ComesTo : BoardSeen → JobSeen → Attempt → Type 0
   ComesTo board j attempts.NotYet = IsAtRest board j j.actor
   ComesTo board j (attempts.Full line len) = IsFullOn j line len
-  ComesTo board j attempts.NoMemory = IsWantedOn wanted j
+  ComesTo board j attempts.NoMemory = IsWantedOn terms j
   ComesTo board j (attempts.Moved e) = Unit {0}
 
   pub record AttemptsJob (board : BoardSeen) (lines : List LockSeen) (attempt : Attempt)
       (old new : JobSeen) : Type 0 where
-    pub works : WorksOn board lines old new
+    pub works : WorksOn terms board lines old new
     pub came : ComesTo board new attempt
     pub room : RoomAfter attempt old new
 
@@ -70,16 +70,16 @@ module _ (wanted : LineDef → List Entry → Actor → Type 0) where
   EndIsSo board j part_ends.Idle = IsAtRest board j j.actor
   EndIsSo board j part_ends.Busy = Unit {0}
   EndIsSo board j (part_ends.Full line len) = IsFullOn j line len
-  EndIsSo board j part_ends.NoMemory = IsWantedOn wanted j
+  EndIsSo board j part_ends.NoMemory = IsWantedOn terms j
 
   pub record WorksJob (board : BoardSeen) (lines : List LockSeen) (old new : JobSeen) : Type 0 where
-    pub works : WorksOn board lines old new
+    pub works : WorksOn terms board lines old new
     pub end : EndIsSo board new new.end
     pub room : RoomAfterPart new.end old new
 
   -- a worker's later part of a shift: what was true of its shift before is true of it still
   pub record GoesOn (board : BoardSeen) (lines : List LockSeen) (old new : JobSeen) : Type 0 where
-    pub works : WorksOn board lines old new
+    pub works : WorksOn terms board lines old new
     pub since : (start : JobSeen) → WorksJob board lines start old → WorksJob board lines start new
 
   -- each job after a later sweep of a shift
@@ -161,18 +161,18 @@ pub record IsFullFor (s : JobsSeen) (line : LineNo) (len : ℕ) : Type 0 where
       → j.end ≡ part_ends.Full other m → line.0 ≤ other.0
 
 -- memory was refused to one of the workers, and none stopped at a full line
-pub record IsWantedFor (wanted : LineDef → List Entry → Actor → Type 0) (s : JobsSeen)
+pub record IsWantedFor (terms : Terms) (s : JobsSeen)
     : Type 0 where
   pub place : ℕ
   pub job : JobSeen
   pub at : slice_get s.jobs place ≡ Some job
-  pub is : IsWantedOn wanted job
+  pub is : IsWantedOn terms job
   pub none_full : NoneFull s.jobs (length s.jobs)
 
 -- Quiet: nothing is due of any actor. Full: a step is due on this line, the lowest at which a
 -- worker stopped. NoMemory: memory was refused, and the line may have wanted it.
-abbrev pub Ends : (wanted : LineDef → List Entry → Actor → Type 0) → JobsSeen → ShiftsEnd → Type 0
-Ends wanted s ends.Quiet =
+abbrev pub Ends : (terms : Terms) → JobsSeen → ShiftsEnd → Type 0
+Ends terms s ends.Quiet =
     (i : ℕ) (j : JobSeen) → slice_get s.jobs i ≡ Some j → IsAtRest s.board j j.actor
-Ends wanted s (ends.Full line len) = IsFullFor s line len
-Ends wanted s ends.NoMemory = IsWantedFor wanted s
+Ends terms s (ends.Full line len) = IsFullFor s line len
+Ends terms s ends.NoMemory = IsWantedFor terms s

@@ -1,6 +1,8 @@
 -- What a try of a worker on one line comes to.
 use Rattle.std.specs.Prelude.{◌≡◌, ◌<◌, Bool, true, false, IsSome, Option, Some, None, Result, Ok}
-use Rattle.std.specs.Prelude.{Err, List, [], ◌∷◌, ◌++◌, length}
+use Rattle.std.specs.Prelude.{Err, List, [], ◌∷◌, ◌++◌, length, reverse}
+use Rattle.irq_base.specs.declared.devices.Answer.{Answer}
+use Rattle.irq_base.specs.declared.devices.Run.{Run}
 use Rattle.irq_base.specs.declared.entries.Actor.{Actor}
 use Rattle.irq_base.specs.declared.entries.Entry.{Entry}
 use Rattle.irq_base.specs.declared.lines.LineDef.{LineDef}
@@ -11,12 +13,15 @@ use Rattle.irq_line.specs.declared.answers.StepRefused.TheVariants as refusals
 use Rattle.line_lock.specs.Knows.{BeginsWith}
 use Rattle.line_lock.specs.Placed.{placed}
 use Rattle.line_lock.specs.declared.view.Known.{Known}
+use Rattle.workers.specs.Given.{IsGiven}
+use Rattle.workers.specs.Terms.{Terms}
 
 -- The entry was due of the actor after some history. That history began with what the pass had
 -- seen, and the actor's entries in it were those that the pass knew as its own. The entry stands at
 -- the end of what is seen now, and is one of the pass's own.
-pub record Gains (def : LineDef) (who : Actor) (old : Known) (e : Entry) (new : Known)
-    : Type 0 where
+-- If it ends a run, the run was answered by a call.
+pub record Gains (gave : Run → Answer → Type 0) (def : LineDef) (who : Actor) (old : Known)
+    (e : Entry) (new : Known) : Type 0 where
   pub history : List Entry
   pub onto : BeginsWith history old.seen
   pub own : old.mine ≡ placed who history
@@ -24,6 +29,7 @@ pub record Gains (def : LineDef) (who : Actor) (old : Known) (e : Entry) (new : 
   pub below : length history < def.log
   pub seen : new.seen ≡ history ++ e ∷ []
   pub mine : new.mine ≡ old.mine ++ record { place = length history; entry = e } ∷ []
+  pub given : IsGiven gave def (reverse history) e
 
 -- nothing is due of the actor on what is seen
 abbrev pub IsIdle : LineDef → Actor → Known → Type 0
@@ -35,14 +41,14 @@ pub record IsFull (def : LineDef) (who : Actor) (k : Known) : Type 0 where
   pub due : IsSome (next def k.seen who)
   pub length : length k.seen ≡ def.log
 
--- `wanted` says on what history of a line an actor may be refused memory
-module _ (wanted : LineDef → List Entry → Actor → Type 0) where
+-- the terms say when memory may be refused, and what the handlers gave
+module _ (terms : Terms) where
   abbrev pub CameTo : LineDef → Actor → Known → Result (Option Entry) StepRefused → Known → Type 0
-  CameTo def who old (Ok (Some e)) new = Gains def who old e new
+  CameTo def who old (Ok (Some e)) new = Gains terms.gave def who old e new
   CameTo def who old (Ok None) new = IsIdle def who new × (new.mine ≡ old.mine)
-  CameTo def who old (Err (refusals.Full len)) new =
-      IsFull def who new × (len ≡ def.log) × (new.mine ≡ old.mine)
-  CameTo def who old (Err refusals.NoMemory) new = wanted def new.seen who × (new.mine ≡ old.mine)
+  CameTo def who old (Err (refusals.Full number len)) new =
+      IsFull def who new × (number ≡ def.line) × (len ≡ def.log) × (new.mine ≡ old.mine)
+  CameTo def who old (Err refusals.NoMemory) new = terms.wanted def new.seen who × (new.mine ≡ old.mine)
 
   -- what is seen afterwards begins with what was seen, and is legal; the pass's own entries are its
   -- actor's; and the answer is right

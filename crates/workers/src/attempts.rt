@@ -3,11 +3,11 @@ ghost use Rattle.std.specs.Prelude.{◌≡◌, ◌<◌, ℕ, true, Some, None, l
 ghost use Rattle.workers.specs.Fit.{ArePosted, HasOneFlow, HasItsFlow};
 ghost use Rattle.workers.specs.Attempts.{StepsPost, StepsCpu, TriesLast, AttemptsCpu, attempt_of};
 ghost use Rattle.workers.specs.Attempts.{flow_after, is_not_yet};
-ghost use Rattle.workers.specs.Wanted.{Wanted};
+ghost use Rattle.workers.specs.Terms.{terms_of};
 
 use crate::job::Job;
 use crate::lines::SharedLines;
-use callbacks::{Callbacks, Handler};
+use callbacks::SharedHandler;
 use irq_base::{CpuEntry, Entry, FlowKind, LineNo, TakeAnswer};
 use irq_line::{IrqLine, StepRefused};
 use std::sync::Wait;
@@ -27,41 +27,40 @@ pub(crate) enum Attempt {
 
 impl<L: IrqLine> Job<L> {
     /// Tries the actor's next step with the pass at index `place`.
-    pub(crate) fn try_post<R: Wait, H: Handler>(
+    pub(crate) fn try_post<R: Wait, H: SharedHandler>(
         &mut self,
         rt: &R,
         lines: &SharedLines<L>,
         place: usize,
-        handlers: &Callbacks<H>,
+        handlers: &H,
     ) -> Attempt
         requires posted { ArePosted lines.now self.old }
         requires place { place < length self.old.posts }
-        ensures { StepsPost (Wanted L.seen L.may_want) lines.now place result self.old self.new }
+        ensures { StepsPost (terms_of L.seen L.may_want (H.gave handlers.now)) lines.now place result self.old self.new }
     {
-        let numbers = lines.numbers.as_slice();
+        let all = lines.lines.as_slice();
         let k = self.first + place;
-        let number = numbers[k];
-        let line = &lines.lines[k];
+        let line = &all[k];
         let post = &mut self.posts[place];
         let tried = post.step(rt, line, handlers);
-        attempt_of(number, tried)
+        attempt_of(tried)
     }
 
     /// Tries a processor's next step with the pass at index `place`. The processor has no flow in
     /// progress on another line.
-    fn step_cpu<R: Wait, H: Handler>(
+    fn step_cpu<R: Wait, H: SharedHandler>(
         &mut self,
         rt: &R,
         lines: &SharedLines<L>,
         place: usize,
-        handlers: &Callbacks<H>,
+        handlers: &H,
     ) -> Attempt
         requires posted { ArePosted lines.now self.old }
         requires place { place < length self.old.posts }
         requires flow { HasOneFlow self.old }
         requires its { HasItsFlow self.old }
         requires free { (i : ℕ) → self.old.flow ≡ Some i → i ≡ place }
-        ensures { StepsCpu (Wanted L.seen L.may_want) lines.now place result self.old self.new }
+        ensures { StepsCpu (terms_of L.seen L.may_want (H.gave handlers.now)) lines.now place result self.old self.new }
     {
         let attempt = self.try_post(rt, lines, place, handlers);
         if let Attempt::Moved(entry) = attempt {
@@ -74,16 +73,16 @@ impl<L: IrqLine> Job<L> {
     /// A processor's attempt. If it has a flow in progress, it steps on the flow's line, where
     /// something is always due of it; else on the line of its last step, if an
     /// entry of it is due there, or on the first on which one is.
-    pub(crate) fn attempt_cpu<R: Wait, H: Handler>(
+    pub(crate) fn attempt_cpu<R: Wait, H: SharedHandler>(
         &mut self,
         rt: &R,
         lines: &SharedLines<L>,
-        handlers: &Callbacks<H>,
+        handlers: &H,
     ) -> Attempt
         requires posted { ArePosted lines.now self.old }
         requires flow { HasOneFlow self.old }
         requires its { HasItsFlow self.old }
-        ensures { AttemptsCpu (Wanted L.seen L.may_want) lines.now result self.old self.new }
+        ensures { AttemptsCpu (terms_of L.seen L.may_want (H.gave handlers.now)) lines.now result self.old self.new }
     {
         if let Some(place) = self.flow {
             return self.step_cpu(rt, lines, place, handlers);
@@ -104,17 +103,17 @@ impl<L: IrqLine> Job<L> {
 
     /// Tries a processor's next step with the pass with which it made its last one, where it is
     /// likely to have the next.
-    fn try_last<R: Wait, H: Handler>(
+    fn try_last<R: Wait, H: SharedHandler>(
         &mut self,
         rt: &R,
         lines: &SharedLines<L>,
-        handlers: &Callbacks<H>,
+        handlers: &H,
     ) -> Attempt
         requires posted { ArePosted lines.now self.old }
         requires flow { HasOneFlow self.old }
         requires its { HasItsFlow self.old }
         requires none { self.old.flow ≡ None }
-        ensures { TriesLast (Wanted L.seen L.may_want) lines.now result self.old self.new }
+        ensures { TriesLast (terms_of L.seen L.may_want (H.gave handlers.now)) lines.now result self.old self.new }
     {
         let last = self.last;
         if last >= self.posts.len() {
@@ -161,13 +160,13 @@ pub(crate) fn flow_after(
 }
 
 /// What an attempt answers, by what the try on its line answered.
-fn attempt_of(line: LineNo, tried: Result<Option<Entry>, StepRefused>) -> Attempt
-    ensures { result ≡ attempt_of line tried }
+fn attempt_of(tried: Result<Option<Entry>, StepRefused>) -> Attempt
+    ensures { result ≡ attempt_of tried }
 {
     match tried {
         Ok(Some(entry)) => Attempt::Moved(entry),
         Ok(None) => Attempt::NotYet,
-        Err(StepRefused::Full { len }) => Attempt::Full { line, len },
+        Err(StepRefused::Full { line, len }) => Attempt::Full { line, len },
         Err(StepRefused::NoMemory) => Attempt::NoMemory,
     }
 }

@@ -4,13 +4,13 @@ ghost use Rattle.board_def.specs.declared.rows.ScriptCall.{ScriptCall};
 ghost use Rattle.workers.specs.Fit.{IsPlaceOf};
 ghost use Rattle.workers.specs.Forks.{AreBoards};
 ghost use Rattle.workers.specs.Attempts.{IsDriven, AttemptsDriver};
-ghost use Rattle.workers.specs.Wanted.{Wanted};
+ghost use Rattle.workers.specs.Terms.{terms_of};
 
 use crate::attempts::Attempt;
 use crate::job::Job;
 use crate::lines::SharedLines;
 use board_def::{Board, ScriptCall};
-use callbacks::{Callbacks, Handler};
+use callbacks::SharedHandler;
 use irq_base::DriverNo;
 use irq_line::IrqLine;
 use line_scripts::completes;
@@ -18,17 +18,17 @@ use std::sync::Wait;
 
 impl<L: IrqLine> Job<L> {
     /// A driver's attempt: on the line of its current call.
-    pub(crate) fn attempt_driver<R: Wait, H: Handler>(
+    pub(crate) fn attempt_driver<R: Wait, H: SharedHandler>(
         &mut self,
         rt: &R,
         board: &Board,
         lines: &SharedLines<L>,
         driver: DriverNo,
-        handlers: &Callbacks<H>,
+        handlers: &H,
     ) -> Attempt
         requires boards { AreBoards board.now lines.now }
         requires driven { IsDriven board.now lines.now driver self.old }
-        ensures { AttemptsDriver (Wanted L.seen L.may_want) board.now lines.now driver result
+        ensures { AttemptsDriver (terms_of L.seen L.may_want (H.gave handlers.now)) board.now lines.now driver result
             self.old self.new }
     {
         self.at = next_call(board.calls(), lines, driver, self.at);
@@ -42,20 +42,20 @@ impl<L: IrqLine> Job<L> {
     }
 
     /// A try of the driver at its current call, on the call's line, the one at index `place`.
-    fn step_driver<R: Wait, H: Handler>(
+    fn step_driver<R: Wait, H: SharedHandler>(
         &mut self,
         rt: &R,
         board: &Board,
         lines: &SharedLines<L>,
         call: ScriptCall,
         place: usize,
-        handlers: &Callbacks<H>,
+        handlers: &H,
     ) -> Attempt
         requires boards { AreBoards board.now lines.now }
         requires driven { IsDriven board.now lines.now call.driver self.old }
         requires call { slice_get board.now.calls self.old.at ≡ Some call }
         requires place { IsPlaceOf lines.now call.line (Some place) }
-        ensures { AttemptsDriver (Wanted L.seen L.may_want) board.now lines.now call.driver result
+        ensures { AttemptsDriver (terms_of L.seen L.may_want (H.gave handlers.now)) board.now lines.now call.driver result
             self.old self.new }
     {
         board.is_board();

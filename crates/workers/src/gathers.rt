@@ -6,8 +6,8 @@ ghost use Rattle.board_def.specs.Seen.{BoardSeen};
 ghost use Rattle.board_play.specs.Kept.{AreKept};
 ghost use Rattle.line_lock.specs.Passes.{LockSeen, PassSeen};
 ghost use Rattle.workers.specs.Fit.{ArePosted, Fit};
-ghost use Rattle.workers.specs.Gathers.{AreBack, AreFinal, AreGathered, AreHome, AreSound, Gathers};
-ghost use Rattle.workers.specs.Gathers.{IsHome, IsMet, board_lines, seen_lines};
+ghost use Rattle.workers.specs.Gathers.{AreBack, AreFinal, AreGathered, AreHome, AreKnown, AreSound};
+ghost use Rattle.workers.specs.Gathers.{Gathers, IsHome, IsMet, board_lines, seen_lines};
 ghost use Rattle.workers.specs.Seen.{JobSeen};
 
 use crate::job::Job;
@@ -20,7 +20,7 @@ use std::alloc::Global;
 
 /// Takes all passes back, and the lines out of their locks. They come in the same order, with the
 /// same definitions. Each history is the longest that a pass of the line has seen, and begins with
-/// what each other pass has seen. It is legal, and the histories have the drivers' calls in the
+/// what each other pass has seen; it has entries of the jobs' actors alone. It is legal, and the histories have the drivers' calls in the
 /// order of their scripts, each driver's up to its job's place. The only error is `NoMemory`; then
 /// the lines are gone.
 pub fn gather<L: IrqLine>(
@@ -88,6 +88,7 @@ fn finish_all<L: IrqLine>(
     ensures lines { IfOk result
         (λ all. board_lines (map L.seen all.items) ≡ seen_lines firsts.items) }
     ensures sound { IfOk result (λ all. AreSound (map L.seen all.items)) }
+    ensures known { IfOk result (λ all. AreKnown firsts.items) }
 {
     let mut all = Vec::new(alloc);
     firsts.reverse();
@@ -95,6 +96,7 @@ fn finish_all<L: IrqLine>(
         let Some(first) = firsts.pop() else {
             unreachable!()
         };
+        first.is_known();
         let line = shared.finish(first);
         line.is_sound();
         all.push(line)?;

@@ -4,9 +4,9 @@ ghost use Rattle.irq_base.specs.declared.entries.Actor.{Actor};
 ghost use Rattle.line_lock.specs.Passes.{IsPassOf};
 ghost use Rattle.workers.specs.Tries.{IsIdle, Tries, rests_after};
 ghost use Rattle.workers.specs.Attempts.{FlowMoves};
-ghost use Rattle.workers.specs.Wanted.{Wanted};
+ghost use Rattle.workers.specs.Terms.{terms_of};
 
-use callbacks::{Callbacks, Handler};
+use callbacks::{Before, Said, SharedHandler};
 use irq_base::Entry;
 use irq_line::{IrqLine, StepRefused, Stepped};
 use line_shared::{Pass, SharedLine};
@@ -32,11 +32,11 @@ impl<L: IrqLine> Model for Post<L> {
 impl<L: IrqLine> Post<L> {
     /// Tries the actor's next step on the line, unless nothing was due last time and nothing is
     /// known to have happened on the line since.
-    pub(crate) fn step<R: Wait, H: Handler>(
+    pub(crate) fn step<R: Wait, H: SharedHandler>(
         &mut self,
         rt: &R,
         line: &SharedLine<L>,
-        handlers: &Callbacks<H>,
+        handlers: &H,
     ) -> Result<Option<Entry>, StepRefused>
         requires line { IsPassOf line.now self.old.pass }
         requires idle { self.old.pass.turn ≡ false }
@@ -48,7 +48,7 @@ impl<L: IrqLine> Post<L> {
         ensures actor { self.new.pass.knows.actor ≡ self.old.pass.knows.actor }
         ensures rests { self.new.rests ≡ rests_after result }
         ensures tries { (who : Actor) → self.old.pass.knows.actor ≡ Some who
-            → Tries (Wanted L.seen L.may_want) line.now.def who self.old.pass.knows result
+            → Tries (terms_of L.seen L.may_want (H.gave handlers.now)) line.now.def who self.old.pass.knows result
             self.new.pass.knows }
         ensures flows { self.old.rests ≡ false → FlowMoves line.now.def self.old.pass.knows result }
     {
@@ -71,11 +71,11 @@ impl<L: IrqLine> Post<L> {
 
 /// Adds the entry that is due of the pass's actor, if there is one. If it ends a run of a handler,
 /// that handler is called, with the line let go.
-fn step_heard<L: IrqLine, R: Wait, H: Handler>(
+fn step_heard<L: IrqLine, R: Wait, H: SharedHandler>(
     rt: &R,
     line: &SharedLine<L>,
     pass: &mut Pass<L>,
-    handlers: &Callbacks<H>,
+    handlers: &H,
 ) -> Result<Option<Entry>, StepRefused>
     requires line { IsPassOf line.now pass.old }
     requires idle { pass.old.turn ≡ false }
@@ -84,15 +84,15 @@ fn step_heard<L: IrqLine, R: Wait, H: Handler>(
     ensures idle { pass.new.turn ≡ false }
     ensures actor { pass.new.knows.actor ≡ pass.old.knows.actor }
     ensures tries { (who : Actor) → pass.old.knows.actor ≡ Some who
-        → Tries (Wanted L.seen L.may_want) line.now.def who pass.old.knows result pass.new.knows }
+        → Tries (terms_of L.seen L.may_want (H.gave handlers.now)) line.now.def who pass.old.knows result pass.new.knows }
     ensures flows { FlowMoves line.now.def pass.old.knows result }
 {
-    let mut said = None;
+    let mut before = Before { said: None };
     for _ in rt.forever() {
-        match line.step(rt, pass, said.take()) {
+        match line.step(rt, pass, &mut before) {
             Ok(Stepped::Added(entry)) => return Ok(Some(entry)),
             Ok(Stepped::NotYet) => return Ok(None),
-            Ok(Stepped::Run(run)) => said = Some(handlers.call(run)),
+            Ok(Stepped::Lacks(run)) => before.said = Some(Said::of(handlers, run)),
             Err(refused) => return Err(refused),
         }
     }

@@ -7,7 +7,7 @@ ghost use Rattle.workers.specs.Grown.{JobsGrow};
 ghost use Rattle.workers.specs.Shifts.{EachEndedSo, Ends, KeepsJobs, MadeNone, SumsUp, worse};
 ghost use Rattle.workers.specs.Seen.{JobSeen};
 ghost use Rattle.workers.specs.declared.job.PartEnd.TheVariants as part_ends;
-ghost use Rattle.workers.specs.Wanted.{Wanted};
+ghost use Rattle.workers.specs.Terms.{terms_of};
 
 use crate::gate::Gate;
 use crate::job::{Job, PartEnd};
@@ -15,7 +15,7 @@ use crate::jobs::Jobs;
 use crate::lines::SharedLines;
 use crate::sweeps::work_on;
 use board_def::Board;
-use callbacks::{Callbacks, Handler};
+use callbacks::SharedHandler;
 use irq_base::LineNo;
 use irq_line::IrqLine;
 use std::sync::Wait;
@@ -41,19 +41,13 @@ pub fn run_shifts<
     R: Threads + Wait + Sync,
     L: IrqLine + Send + Sync,
     G: Gate + Sync,
-    H: Handler + Sync,
->(
-    rt: &R,
-    lines: &SharedLines<L>,
-    jobs: &mut Jobs<'_, L>,
-    gate: &G,
-    handlers: &Callbacks<H>,
-) -> ShiftsEnd
+    H: SharedHandler + Sync,
+>(rt: &R, lines: &SharedLines<L>, jobs: &mut Jobs<'_, L>, gate: &G, handlers: &H) -> ShiftsEnd
     requires { Fit lines.now jobs.old }
     ensures board { jobs.new.board ≡ jobs.old.board }
     ensures fit { Fit lines.now jobs.new }
-    ensures end { Ends (Wanted L.seen L.may_want) jobs.new result }
-    ensures grew { JobsGrow jobs.old.jobs jobs.new.jobs }
+    ensures end { Ends (terms_of L.seen L.may_want (H.gave handlers.now)) jobs.new result }
+    ensures grew { JobsGrow (H.gave handlers.now) jobs.old.jobs jobs.new.jobs }
     ensures firsts { jobs.new.firsts ≡ jobs.old.firsts }
     ensures room { room_of_jobs jobs.new.jobs ≤ room_of_jobs jobs.old.jobs }
 {
@@ -121,7 +115,12 @@ fn next_pause(pause: Pause, paid: bool) -> Pause {
 }
 
 /// One shift: each `size` jobs are worked on in a thread of their own, if it can be made.
-fn shift<R: Threads + Wait + Sync, L: IrqLine + Send + Sync, G: Gate + Sync, H: Handler + Sync>(
+fn shift<
+    R: Threads + Wait + Sync,
+    L: IrqLine + Send + Sync,
+    G: Gate + Sync,
+    H: SharedHandler + Sync,
+>(
     rt: &R,
     board: &Board,
     lines: &SharedLines<L>,
@@ -129,11 +128,11 @@ fn shift<R: Threads + Wait + Sync, L: IrqLine + Send + Sync, G: Gate + Sync, H: 
     jobs: &mut [Job<L>],
     used_up: &AtomicU64,
     gate: &G,
-    handlers: &Callbacks<H>,
+    handlers: &H,
 )
     requires boards { AreBoards board.now lines.now }
     requires jobs { All (IsJob board.now lines.now) jobs.old }
-    ensures { KeepsJobs (Wanted L.seen L.may_want) board.now lines.now jobs.old jobs.new }
+    ensures { KeepsJobs (terms_of L.seen L.may_want (H.gave handlers.now)) board.now lines.now jobs.old jobs.new }
 {
     thread::for_each_chunk_mut(
         rt,
@@ -145,21 +144,21 @@ fn shift<R: Threads + Wait + Sync, L: IrqLine + Send + Sync, G: Gate + Sync, H: 
 
 impl<'b, L: IrqLine + Send + Sync> Jobs<'b, L> {
     /// One shift of all jobs, and how their parts of it ended.
-    fn one_shift<R: Threads + Wait + Sync, G: Gate + Sync, H: Handler + Sync>(
+    fn one_shift<R: Threads + Wait + Sync, G: Gate + Sync, H: SharedHandler + Sync>(
         &mut self,
         rt: &R,
         lines: &SharedLines<L>,
         size: usize,
         used_up: &AtomicU64,
         gate: &G,
-        handlers: &Callbacks<H>,
+        handlers: &H,
     ) -> PartEnd
         requires { Fit lines.now self.old }
         ensures board { self.new.board ≡ self.old.board }
         ensures fit { Fit lines.now self.new }
-        ensures ends { EachEndedSo (Wanted L.seen L.may_want) self.new }
+        ensures ends { EachEndedSo (terms_of L.seen L.may_want (H.gave handlers.now)) self.new }
         ensures all { SumsUp self.new.jobs (length self.new.jobs) result }
-        ensures grew { JobsGrow self.old.jobs self.new.jobs }
+        ensures grew { JobsGrow (H.gave handlers.now) self.old.jobs self.new.jobs }
         ensures firsts { self.new.firsts ≡ self.old.firsts }
         ensures idle { result ≡ part_ends.Idle → MadeNone self.old.jobs self.new.jobs }
         ensures room { room_of_jobs self.new.jobs ≤ room_of_jobs self.old.jobs }

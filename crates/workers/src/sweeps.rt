@@ -6,7 +6,7 @@ ghost use Rattle.workers.specs.Room.{RoomAfterPart};
 ghost use Rattle.workers.specs.Shifts.{GoesOn, GoOnJobs, KeepsJobs, EndIsSo, AttemptsJob};
 ghost use Rattle.workers.specs.Shifts.{WorksJob};
 ghost use Rattle.workers.specs.Shifts.{WorksOn, is_refused, with_earlier};
-ghost use Rattle.workers.specs.Wanted.{Wanted};
+ghost use Rattle.workers.specs.Terms.{terms_of};
 
 use crate::attempts::Attempt;
 use crate::gate::Gate;
@@ -14,7 +14,7 @@ use crate::job::{Job, PartEnd};
 use crate::lines::SharedLines;
 use crate::shifts::worse;
 use board_def::Board;
-use callbacks::{Callbacks, Handler};
+use callbacks::SharedHandler;
 use irq_base::Actor;
 use irq_line::IrqLine;
 use std::hint::spin_loop;
@@ -43,16 +43,16 @@ const LOOKS_OVER_SEVERAL: usize = 2;
 
 impl<L: IrqLine> Job<L> {
     /// One attempt of the actor.
-    fn attempt<R: Wait, H: Handler>(
+    fn attempt<R: Wait, H: SharedHandler>(
         &mut self,
         rt: &R,
         board: &Board,
         lines: &SharedLines<L>,
-        handlers: &Callbacks<H>,
+        handlers: &H,
     ) -> Attempt
         requires boards { AreBoards board.now lines.now }
         requires job { IsJob board.now lines.now self.old }
-        ensures { AttemptsJob (Wanted L.seen L.may_want) board.now lines.now result self.old
+        ensures { AttemptsJob (terms_of L.seen L.may_want (H.gave handlers.now)) board.now lines.now result self.old
             self.new }
     {
         match self.actor {
@@ -63,17 +63,17 @@ impl<L: IrqLine> Job<L> {
     }
 
     /// One attempt of the actor, once the gate lets it pass.
-    fn attempt_at_gate<R: Wait, G: Gate, H: Handler>(
+    fn attempt_at_gate<R: Wait, G: Gate, H: SharedHandler>(
         &mut self,
         rt: &R,
         board: &Board,
         lines: &SharedLines<L>,
         gate: &G,
-        handlers: &Callbacks<H>,
+        handlers: &H,
     ) -> Attempt
         requires boards { AreBoards board.now lines.now }
         requires job { IsJob board.now lines.now self.old }
-        ensures { AttemptsJob (Wanted L.seen L.may_want) board.now lines.now result self.old
+        ensures { AttemptsJob (terms_of L.seen L.may_want (H.gave handlers.now)) board.now lines.now result self.old
             self.new }
     {
         self.attempts = self.attempts.saturating_add(1);
@@ -82,20 +82,20 @@ impl<L: IrqLine> Job<L> {
     }
 
     /// Steps of the actor, as long as there is something to do, at most `most`.
-    fn make_attempts<R: Wait, G: Gate, H: Handler>(
+    fn make_attempts<R: Wait, G: Gate, H: SharedHandler>(
         &mut self,
         rt: &R,
         board: &Board,
         lines: &SharedLines<L>,
         most: u32,
         gate: &G,
-        handlers: &Callbacks<H>,
+        handlers: &H,
     ) -> PartEnd
         requires boards { AreBoards board.now lines.now }
         requires job { IsJob board.now lines.now self.old }
         requires some { 0 < most }
-        ensures works { WorksOn board.now lines.now self.old self.new }
-        ensures end { EndIsSo (Wanted L.seen L.may_want) board.now self.new result }
+        ensures works { WorksOn (terms_of L.seen L.may_want (H.gave handlers.now)) board.now lines.now self.old self.new }
+        ensures end { EndIsSo (terms_of L.seen L.may_want (H.gave handlers.now)) board.now self.new result }
         ensures room { RoomAfterPart result self.old self.new }
     {
         for steps in 0..most {
@@ -111,19 +111,19 @@ impl<L: IrqLine> Job<L> {
     }
 
     /// The first that a worker does in a shift.
-    fn work<R: Wait, G: Gate, H: Handler>(
+    fn work<R: Wait, G: Gate, H: SharedHandler>(
         &mut self,
         rt: &R,
         board: &Board,
         lines: &SharedLines<L>,
         most: u32,
         gate: &G,
-        handlers: &Callbacks<H>,
+        handlers: &H,
     )
         requires boards { AreBoards board.now lines.now }
         requires job { IsJob board.now lines.now self.old }
         requires some { 0 < most }
-        ensures { WorksJob (Wanted L.seen L.may_want) board.now lines.now self.old self.new }
+        ensures { WorksJob (terms_of L.seen L.may_want (H.gave handlers.now)) board.now lines.now self.old self.new }
     {
         self.end = self.make_attempts(rt, board, lines, most, gate, handlers);
     }
@@ -131,19 +131,19 @@ impl<L: IrqLine> Job<L> {
     /// What a worker does later in the shift, and how this went. If it made a step before, its
     /// part ends as one with a step, also if there is nothing more to do. A worker whose part ended
     /// at a full line or for want of memory does nothing more.
-    fn go_on<R: Wait, G: Gate, H: Handler>(
+    fn go_on<R: Wait, G: Gate, H: SharedHandler>(
         &mut self,
         rt: &R,
         board: &Board,
         lines: &SharedLines<L>,
         most: u32,
         gate: &G,
-        handlers: &Callbacks<H>,
+        handlers: &H,
     ) -> PartEnd
         requires boards { AreBoards board.now lines.now }
         requires job { IsJob board.now lines.now self.old }
         requires some { 0 < most }
-        ensures { GoesOn (Wanted L.seen L.may_want) board.now lines.now self.old self.new }
+        ensures { GoesOn (terms_of L.seen L.may_want (H.gave handlers.now)) board.now lines.now self.old self.new }
     {
         let before = self.end;
         if is_refused(before) {
@@ -178,18 +178,18 @@ fn is_refused(end: PartEnd) -> bool
 /// A thread's part of a shift: sweeps over its jobs, as long as one of the workers finds something
 /// to do. With several jobs each gets some steps at once. It is counted if it was used up, that is,
 /// if there was still something to do.
-pub(crate) fn work_on<R: Wait, L: IrqLine, G: Gate, H: Handler>(
+pub(crate) fn work_on<R: Wait, L: IrqLine, G: Gate, H: SharedHandler>(
     rt: &R,
     board: &Board,
     lines: &SharedLines<L>,
     jobs: &mut [Job<L>],
     used_up: &AtomicU64,
     gate: &G,
-    handlers: &Callbacks<H>,
+    handlers: &H,
 )
     requires boards { AreBoards board.now lines.now }
     requires jobs { All (IsJob board.now lines.now) jobs.old }
-    ensures { KeepsJobs (Wanted L.seen L.may_want) board.now lines.now jobs.old jobs.new }
+    ensures { KeepsJobs (terms_of L.seen L.may_want (H.gave handlers.now)) board.now lines.now jobs.old jobs.new }
 {
     let most = (board.log() / SHARE).max(LEAST).min(MOST);
     let at_once = if jobs.len() > 1 {
@@ -207,19 +207,19 @@ pub(crate) fn work_on<R: Wait, L: IrqLine, G: Gate, H: Handler>(
 }
 
 /// Sweeps over the jobs, until a worker finds something to do, or none has for some sweeps.
-fn look<R: Wait, L: IrqLine, G: Gate, H: Handler>(
+fn look<R: Wait, L: IrqLine, G: Gate, H: SharedHandler>(
     rt: &R,
     board: &Board,
     lines: &SharedLines<L>,
     jobs: &mut [Job<L>],
     at_once: u32,
     gate: &G,
-    handlers: &Callbacks<H>,
+    handlers: &H,
 ) -> PartEnd
     requires boards { AreBoards board.now lines.now }
     requires jobs { All (IsJob board.now lines.now) jobs.old }
     requires some { 0 < at_once }
-    ensures { GoOnJobs (Wanted L.seen L.may_want) board.now lines.now jobs.old jobs.new }
+    ensures { GoOnJobs (terms_of L.seen L.may_want (H.gave handlers.now)) board.now lines.now jobs.old jobs.new }
 {
     let looks = if jobs.len() > 1 {
         LOOKS_OVER_SEVERAL
@@ -237,19 +237,19 @@ fn look<R: Wait, L: IrqLine, G: Gate, H: Handler>(
 }
 
 /// The shift's first sweep: each worker has its first attempts.
-fn sweep_first<R: Wait, L: IrqLine, G: Gate, H: Handler>(
+fn sweep_first<R: Wait, L: IrqLine, G: Gate, H: SharedHandler>(
     rt: &R,
     board: &Board,
     lines: &SharedLines<L>,
     jobs: &mut [Job<L>],
     at_once: u32,
     gate: &G,
-    handlers: &Callbacks<H>,
+    handlers: &H,
 )
     requires boards { AreBoards board.now lines.now }
     requires jobs { All (IsJob board.now lines.now) jobs.old }
     requires some { 0 < at_once }
-    ensures { KeepsJobs (Wanted L.seen L.may_want) board.now lines.now jobs.old jobs.new }
+    ensures { KeepsJobs (terms_of L.seen L.may_want (H.gave handlers.now)) board.now lines.now jobs.old jobs.new }
 {
     for i in 0..jobs.len() {
         jobs[i].work(rt, board, lines, at_once, gate, handlers);
@@ -257,19 +257,19 @@ fn sweep_first<R: Wait, L: IrqLine, G: Gate, H: Handler>(
 }
 
 /// A later sweep: each worker has some attempts. Answers the worst of their ends (`worse`).
-fn sweep<R: Wait, L: IrqLine, G: Gate, H: Handler>(
+fn sweep<R: Wait, L: IrqLine, G: Gate, H: SharedHandler>(
     rt: &R,
     board: &Board,
     lines: &SharedLines<L>,
     jobs: &mut [Job<L>],
     at_once: u32,
     gate: &G,
-    handlers: &Callbacks<H>,
+    handlers: &H,
 ) -> PartEnd
     requires boards { AreBoards board.now lines.now }
     requires jobs { All (IsJob board.now lines.now) jobs.old }
     requires some { 0 < at_once }
-    ensures { GoOnJobs (Wanted L.seen L.may_want) board.now lines.now jobs.old jobs.new }
+    ensures { GoOnJobs (terms_of L.seen L.may_want (H.gave handlers.now)) board.now lines.now jobs.old jobs.new }
 {
     let mut all = PartEnd::Idle;
     for i in 0..jobs.len() {

@@ -16,6 +16,7 @@ returns-in-Ok g c =
         log = log;
         states = not_too_long c.args.bytes.now c.if-bytes-gt-LONGEST_INPUT.false
             ∙ (ap board_and_log c.in-Some.ensures ∙ ap (with_log log) c.in_ok-board.ensures.exact);
-        judged = c.in-Ok.ensures;
+        judged = c.in-Ok.ensures.judged;
+        explained = c.in-Ok.ensures.explained;
       };
     }

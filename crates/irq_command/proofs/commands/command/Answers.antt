@@ -23,3 +23,9 @@ returns-in-Ok-clause-unasked g c = λ none.
     c.with_words.ensures.unasked (subst (λ (words : List (String Global)). AsksNothing (map string_bytes words))
     (sym c.as_slice.ensures.value) (nothing_asked c.args.args (map string_bytes c.in-Ok.words.items)
     c.in-Ok.ensures.words none))
+
+pub returns-in-Ok-clause-uncalled : goal.returns-in-Ok-clause-uncalled
+returns-in-Ok-clause-uncalled g c = λ none.
+    c.with_words.ensures.uncalled (subst (λ (words : List (String Global)). AsksNothing (map string_bytes words))
+    (sym c.as_slice.ensures.value) (nothing_asked c.args.args (map string_bytes c.in-Ok.words.items)
+    c.in-Ok.ensures.words none))

@@ -20,8 +20,6 @@ returns-clause-printed g c =
     let layout = layout_rows b in
     let rows = rows_text c.args.summary (histories_of b entries) in
     record {
-      entries = entries;
-      came = c.requires.ran.came;
       headline = headline;
       prints = elim c.match-laid.branch [
         | in-Done w ↦

@@ -1,12 +1,12 @@
 use Rattle.std.proofs.Common.{inl, inr, subst}
 use Rattle.workers.specs.Shifts.{Ends}
-use Rattle.workers.specs.Wanted.{Wanted}
+use Rattle.workers.specs.Terms.{terms_of}
 use Rattle.workers.specs.declared.shifts.ShiftsEnd.{ShiftsEnd}
 use Rattle.irq_run.proofs.running.run_and_print.Goals as goal
 
 pub settle-requires-clause-over : goal.settle-requires-clause-over
 settle-requires-clause-over g c =
-    let ends = λ (end : ShiftsEnd). Ends (Wanted g.M.Line.IrqLine.seen g.M.Line.IrqLine.may_want) c.run_shifts.new.jobs end in
+    let ends = λ (end : ShiftsEnd). Ends (terms_of g.M.Line.IrqLine.seen g.M.Line.IrqLine.may_want (g.H.SharedHandler.gave c.args.handlers.now)) c.run_shifts.new.jobs end in
     elim (c.in-Quiet.is) [
       | inl quiet ↦ inl (subst ends quiet c.run_shifts.ensures.end)
       | inr full ↦ inr (full.0, full.1, subst ends full.2 c.run_shifts.ensures.end)

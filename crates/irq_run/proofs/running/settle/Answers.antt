@@ -1,9 +1,10 @@
 use Rattle.std.proofs.Common.{map, ◌∙◌}
 use Rattle.irq_run.proofs.Coming.{came}
+use Rattle.irq_run.proofs.Given.{settled_given}
 use Rattle.irq_run.proofs.running.settle.Goals as goal
 
-pub returns : goal.returns
-returns g c = record {
+pub returns-clause-run : goal.returns-clause-run
+returns-clause-run g c = record {
   board = c.settle-end.ensures.board ∙ c.in_ok-system.ensures.board;
   layout = c.settle-end.ensures.layout ∙ (c.in_ok-system.ensures.layout ∙ c.requires.layout);
   came =
@@ -12,3 +13,10 @@ returns g c = record {
       c.in_ok-system.ensures.board c.in_ok-system.ensures.lines c.settle-end.ensures.moves;
   ends = c.settle-end.ensures.end;
 }
+
+pub returns-clause-given : goal.returns-clause-given
+returns-clause-given g c =
+    settled_given (g.H.SharedHandler.gave c.args.handlers.now) c.args.board.now c.args.lines c.args.jobs (map g.L.IrqLine.seen c.in_ok-lines.lines.items)
+    c.in_ok-system.system c.settle-end.new.self c.is_board.ensures.board c.requires.board c.requires.fit c.requires.given
+    c.in_ok-lines.ensures.kept c.in_ok-lines.ensures.gathered c.in_ok-system.ensures.board c.in_ok-system.ensures.lines c.in_ok-system.ensures.log
+    c.settle-end.ensures.moves (λ run new heard. heard) c.settle-end.ensures.heard

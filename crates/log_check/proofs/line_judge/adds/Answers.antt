@@ -5,17 +5,17 @@ use Rattle.log_check.proofs.line_judge.adds.Goals as goal
 pub after_row_of-requires-clause-printable : goal.after_row_of-requires-clause-printable
 after_row_of-requires-clause-printable g c =
     let seen = g.L.IrqLine.seen in
-    heard_printable (seen c.args.line.now) (seen c.step.new.line) c.args.actor c.in_ok-entry.field-0 c.in-Some.entry c.in_ok-entry.ensures.heard c.in-Some.is
+    heard_printable (seen c.args.line.now) (seen c.step.new.line) c.args.actor c.in_ok-entry.field-0 c.in-Some.entry c.in_ok-entry.ensures.added c.in-Some.is
 
 pub after_row_of-requires-clause-at : goal.after_row_of-requires-clause-at
 after_row_of-requires-clause-at g c =
     let seen = g.L.IrqLine.seen in
-    stands_last (seen c.args.line.now) (seen c.step.new.line) c.args.actor c.in_ok-entry.field-0 c.in-Some.entry c.in_ok-entry.ensures.heard c.in-Some.is
+    stands_last (seen c.args.line.now) (seen c.step.new.line) c.args.actor c.in_ok-entry.field-0 c.in-Some.entry c.in_ok-entry.ensures.added c.in-Some.is
     c.history-in-Some.result.now.entries c.len-place.result c.history-in-Some.ensures.entries
     (c.len-place.ensures ∙ ap length c.history.ensures.entries)
 
 pub returns-in-Some : goal.returns-in-Some
 returns-in-Some g c =
     let seen = g.L.IrqLine.seen in
-    adds (seen c.args.line.now) (seen c.step.new.line) c.args.actor c.in_ok-entry.field-0 c.in-Some.entry c.in_ok-entry.ensures.heard c.in-Some.is
+    adds (seen c.args.line.now) (seen c.step.new.line) c.args.actor c.in_ok-entry.field-0 c.in-Some.entry c.in_ok-entry.ensures.added c.in-Some.is
     c.args.text.now c.args.number _ c.after_row_of.ensures.number c.after_row_of.ensures.entry c.after_row_of.ensures.follows

@@ -2,7 +2,7 @@ use Rattle.std.proofs.Common.{List, length, map, sym, ap, subst, ◌∙◌, rule
 use Rattle.std.proofs.lemmas.Iterator.Adapters.{YieldsList-from_vec}
 use Rattle.std.proofs.lemmas.Iterator.Consumers.{YieldsList-turn, YieldsList-end}
 use Rattle.workers.specs.Gathers.{IsFinal}
-use Rattle.workers.proofs.Finishing.{AreFinishing, none_finished, pass_next, final_here, finished_more, all_finished}
+use Rattle.workers.proofs.Finishing.{AreFinishing, none_finished, pass_next, final_here, finished_more, all_finished, all_known}
 use Rattle.workers.proofs.Lists.{length_snoc}
 use Rattle.workers.proofs.Manning.{map_more}
 use Rattle.workers.proofs.gathers.finish_all.Given as given
@@ -42,7 +42,7 @@ loop-shared-preserved g c =
     (finished_more c.loop-shared.invariant c.pop.new.self.items c.in-Some-pop.first c.in-Some-pop.ensures.items
     (ap (map g.L.IrqLine.seen) c.in_ok-push.ensures.items
     ∙ map_more g.L.IrqLine.seen c.loop-shared.all.items c.finish-line.result)
-    (c.finish-line.ensures.def ∙ sym f.home.of_line.1) c.finish-line.ensures.entries c.is_sound.ensures)
+    (c.finish-line.ensures.def ∙ sym f.home.of_line.1) c.finish-line.ensures.entries c.is_sound.ensures c.is_known.ensures)
 
 pub returns-clause-lines : goal.returns-clause-lines
 returns-clause-lines g c =
@@ -50,4 +50,12 @@ returns-clause-lines g c =
     (search rules) (search rules)) c.loop-shared.yielded c.loop-shared.shared-iterator c.loop-shared.yielded_by
     c.next.result c.next.new.self c.in-None.is c.next.ensures.steps in
     all_finished c.args.firsts.items (length c.loop-shared.yielded) c.loop-shared.firsts.items
+    (map g.L.IrqLine.seen c.loop-shared.all.items) c.loop-shared.invariant (t.1 ∙ sym c.requires.as_many)
+
+pub returns-clause-known : goal.returns-clause-known
+returns-clause-known g c =
+    let t = YieldsList-end (YieldsList-from_vec {s = c.into_iter-shared-iterator.result} c.args.lines.items
+    (search rules) (search rules)) c.loop-shared.yielded c.loop-shared.shared-iterator c.loop-shared.yielded_by
+    c.next.result c.next.new.self c.in-None.is c.next.ensures.steps in
+    all_known c.args.firsts.items (length c.loop-shared.yielded) c.loop-shared.firsts.items
     (map g.L.IrqLine.seen c.loop-shared.all.items) c.loop-shared.invariant (t.1 ∙ sym c.requires.as_many)

@@ -32,4 +32,4 @@ pub returns-clause-gathered : goal.returns-clause-gathered
 returns-clause-gathered g c =
     let a = apart g (goal.at.returns-clause-gathered g c).After-deref in
     gathered_result a (λ all. map g.L.IrqLine.seen all.items) c.finish_all.result c.meet_all.ensures.home
-    (back_of a c.meet_all.ensures.back) c.finish_all.ensures.lines
+    (back_of a c.meet_all.ensures.back) c.finish_all.ensures.lines c.finish_all.ensures.known

@@ -8,7 +8,7 @@ abbrev pub invariant-loop-used_up : goal.invariant-loop-used_up
 invariant-loop-used_up g l = record {
   fit : Fit l.lines l.jobs;
   same : l.jobs.board ≡ l.fn.jobs.board;
-  grew : JobsGrow l.fn.jobs.jobs l.jobs.jobs;
+  grew : JobsGrow (g.H.SharedHandler.gave l.handlers) l.fn.jobs.jobs l.jobs.jobs;
   firsts : l.jobs.firsts ≡ l.fn.jobs.firsts;
   room : room_of_jobs l.jobs.jobs ≤ room_of_jobs l.fn.jobs.jobs;
 }

@@ -1,6 +1,6 @@
-use Rattle.workers.specs.Wanted.{Wanted}
+use Rattle.workers.specs.Terms.{terms_of}
 use Rattle.workers.specs.Shifts.{GoOnJobs}
 use Rattle.workers.proofs.sweeps.look.Given as goal
 
 abbrev pub invariant-loop : goal.invariant-loop
-invariant-loop g l = GoOnJobs (Wanted g.L.IrqLine.seen g.L.IrqLine.may_want) l.board l.lines l.fn.jobs l.jobs
+invariant-loop g l = GoOnJobs (terms_of g.L.IrqLine.seen g.L.IrqLine.may_want (g.H.SharedHandler.gave l.handlers)) l.board l.lines l.fn.jobs l.jobs

@@ -4,7 +4,7 @@ use Rattle.irq_base.specs.declared.numbers.DriverNo.{DriverNo}
 use Rattle.workers.specs.Fit.{IsPlaceOf}
 use Rattle.workers.specs.Seen.{JobSeen}
 use Rattle.workers.specs.Attempts.{IsDriven}
-use Rattle.workers.specs.Wanted.{Wanted}
+use Rattle.workers.specs.Terms.{terms_of}
 use Rattle.workers.proofs.Driven.{next_driven, driver_done, driver_attempted}
 use Rattle.workers.proofs.Manning.{not_nowhere}
 use Rattle.workers.proofs.job.Job.attempt_driver.Given as given
@@ -50,7 +50,7 @@ unreachable-requires g c =
 pub returns-in_default : goal.returns-in_default
 returns-in_default g c =
     let there = (goal.at.returns-in_default g c).After-next_call-self-inside in
-    driver_done c.requires.driven c.next_call-self-inside.result (now_is g there) (Wanted g.L.IrqLine.seen g.L.IrqLine.may_want)
+    driver_done c.requires.driven c.next_call-self-inside.result (now_is g there) (terms_of g.L.IrqLine.seen g.L.IrqLine.may_want (g.H.SharedHandler.gave c.args.handlers.now))
     (driven g there) (sym c.call.ensures ∙ c.in_default.is)
 
 pub step_driver-requires-clause-driven : goal.step_driver-requires-clause-driven

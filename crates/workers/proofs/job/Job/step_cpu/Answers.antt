@@ -1,7 +1,7 @@
 use Rattle.std.proofs.Common.{ℕ, ◌+◌, Option, slice_get, ap, ◌∙◌}
 use Rattle.workers.specs.Seen.{JobSeen}
 use Rattle.workers.specs.Attempts.{flow_after}
-use Rattle.workers.specs.Wanted.{Wanted}
+use Rattle.workers.specs.Terms.{terms_of}
 use Rattle.workers.proofs.Flowing.{cpu_rests, cpu_moved}
 use Rattle.workers.proofs.job.Job.step_cpu.Goals as goal
 
@@ -9,7 +9,7 @@ pub returns-in-Moved : goal.returns-in-Moved
 returns-in-Moved g c =
     let s = c.in-Moved.ensures in
     let from = ap (λ (j : JobSeen). j.first) c.self.view_is ∙ ap (λ (j : JobSeen). j.first) s.is in
-    cpu_moved (Wanted g.L.IrqLine.seen g.L.IrqLine.may_want) c.args.lines.now c.args.place c.args.self.now
+    cpu_moved (terms_of g.L.IrqLine.seen g.L.IrqLine.may_want (g.H.SharedHandler.gave c.args.handlers.now)) c.args.lines.now c.args.place c.args.self.now
     c.try_post-attempt.new.self c.requires.posted c.requires.flow
     c.requires.its c.requires.free c.in-Moved.entry s c.flow_at-flow.result
     (record {
@@ -36,6 +36,6 @@ returns-in-Moved g c =
 
 pub returns-in_default : goal.returns-in_default
 returns-in_default g c =
-    cpu_rests (Wanted g.L.IrqLine.seen g.L.IrqLine.may_want) c.args.lines.now c.args.place c.args.self.now
+    cpu_rests (terms_of g.L.IrqLine.seen g.L.IrqLine.may_want (g.H.SharedHandler.gave c.args.handlers.now)) c.args.lines.now c.args.place c.args.self.now
     c.try_post-attempt.new.self c.requires.posted c.requires.flow
     c.requires.its c.requires.free c.try_post-attempt.result c.try_post-attempt.ensures c.in_default.not-Moved

@@ -1,13 +1,13 @@
 use Rattle.std.proofs.Common.{ap}
 use Rattle.workers.specs.Seen.{JobSeen}
-use Rattle.workers.specs.Wanted.{Wanted}
+use Rattle.workers.specs.Terms.{terms_of}
 use Rattle.workers.proofs.Shifting.{ended_at}
 use Rattle.workers.proofs.job.Job.work.Goals as goal
 
 pub returns : goal.returns
 returns g c =
     ended_at c.args.board.now c.args.lines.now c.make_attempts-self-inside.new.self c.make_attempts-self-inside.result
-    (Wanted g.L.IrqLine.seen g.L.IrqLine.may_want) c.args.self.now
+    (terms_of g.L.IrqLine.seen g.L.IrqLine.may_want (g.H.SharedHandler.gave c.args.handlers.now)) c.args.self.now
     (record {
       actor = c.self.inside.actor;
       first = c.self.inside.first;

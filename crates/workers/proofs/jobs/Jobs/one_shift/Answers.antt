@@ -1,7 +1,7 @@
 use Rattle.std.proofs.Common.{◌≡◌, List, ◌++◌, take, drop, length, subst, arith}
 use Rattle.workers.specs.Shifts.{SumsUp}
 use Rattle.workers.specs.Seen.{JobSeen}
-use Rattle.workers.specs.Wanted.{Wanted}
+use Rattle.workers.specs.Terms.{terms_of}
 use Rattle.workers.specs.declared.job.PartEnd.{PartEnd}
 use Rattle.workers.specs.declared.job.PartEnd.TheVariants as part_ends
 use Rattle.workers.proofs.Shifting.{OneShift, one_shift, shift_may, shift_fit, shift_ended, shift_room, shift_busy, shift_grew, shift_idle, whole_again}
@@ -13,14 +13,14 @@ pub shift-requires-clause-jobs : goal.shift-requires-clause-jobs
 shift-requires-clause-jobs g c = λ κs lives k d less. shift_may c.requires c.self.view_is c.as_mut_slice-jobs.ensures.value k d less
 
 -- what the shift leaves, once the slice is the list again
-shifted : (g : given.Over) (c : After-shift g) → OneShift (Wanted g.L.IrqLine.seen g.L.IrqLine.may_want) c.args.lines.now c.args.self.now (record {
+shifted : (g : given.Over) (c : After-shift g) → OneShift (terms_of g.L.IrqLine.seen g.L.IrqLine.may_want (g.H.SharedHandler.gave c.args.handlers.now)) c.args.lines.now c.args.self.now (record {
   board = c.self.inside.board.now;
   jobs = take c.self.inside.jobs.len (c.shift.new.jobs ++ drop (length c.shift.new.jobs) c.self.inside.jobs.items);
   firsts = c.self.inside.firsts.items;
 })
 shifted g c =
     let long : length c.shift.new.jobs ≡ length c.as_mut_slice-jobs.result.now = c.shift.auto.jobs in
-    one_shift c.requires c.self.view_is c.as_mut_slice-jobs.ensures.value (Wanted g.L.IrqLine.seen g.L.IrqLine.may_want) long c.shift.ensures
+    one_shift c.requires c.self.view_is c.as_mut_slice-jobs.ensures.value (terms_of g.L.IrqLine.seen g.L.IrqLine.may_want (g.H.SharedHandler.gave c.args.handlers.now)) long c.shift.ensures
     (whole_again c.self.inside.jobs.len c.shift.new.jobs c.self.inside.jobs.items (let e = c.as_mut_slice-jobs.ensures.len in omega (arith, long, e)))
 
 pub returns-clause-fit : goal.returns-clause-fit
