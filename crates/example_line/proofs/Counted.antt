@@ -23,19 +23,20 @@ use Rattle.example_line.specs.declared.counting.Counting.{Counting}
 
 -- ---- a step's runs are one more moment's
 
-module _ {H L : Type 0} (hears : H → Run → H → Type 0) (old new : LineSeen) (who : Actor) (first before after : H) where
+module _ {H : Type 0} (hears : H → Run → H → Type 0) (old new : LineSeen) (who : Actor) (first before after : H) where
   same_runs : new ≡ old → before ≡ after → Heard hears (runs_on old) first before → Heard hears (runs_on new) first after
   same_runs same still so_far =
       subst (λ (x : LineSeen). Heard hears (runs_on x) first after) (sym same) (subst (λ (h : H). Heard hears (runs_on old) first h) still so_far)
 
-  pub step_heard : (r : Result (Stepped L) StepRefused) → Answers old who r new → new.def ≡ old.def → Heard hears (runs_by old r) before after
+  pub step_heard : {L : Type 0} (r : Result (Stepped L) StepRefused) → Answers old who r new → new.def ≡ old.def → Heard hears (runs_by old r) before after
       → Heard hears (runs_on old) first before → Heard hears (runs_on new) first after
   step_heard (Ok (stepped.Added e)) adds def heard so_far =
       let past : reverse new.entries ≡ e ∷ reverse old.entries = ap (λ (h : List Entry). reverse h) adds.entries ∙ reverse-append old.entries (e ∷ []) in
-      let runs : runs_on new ≡ runs_by old (Ok (stepped.Added e)) ++ runs_on old
+      let own = one_run (run_ended old.def (reverse old.entries) e) in
+      let runs : runs_on new ≡ own ++ runs_on old
       = ap (λ (d : LineDef). runs_in d (reverse new.entries)) def ∙ ap (λ (g : List Entry). runs_in old.def g) past in
       subst (λ (rs : List Run). Heard hears rs first after) (sym runs)
-      (heard_more hears (runs_by old (Ok (stepped.Added e))) (runs_on old) first before after so_far heard)
+      (heard_more hears own (runs_on old) first before after so_far heard)
   step_heard (Ok stepped.NotYet) same def heard so_far = same_runs same.1 heard so_far
   step_heard (Ok (stepped.Lacks lack)) wants def heard so_far =
       let runs : runs_on new ≡ runs_on old

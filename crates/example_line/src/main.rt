@@ -17,7 +17,8 @@ use std::io;
 use stepping::count_ten_steps;
 
 fn main(rt: HostRuntime) -> io::Result<()> {
-    let Ok((rows, calls)) = play(rt.alloc()) else {
+    let mut rows = [""; 10];
+    let Ok(calls) = play(rt.alloc(), &mut rows) else {
         return println!(rt; "out of memory");
     };
     for row in rows {
@@ -26,13 +27,13 @@ fn main(rt: HostRuntime) -> io::Result<()> {
     println!(rt; "calls of the handler: {calls}")
 }
 
-/// Makes the line and has it step; the rows say what each step came to. The only error is
-/// `NoMemory`.
-fn play(alloc: Global) -> Result<([&'static str; 10], u64), NoMemory> {
+/// Makes the line and has it step; the rows say what each step came to. Answers how often the
+/// handler was called. The only error is `NoMemory`.
+fn play(alloc: Global, rows: &mut [&'static str; 10]) -> Result<u64, NoMemory> {
     let def = one_line(alloc)?;
     if !is_valid(&def) {
-        return Ok(([""; 10], 0));
+        return Ok(0);
     }
     let mut line = MakesCellLine.make(alloc, 1, &def)?;
-    Ok(count_ten_steps(&mut line))
+    Ok(count_ten_steps(&mut line, rows))
 }

@@ -44,14 +44,14 @@ fn ten_steps<L: IrqLine, H: Handler>(line: &mut L, handlers: &mut H) -> [&'stati
     rows
 }
 
-/// Makes the ten steps of a new line with a handler that counts its calls. The answer is what each
-/// step came to, and how often the handler was called: as often as a run ended on the line.
-pub fn count_ten_steps<L: IrqLine>(line: &mut L) -> ([&'static str; 10], u64)
+/// Makes the ten steps of a new line with a handler that counts its calls, and puts what each came
+/// to into the rows. Answers how often the handler was called: as often as a run ended on the line.
+pub fn count_ten_steps<L: IrqLine>(line: &mut L, rows: &mut [&'static str; 10]) -> u64
     requires { (L.seen line.old).entries ≡ [] }
-    ensures { result.1 ≡ length (runs_on (L.seen line.new)) }
+    ensures { result ≡ length (runs_on (L.seen line.new)) }
 {
     let mut counting = Counting { calls: 0 };
-    let rows = ten_steps(line, &mut counting);
+    *rows = ten_steps(line, &mut counting);
     line.is_sound();
-    (rows, counting.calls)
+    counting.calls
 }

@@ -13,7 +13,7 @@ use Rattle.board_core.specs.declared.turns.Turn.{Turn}
 use Rattle.board_core.specs.declared.turns.Turn.TheVariants as turns
 use Rattle.explore_play.specs.Made.{IsAlone}
 use Rattle.explore_play.proofs.Alone.{turns_next}
-use Rattle.explore_play.proofs.Making.{made_here, made_elsewhere, one_more}
+use Rattle.explore_play.proofs.Making.{heard_after, heard_now, made_here, made_elsewhere, one_more}
 use Rattle.explore_play.proofs.playing.play_to.Goals as goal
 
 pub loop-made-preserved-then-eq : goal.loop-made-preserved-then-eq
@@ -35,7 +35,9 @@ loop-made-preserved-then-eq g c =
           c.in_ok-push-in_default-Moved.ensures.items same
           (take (c.loop-made.made + 1) c.args.wanted.now)
           (one_more c.args.wanted.now c.loop-made.made c.in_default-Moved.entry (c.is_at.ensures.0 c.if-not-is_at.false));
-      heard = (heard_turn (goal.at.loop-made-preserved-then-eq g c).After-turn_of).runs;
+      heard = (heard_after g.H.Handler.hears c.args.handlers.now c.loop-made.handlers c.loop-made.system c.loop-made.picks.items c.args.line
+          (take c.loop-made.made c.args.wanted.now) c.loop-made.invariant.made c.loop-made.invariant.heard c.turn_of.new.handlers c.turn_of.new.system
+          c.turn_of.result.0 c.turn_of.result.1 c.turn_of.ensures.turns c.turn_of.ensures.heard).runs;
       few = omega (arith, count, c.len.ensures, c.if-len-ge-PICKS.false);
       within = omega (arith, c.loop-made-test.true);
       alone = λ alone. omega (arith, count, c.loop-made.invariant.alone alone);
@@ -58,6 +60,9 @@ loop-made-preserved g c =
       made = made_elsewhere old new c.loop-made.picks.items mover c.args.line (take c.loop-made.made c.args.wanted.now)
           c.in_default-Moved.of c.in_default-Moved.entry c.loop-made.invariant.made moves c.push.new.self.items
           c.in_ok-push-in_default-Moved.ensures.items other;
+      heard = (heard_after g.H.Handler.hears c.args.handlers.now c.loop-made.handlers c.loop-made.system c.loop-made.picks.items c.args.line
+          (take c.loop-made.made c.args.wanted.now) c.loop-made.invariant.made c.loop-made.invariant.heard c.turn_of.new.handlers c.turn_of.new.system
+          c.turn_of.result.0 c.turn_of.result.1 c.turn_of.ensures.turns c.turn_of.ensures.heard).runs;
       few = omega (arith, count, c.len.ensures, c.if-len-ge-PICKS.false);
       within = c.loop-made.invariant.within;
       alone = λ alone. absurd (
@@ -95,3 +100,43 @@ returns-in_default-NotYet-clause-alone g c = λ alone.
     c.actor-actor.ensures c.turn_of.ensures.first turns.NotYet new
     (subst (λ (x : Turn). Turns old mover x new) c.in_default-NotYet.is-1 c.turn_of.ensures.turns) in
     absurd next
+
+pub returns-then-len-ge-PICKS-clause-heard : goal.returns-then-len-ge-PICKS-clause-heard
+returns-then-len-ge-PICKS-clause-heard g c =
+    heard_now g.H.Handler.hears c.args.handlers.now c.loop-made.handlers c.loop-made.system c.loop-made.picks.items c.args.line
+    (take c.loop-made.made c.args.wanted.now) c.loop-made.invariant.made c.loop-made.invariant.heard
+
+pub returns-clause-heard : goal.returns-clause-heard
+returns-clause-heard g c =
+    heard_now g.H.Handler.hears c.args.handlers.now c.loop-made.handlers c.loop-made.system c.loop-made.picks.items c.args.line
+    (take c.loop-made.made c.args.wanted.now) c.loop-made.invariant.made c.loop-made.invariant.heard
+
+pub returns-then-not-is_at-clause-heard : goal.returns-then-not-is_at-clause-heard
+returns-then-not-is_at-clause-heard g c =
+    heard_after g.H.Handler.hears c.args.handlers.now c.loop-made.handlers c.loop-made.system c.loop-made.picks.items c.args.line
+    (take c.loop-made.made c.args.wanted.now) c.loop-made.invariant.made c.loop-made.invariant.heard c.turn_of.new.handlers c.turn_of.new.system
+    c.turn_of.result.0 c.turn_of.result.1 c.turn_of.ensures.turns c.turn_of.ensures.heard
+
+pub returns-in_default-NotYet-clause-heard : goal.returns-in_default-NotYet-clause-heard
+returns-in_default-NotYet-clause-heard g c =
+    heard_after g.H.Handler.hears c.args.handlers.now c.loop-made.handlers c.loop-made.system c.loop-made.picks.items c.args.line
+    (take c.loop-made.made c.args.wanted.now) c.loop-made.invariant.made c.loop-made.invariant.heard c.turn_of.new.handlers c.turn_of.new.system
+    c.turn_of.result.0 c.turn_of.result.1 c.turn_of.ensures.turns c.turn_of.ensures.heard
+
+pub returns-in_default-Full-clause-heard : goal.returns-in_default-Full-clause-heard
+returns-in_default-Full-clause-heard g c =
+    heard_after g.H.Handler.hears c.args.handlers.now c.loop-made.handlers c.loop-made.system c.loop-made.picks.items c.args.line
+    (take c.loop-made.made c.args.wanted.now) c.loop-made.invariant.made c.loop-made.invariant.heard c.turn_of.new.handlers c.turn_of.new.system
+    c.turn_of.result.0 c.turn_of.result.1 c.turn_of.ensures.turns c.turn_of.ensures.heard
+
+pub returns-in_default-NoMemory-clause-heard : goal.returns-in_default-NoMemory-clause-heard
+returns-in_default-NoMemory-clause-heard g c =
+    heard_after g.H.Handler.hears c.args.handlers.now c.loop-made.handlers c.loop-made.system c.loop-made.picks.items c.args.line
+    (take c.loop-made.made c.args.wanted.now) c.loop-made.invariant.made c.loop-made.invariant.heard c.turn_of.new.handlers c.turn_of.new.system
+    c.turn_of.result.0 c.turn_of.result.1 c.turn_of.ensures.turns c.turn_of.ensures.heard
+
+pub returns-in_err-push-in_default-Moved-clause-heard : goal.returns-in_err-push-in_default-Moved-clause-heard
+returns-in_err-push-in_default-Moved-clause-heard g c =
+    heard_after g.H.Handler.hears c.args.handlers.now c.loop-made.handlers c.loop-made.system c.loop-made.picks.items c.args.line
+    (take c.loop-made.made c.args.wanted.now) c.loop-made.invariant.made c.loop-made.invariant.heard c.turn_of.new.handlers c.turn_of.new.system
+    c.turn_of.result.0 c.turn_of.result.1 c.turn_of.ensures.turns c.turn_of.ensures.heard
