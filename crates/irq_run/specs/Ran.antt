@@ -64,7 +64,8 @@ RunsBoard gave b summary reports before now ends.Done =
 RunsBoard gave b summary reports before now ends.WriteFault =
     HasRun gave b (λ entries. ReportsRun b summary entries reports before now ends.WriteFault)
 RunsBoard gave b summary reports before now (ends.LogFull line len) =
-    HasRun gave b (λ entries. ReportsRun b summary entries reports before now (ends.LogFull line len))
+    HasRun gave b (λ entries.
+    ReportsRun b summary entries reports before now (ends.LogFull line len))
 
 -- A system of the board's lines after a run, and how settling it ended.
 pub record IsRun (b : BoardSeen) (s : SystemSeen) (end : PlayEnd) : Type 0 where

@@ -41,8 +41,8 @@ pub struct RanBoard {
 /// the board's actors step in threads until none can, and prints each line's entries, line by line,
 /// or with `summary` a summary of them. Up to 64 actors have a thread each, if it can be made; more
 /// of them share threads. The board's picks are not used.
-/// Handlers are called as they are due, from all threads, and the gate is called before each attempt of a worker. All
-/// memory is taken before the first row is printed.
+/// Handlers are called as they are due, by all threads, and the gate is called before each attempt
+/// of a worker. All memory is taken before the first row is printed.
 pub fn run_and_print<
     R: Threads + Wait + Sync,
     O: Sink,

@@ -86,6 +86,9 @@ some_of : {A : Type 0} (o : Option A) (P : A → Type 0) → IsSomeAnd o P → (
 some_of None P is = absurd is
 some_of (Some x) P is = (x, refl, is)
 
+one_there : {A : Type 0} (xs : List A) (i : ℕ) (x y : A) → slice_get xs i ≡ Some x → slice_get xs i ≡ Some y → x ≡ y
+one_there xs i x y a b = the_same x y (sym a ∙ b)
+
 -- passes that have seen nothing have ended no run, so that what they have seen since is given
 module _ (gave : Run → Answer → Type 0) (first s : JobsSeen) (new : AreNew first) (grew : JobsGrow gave first.jobs s.jobs) where
   pub jobs_given : AreJobsGiven gave s
@@ -94,12 +97,12 @@ module _ (gave : Run → Answer → Type 0) (first s : JobsSeen) (new : AreNew f
       let a = grew.as_many in
       let k = there first.jobs i (omega (arith, w, a)) in
       let n = some_of (slice_get s.jobs i) (λ x. JobGrows gave k.0 x) (grew.each i k.0 k.1) in
-      let grown : JobGrows gave k.0 j = subst (λ (x : JobSeen). JobGrows gave k.0 x) (the_same n.0 j (sym n.1 ∙ at_job)) n.2 in
+      let grown : JobGrows gave k.0 j = subst (λ (x : JobSeen). JobGrows gave k.0 x) (one_there s.jobs i n.0 j n.1 at_job) n.2 in
       let v = within j.posts place t at_post in
       let b = grown.as_many in
       let p = there k.0.posts place (omega (arith, v, b)) in
       let m = some_of (slice_get j.posts place) (λ x. Grows gave p.0 x) (grown.posts place p.0 p.1) in
-      let more : Grows gave p.0 t = subst (λ (x : PostSeen). Grows gave p.0 x) (the_same m.0 t (sym m.1 ∙ at_post)) m.2 in
+      let more : Grows gave p.0 t = subst (λ (x : PostSeen). Grows gave p.0 x) (one_there j.posts place m.0 t m.1 at_post) m.2 in
       more.given (λ who is. subst (λ (h : List Entry). AreOwnGiven gave p.0.pass.def who (reverse h))
       (sym ((new.jobs i k.0 k.1).posts place p.0 p.1).0) tt)
 
@@ -116,7 +119,7 @@ module _ (gave : Run → Answer → Type 0) (locks : List LockSeen) (s : JobsSee
       by_pass h =
           let y = some_of (slice_get lines (h.job.first + h.place)) (λ x. HasAllOf x.def x.entries h.job.actor h.post.pass)
           (g.each h.number h.place h.job h.post h.at_job h.at_post) in
-          let same : y.0 ≡ x = the_same y.0 x (sym y.1 ∙ (ap (λ (n : ℕ). slice_get lines n) (sym h.is) ∙ at)) in
+          let same : y.0 ≡ x = one_there lines (h.job.first + h.place) y.0 x y.1 (ap (λ (n : ℕ). slice_get lines n) (sym h.is) ∙ at) in
           let has : HasAllOf x.def x.entries who h.post.pass
           = subst (λ (a : Actor). HasAllOf x.def x.entries a h.post.pass) h.actor
           (subst (λ (z : LineSeen). HasAllOf z.def z.entries h.job.actor h.post.pass) same y.2) in

@@ -48,7 +48,8 @@ module _ (terms : Terms) where
   CameTo def who old (Ok None) new = IsIdle def who new × (new.mine ≡ old.mine)
   CameTo def who old (Err (refusals.Full number len)) new =
       IsFull def who new × (number ≡ def.line) × (len ≡ def.log) × (new.mine ≡ old.mine)
-  CameTo def who old (Err refusals.NoMemory) new = terms.wanted def new.seen who × (new.mine ≡ old.mine)
+  CameTo def who old (Err refusals.NoMemory) new =
+      terms.wanted def new.seen who × (new.mine ≡ old.mine)
 
   -- what is seen afterwards begins with what was seen, and is legal; the pass's own entries are its
   -- actor's; and the answer is right

@@ -36,7 +36,8 @@ impl<L: IrqLine> Job<L> {
     ) -> Attempt
         requires posted { ArePosted lines.now self.old }
         requires place { place < length self.old.posts }
-        ensures { StepsPost (terms_of L.seen L.may_want (H.gave handlers.now)) lines.now place result self.old self.new }
+        ensures { StepsPost (terms_of L.seen L.may_want (H.gave handlers.now))
+            lines.now place result self.old self.new }
     {
         let all = lines.lines.as_slice();
         let k = self.first + place;
@@ -60,7 +61,8 @@ impl<L: IrqLine> Job<L> {
         requires flow { HasOneFlow self.old }
         requires its { HasItsFlow self.old }
         requires free { (i : ℕ) → self.old.flow ≡ Some i → i ≡ place }
-        ensures { StepsCpu (terms_of L.seen L.may_want (H.gave handlers.now)) lines.now place result self.old self.new }
+        ensures { StepsCpu (terms_of L.seen L.may_want (H.gave handlers.now))
+            lines.now place result self.old self.new }
     {
         let attempt = self.try_post(rt, lines, place, handlers);
         if let Attempt::Moved(entry) = attempt {
@@ -82,7 +84,8 @@ impl<L: IrqLine> Job<L> {
         requires posted { ArePosted lines.now self.old }
         requires flow { HasOneFlow self.old }
         requires its { HasItsFlow self.old }
-        ensures { AttemptsCpu (terms_of L.seen L.may_want (H.gave handlers.now)) lines.now result self.old self.new }
+        ensures { AttemptsCpu (terms_of L.seen L.may_want (H.gave handlers.now))
+            lines.now result self.old self.new }
     {
         if let Some(place) = self.flow {
             return self.step_cpu(rt, lines, place, handlers);
@@ -113,7 +116,8 @@ impl<L: IrqLine> Job<L> {
         requires flow { HasOneFlow self.old }
         requires its { HasItsFlow self.old }
         requires none { self.old.flow ≡ None }
-        ensures { TriesLast (terms_of L.seen L.may_want (H.gave handlers.now)) lines.now result self.old self.new }
+        ensures { TriesLast (terms_of L.seen L.may_want (H.gave handlers.now))
+            lines.now result self.old self.new }
     {
         let last = self.last;
         if last >= self.posts.len() {

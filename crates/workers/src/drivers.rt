@@ -28,8 +28,8 @@ impl<L: IrqLine> Job<L> {
     ) -> Attempt
         requires boards { AreBoards board.now lines.now }
         requires driven { IsDriven board.now lines.now driver self.old }
-        ensures { AttemptsDriver (terms_of L.seen L.may_want (H.gave handlers.now)) board.now lines.now driver result
-            self.old self.new }
+        ensures { AttemptsDriver (terms_of L.seen L.may_want (H.gave handlers.now))
+            board.now lines.now driver result self.old self.new }
     {
         self.at = next_call(board.calls(), lines, driver, self.at);
         let Some(call) = board.call(self.at) else {
@@ -55,8 +55,8 @@ impl<L: IrqLine> Job<L> {
         requires driven { IsDriven board.now lines.now call.driver self.old }
         requires call { slice_get board.now.calls self.old.at ≡ Some call }
         requires place { IsPlaceOf lines.now call.line (Some place) }
-        ensures { AttemptsDriver (terms_of L.seen L.may_want (H.gave handlers.now)) board.now lines.now call.driver result
-            self.old self.new }
+        ensures { AttemptsDriver (terms_of L.seen L.may_want (H.gave handlers.now))
+            board.now lines.now call.driver result self.old self.new }
     {
         board.is_board();
         let attempt = self.try_post(rt, lines, place, handlers);

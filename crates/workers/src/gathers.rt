@@ -6,8 +6,8 @@ ghost use Rattle.board_def.specs.Seen.{BoardSeen};
 ghost use Rattle.board_play.specs.Kept.{AreKept};
 ghost use Rattle.line_lock.specs.Passes.{LockSeen, PassSeen};
 ghost use Rattle.workers.specs.Fit.{ArePosted, Fit};
-ghost use Rattle.workers.specs.Gathers.{AreBack, AreFinal, AreGathered, AreHome, AreKnown, AreSound};
-ghost use Rattle.workers.specs.Gathers.{Gathers, IsHome, IsMet, board_lines, seen_lines};
+ghost use Rattle.workers.specs.Gathers.{AreBack, AreFinal, AreGathered, AreHome, AreKnown};
+ghost use Rattle.workers.specs.Gathers.{AreSound, Gathers, IsHome, IsMet, board_lines, seen_lines};
 ghost use Rattle.workers.specs.Seen.{JobSeen};
 
 use crate::job::Job;
@@ -20,9 +20,9 @@ use std::alloc::Global;
 
 /// Takes all passes back, and the lines out of their locks. They come in the same order, with the
 /// same definitions. Each history is the longest that a pass of the line has seen, and begins with
-/// what each other pass has seen; it has entries of the jobs' actors alone. It is legal, and the histories have the drivers' calls in the
-/// order of their scripts, each driver's up to its job's place. The only error is `NoMemory`; then
-/// the lines are gone.
+/// what each other pass has seen; its entries are of actors whose jobs have a pass of the line. It
+/// is legal, and the histories have the drivers' calls in the order of their scripts, each driver's
+/// up to its job's place. The only error is `NoMemory`; then the lines are gone.
 pub fn gather<L: IrqLine>(
     alloc: Global,
     lines: SharedLines<L>,

@@ -48,8 +48,8 @@ impl<L: IrqLine> Post<L> {
         ensures actor { self.new.pass.knows.actor ≡ self.old.pass.knows.actor }
         ensures rests { self.new.rests ≡ rests_after result }
         ensures tries { (who : Actor) → self.old.pass.knows.actor ≡ Some who
-            → Tries (terms_of L.seen L.may_want (H.gave handlers.now)) line.now.def who self.old.pass.knows result
-            self.new.pass.knows }
+            → Tries (terms_of L.seen L.may_want (H.gave handlers.now))
+            line.now.def who self.old.pass.knows result self.new.pass.knows }
         ensures flows { self.old.rests ≡ false → FlowMoves line.now.def self.old.pass.knows result }
     {
         if self.is_still(line) {
@@ -70,7 +70,7 @@ impl<L: IrqLine> Post<L> {
 }
 
 /// Adds the entry that is due of the pass's actor, if there is one. If it ends a run of a handler,
-/// that handler is called, with the line let go.
+/// that handler is called first, with the line let go.
 fn step_heard<L: IrqLine, R: Wait, H: SharedHandler>(
     rt: &R,
     line: &SharedLine<L>,
@@ -84,7 +84,8 @@ fn step_heard<L: IrqLine, R: Wait, H: SharedHandler>(
     ensures idle { pass.new.turn ≡ false }
     ensures actor { pass.new.knows.actor ≡ pass.old.knows.actor }
     ensures tries { (who : Actor) → pass.old.knows.actor ≡ Some who
-        → Tries (terms_of L.seen L.may_want (H.gave handlers.now)) line.now.def who pass.old.knows result pass.new.knows }
+        → Tries (terms_of L.seen L.may_want (H.gave handlers.now))
+        line.now.def who pass.old.knows result pass.new.knows }
     ensures flows { FlowMoves line.now.def pass.old.knows result }
 {
     let mut before = Before { said: None };

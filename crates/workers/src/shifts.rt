@@ -132,7 +132,8 @@ fn shift<
 )
     requires boards { AreBoards board.now lines.now }
     requires jobs { All (IsJob board.now lines.now) jobs.old }
-    ensures { KeepsJobs (terms_of L.seen L.may_want (H.gave handlers.now)) board.now lines.now jobs.old jobs.new }
+    ensures { KeepsJobs (terms_of L.seen L.may_want (H.gave handlers.now))
+        board.now lines.now jobs.old jobs.new }
 {
     thread::for_each_chunk_mut(
         rt,

@@ -52,8 +52,8 @@ impl<L: IrqLine> Job<L> {
     ) -> Attempt
         requires boards { AreBoards board.now lines.now }
         requires job { IsJob board.now lines.now self.old }
-        ensures { AttemptsJob (terms_of L.seen L.may_want (H.gave handlers.now)) board.now lines.now result self.old
-            self.new }
+        ensures { AttemptsJob (terms_of L.seen L.may_want (H.gave handlers.now))
+            board.now lines.now result self.old self.new }
     {
         match self.actor {
             Actor::Thread(..) => self.try_post(rt, lines, 0, handlers),
@@ -73,8 +73,8 @@ impl<L: IrqLine> Job<L> {
     ) -> Attempt
         requires boards { AreBoards board.now lines.now }
         requires job { IsJob board.now lines.now self.old }
-        ensures { AttemptsJob (terms_of L.seen L.may_want (H.gave handlers.now)) board.now lines.now result self.old
-            self.new }
+        ensures { AttemptsJob (terms_of L.seen L.may_want (H.gave handlers.now))
+            board.now lines.now result self.old self.new }
     {
         self.attempts = self.attempts.saturating_add(1);
         gate.pass(self.actor, self.attempts);
@@ -94,8 +94,10 @@ impl<L: IrqLine> Job<L> {
         requires boards { AreBoards board.now lines.now }
         requires job { IsJob board.now lines.now self.old }
         requires some { 0 < most }
-        ensures works { WorksOn (terms_of L.seen L.may_want (H.gave handlers.now)) board.now lines.now self.old self.new }
-        ensures end { EndIsSo (terms_of L.seen L.may_want (H.gave handlers.now)) board.now self.new result }
+        ensures works { WorksOn (terms_of L.seen L.may_want (H.gave handlers.now))
+            board.now lines.now self.old self.new }
+        ensures end { EndIsSo (terms_of L.seen L.may_want (H.gave handlers.now))
+            board.now self.new result }
         ensures room { RoomAfterPart result self.old self.new }
     {
         for steps in 0..most {
@@ -123,7 +125,8 @@ impl<L: IrqLine> Job<L> {
         requires boards { AreBoards board.now lines.now }
         requires job { IsJob board.now lines.now self.old }
         requires some { 0 < most }
-        ensures { WorksJob (terms_of L.seen L.may_want (H.gave handlers.now)) board.now lines.now self.old self.new }
+        ensures { WorksJob (terms_of L.seen L.may_want (H.gave handlers.now))
+            board.now lines.now self.old self.new }
     {
         self.end = self.make_attempts(rt, board, lines, most, gate, handlers);
     }
@@ -143,7 +146,8 @@ impl<L: IrqLine> Job<L> {
         requires boards { AreBoards board.now lines.now }
         requires job { IsJob board.now lines.now self.old }
         requires some { 0 < most }
-        ensures { GoesOn (terms_of L.seen L.may_want (H.gave handlers.now)) board.now lines.now self.old self.new }
+        ensures { GoesOn (terms_of L.seen L.may_want (H.gave handlers.now))
+            board.now lines.now self.old self.new }
     {
         let before = self.end;
         if is_refused(before) {
@@ -189,7 +193,8 @@ pub(crate) fn work_on<R: Wait, L: IrqLine, G: Gate, H: SharedHandler>(
 )
     requires boards { AreBoards board.now lines.now }
     requires jobs { All (IsJob board.now lines.now) jobs.old }
-    ensures { KeepsJobs (terms_of L.seen L.may_want (H.gave handlers.now)) board.now lines.now jobs.old jobs.new }
+    ensures { KeepsJobs (terms_of L.seen L.may_want (H.gave handlers.now))
+        board.now lines.now jobs.old jobs.new }
 {
     let most = (board.log() / SHARE).max(LEAST).min(MOST);
     let at_once = if jobs.len() > 1 {
@@ -219,7 +224,8 @@ fn look<R: Wait, L: IrqLine, G: Gate, H: SharedHandler>(
     requires boards { AreBoards board.now lines.now }
     requires jobs { All (IsJob board.now lines.now) jobs.old }
     requires some { 0 < at_once }
-    ensures { GoOnJobs (terms_of L.seen L.may_want (H.gave handlers.now)) board.now lines.now jobs.old jobs.new }
+    ensures { GoOnJobs (terms_of L.seen L.may_want (H.gave handlers.now))
+        board.now lines.now jobs.old jobs.new }
 {
     let looks = if jobs.len() > 1 {
         LOOKS_OVER_SEVERAL
@@ -249,7 +255,8 @@ fn sweep_first<R: Wait, L: IrqLine, G: Gate, H: SharedHandler>(
     requires boards { AreBoards board.now lines.now }
     requires jobs { All (IsJob board.now lines.now) jobs.old }
     requires some { 0 < at_once }
-    ensures { KeepsJobs (terms_of L.seen L.may_want (H.gave handlers.now)) board.now lines.now jobs.old jobs.new }
+    ensures { KeepsJobs (terms_of L.seen L.may_want (H.gave handlers.now))
+        board.now lines.now jobs.old jobs.new }
 {
     for i in 0..jobs.len() {
         jobs[i].work(rt, board, lines, at_once, gate, handlers);
@@ -269,7 +276,8 @@ fn sweep<R: Wait, L: IrqLine, G: Gate, H: SharedHandler>(
     requires boards { AreBoards board.now lines.now }
     requires jobs { All (IsJob board.now lines.now) jobs.old }
     requires some { 0 < at_once }
-    ensures { GoOnJobs (terms_of L.seen L.may_want (H.gave handlers.now)) board.now lines.now jobs.old jobs.new }
+    ensures { GoOnJobs (terms_of L.seen L.may_want (H.gave handlers.now))
+        board.now lines.now jobs.old jobs.new }
 {
     let mut all = PartEnd::Idle;
     for i in 0..jobs.len() {
