@@ -11,6 +11,7 @@ use Rattle.board_core.specs.Wanted.{HasSpare}
 use Rattle.board_core.specs.declared.turns.PlayEnd.{PlayEnd}
 use Rattle.board_core.specs.declared.turns.PlayEnd.TheVariants as plays
 use Rattle.board_def.specs.Rules.{IsBoard}
+use Rattle.board_def.specs.Seen.{BoardSeen}
 use Rattle.board_play.specs.Kept.{AreKept}
 use Rattle.board_play.specs.Lines.{BoardLine, Move, lines_of, part}
 use Rattle.board_play.specs.Order.{actors_of}

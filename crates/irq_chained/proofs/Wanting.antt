@@ -23,7 +23,7 @@ use Rattle.board_core.specs.declared.turns.Turn.{Turn}
 use Rattle.board_core.specs.declared.turns.Turn.TheVariants as moves
 use Rattle.irq_chained.specs.Chain.{chain_next, child, children, cpu_0, first_left, lines_in, of_cpu_0, in_chain, open_status, or_step}
 use Rattle.irq_chained.specs.Seen.{DemuxSeen, IsDemux, seen_of}
-use Rattle.irq_chained.specs.Turned.{IsOther, IsUnderway, TurnsBy, lowest_driver_of, lowest_of, next_of, turn_of}
+use Rattle.irq_chained.specs.Turned.{IsOther, IsUnderway, lowest_driver_of, lowest_of, next_of, turn_of}
 use Rattle.irq_chained.specs.Wanted.{DueWants, Wants, WantsDue, WantsFor, WantsNext, WantsStep, child_for, line_in_chain}
 use Rattle.irq_chained.specs.Walk.{mark_of}
 use Rattle.irq_chained.specs.declared.chain.ChainEntry.{ChainEntry}
@@ -36,7 +36,7 @@ use Rattle.irq_chained.specs.declared.marks.Walk.{Walk}
 use Rattle.irq_chained.proofs.Chained.{take_is_due}
 use Rattle.irq_chained.proofs.Further.{some_choice}
 use Rattle.irq_chained.proofs.NoTakes.{flow_line_on, in_flow_due}
-use Rattle.irq_chained.proofs.Playing.{Turned, a_turn, answered, at_pick, choice_of, lowest_next, with_step}
+use Rattle.irq_chained.proofs.Playing.{Turned, answered, at_pick, choice_of, lowest_next, with_step}
 use Rattle.irq_chained.proofs.Stepping.{lines_are, steps_of}
 use Rattle.irq_chained.proofs.Turning.{some_of}
 

@@ -1,30 +1,27 @@
 -- For which step of a sleep memory was refused.
-use Rattle.std.proofs.Common.{◌≡◌, ℕ, ◌+◌, ◌<◌, Bool, false, IsSome, is_some, Option, Some, None, Result, Ok, Err, List, [], ◌∷◌, ◌++◌, length}
-use Rattle.std.proofs.Common.{drop, get_or, reverse, refl, sym, ap, ◌∙◌, subst, arith}
+use Rattle.std.proofs.Common.{◌≡◌, ℕ, ◌<◌, Bool, false, IsSome, Option, Some, None, Result, Ok, Err, List, ◌++◌, length}
+use Rattle.std.proofs.Common.{drop, get_or, reverse, refl, sym, ap, ◌∙◌, subst}
 use Rattle.std.proofs.lemmas.List.{length-reverse}
 use Rattle.irq_base.specs.declared.entries.Actor.{Actor}
-use Rattle.irq_base.specs.declared.entries.Actor.TheVariants as actors
 use Rattle.irq_base.specs.declared.entries.Entry.{Entry}
-use Rattle.irq_base.specs.declared.numbers.DriverNo.{DriverNo}
-use Rattle.board_driver.specs.Longer.{last_driver}
 use Rattle.board_play.specs.Lines.{BoardLine, Move, lines_of}
 use Rattle.board_play.specs.Order.{actors_of, cpus_of, due_move, line_for, threads_of}
 use Rattle.board_play.specs.Play.{first_move, or_move}
 use Rattle.board_core.specs.Firsts.{IsFirstOf}
 use Rattle.board_core.specs.Seen.{SystemSeen, board_lines}
-use Rattle.board_core.specs.Turns.{CanMove, MayMove, MayWant, Turns, TurnsBy, lowest_move, move_of}
+use Rattle.board_core.specs.Turns.{CanMove, MayWant, Turns, TurnsBy, lowest_move, move_of}
 use Rattle.board_core.specs.Wanted.{HasSpare, LowestWants, WantedMemory, Wants, WantsLowest}
 use Rattle.board_core.specs.declared.turns.PlayEnd.{PlayEnd}
 use Rattle.board_core.specs.declared.turns.PlayEnd.TheVariants as ends
 use Rattle.board_core.specs.declared.turns.Turn.{Turn}
 use Rattle.board_core.specs.declared.turns.Turn.TheVariants as turns
 use Rattle.board_core.proofs.Wanting.{may_move}
-use Rattle.irq_pm.specs.Phases.{Phase, Picking, ask_move, first_asking, sleep_next}
+use Rattle.irq_pm.specs.Phases.{Phase, Picking, sleep_next}
 use Rattle.irq_pm.specs.SleepLog.{moves_of}
 use Rattle.irq_pm.proofs.Order.{step_of}
 use Rattle.irq_sleeper.specs.Seen.{SleeperSeen, log_of}
-use Rattle.irq_sleeper.specs.Steps.{GoesTo, Heeds, IsUnderway, StepsBy, ask_of, inner_of, last_of}
-use Rattle.irq_sleeper.specs.Wanted.{PlayWants, StepWants, WantsDue, WantsNext}
+use Rattle.irq_sleeper.specs.Steps.{GoesTo, Heeds, IsUnderway, StepsBy, inner_of}
+use Rattle.irq_sleeper.specs.Wanted.{PlayWants, StepWants, WantsDue}
 use Rattle.irq_sleeper.proofs.Phased.{SleepStep, picked_step}
 use Rattle.irq_sleeper.proofs.Underway.{inner_some, turned}
 
@@ -46,28 +43,28 @@ module _ (may_want : Option Entry → Type 0) where
       → StepWants may_want old.system (move_of old.system a) r
   step_wants old system new a turn r by wants h =
       heeded_wants (turned old system) old.system (move_of old.system a) turn r new h (λ same. (
-        let t : MayWant old.system a × (system ≡ old.system) = subst (λ (x : Turn). Turns old.system a x system) same by in
-        record {
-          actor = a;
-          can = t.0.actor;
-          its = λ m due. due;
-          step = subst (λ (x : Turn). Wants may_want old.system a x) same wants;
-        }))
+      let t : MayWant old.system a × (system ≡ old.system) = subst (λ (x : Turn). Turns old.system a x system) same by in
+      record {
+        actor = a;
+        can = t.0.actor;
+        its = λ m due. due;
+        step = subst (λ (x : Turn). Wants may_want old.system a x) same wants;
+      }))
 
   pub lowest_wants : (old : SleeperSeen) (system : SystemSeen) (new : SleeperSeen) (turn : Turn) (r : Result Bool PlayEnd)
       → TurnsBy old.system (lowest_move old.system) turn system → LowestWants may_want old.system turn → Heeds (turned old system) turn r new
       → StepWants may_want old.system (lowest_move old.system) r
   lowest_wants old system new turn r by wants h =
       heeded_wants (turned old system) old.system (lowest_move old.system) turn r new h (λ same. (
-        let t : IsSome (lowest_move old.system) × (system ≡ old.system)
-        = subst (λ (x : Turn). TurnsBy old.system (lowest_move old.system) x system) same by in
-        let low : WantsLowest may_want old.system = subst (λ (x : Turn). LowestWants may_want old.system x) same wants in
-        record {
-          actor = low.actor;
-          can = may_move may_want old.system low.actor (subst (λ (o : Option Move). IsSome o) low.lowest t.0);
-          its = λ m due. low.lowest ∙ due;
-          step = low.step;
-        }))
+      let t : IsSome (lowest_move old.system) × (system ≡ old.system)
+      = subst (λ (x : Turn). TurnsBy old.system (lowest_move old.system) x system) same by in
+      let low : WantsLowest may_want old.system = subst (λ (x : Turn). LowestWants may_want old.system x) same wants in
+      record {
+        actor = low.actor;
+        can = may_move may_want old.system low.actor (subst (λ (o : Option Move). IsSome o) low.lowest t.0);
+        its = λ m due. low.lowest ∙ due;
+        step = low.step;
+      }))
 
   -- ---- whose move was due
 

@@ -96,11 +96,7 @@ impl<'b, L: IrqLine> Sleeper<'b, L> {
     }
 
     /// The phases, one after another; an error is another end than the last phase's.
-    fn play_phases<H: Handler>(
-        &mut self,
-        picks: &[Actor],
-        handlers: &mut H,
-    ) -> Result<(), PlayEnd>
+    fn play_phases<H: Handler>(&mut self, picks: &[Actor], handlers: &mut H) -> Result<(), PlayEnd>
         requires { IsFresh self.old }
         ensures done { OnOk result (EndsIn self.old self.new picks.now PlayEnd.Done) }
         ensures ends { IfErr result (EndsIn self.old self.new picks.now) }
@@ -115,11 +111,7 @@ impl<'b, L: IrqLine> Sleeper<'b, L> {
     }
 
     /// The picks in turn.
-    fn make_picks<H: Handler>(
-        &mut self,
-        picks: &[Actor],
-        handlers: &mut H,
-    ) -> Result<(), PlayEnd>
+    fn make_picks<H: Handler>(&mut self, picks: &[Actor], handlers: &mut H) -> Result<(), PlayEnd>
         requires { IsFresh self.old }
         ensures goes { OnOk result (GoesTo self.old self.new picks.now Disabling) }
         ensures ends { IfErr result (EndsIn self.old self.new picks.now) }
@@ -137,11 +129,7 @@ impl<'b, L: IrqLine> Sleeper<'b, L> {
 
     /// The system's driver disables each line, and waits for its handlers and threads
     /// (`suspend_device_irqs`, `kernel/irq/pm.c`). `picks`: those that were made.
-    fn suspend<H: Handler>(
-        &mut self,
-        picks: &[Actor],
-        handlers: &mut H,
-    ) -> Result<(), PlayEnd>
+    fn suspend<H: Handler>(&mut self, picks: &[Actor], handlers: &mut H) -> Result<(), PlayEnd>
         requires { IsUnderway self.old picks.now Disabling }
         ensures goes { OnOk result (GoesTo self.old self.new picks.now Asleep) }
         ensures ends { IfErr result (EndsIn self.old self.new picks.now) }
@@ -202,11 +190,7 @@ impl<'b, L: IrqLine> Sleeper<'b, L> {
     }
 
     /// The system's driver enables each line (`resume_device_irqs`, `kernel/irq/pm.c`).
-    fn resume<H: Handler>(
-        &mut self,
-        picks: &[Actor],
-        handlers: &mut H,
-    ) -> Result<(), PlayEnd>
+    fn resume<H: Handler>(&mut self, picks: &[Actor], handlers: &mut H) -> Result<(), PlayEnd>
         requires { IsUnderway self.old picks.now Enabling }
         ensures goes { OnOk result (GoesTo self.old self.new picks.now Going) }
         ensures ends { IfErr result (EndsIn self.old self.new picks.now) }
@@ -265,7 +249,7 @@ impl<'b, L: IrqLine> Sleeper<'b, L> {
         ensures steps { StepsBy self.old (or_move (last_of self.old.system) (inner_of self.old.system))
             result self.new }
         ensures heard { HearsOn H.hears self.old handlers.old self.new handlers.new }
-        ensures memory { StepWants L.may_want self.old.system 
+        ensures memory { StepWants L.may_want self.old.system
             (or_move (last_of self.old.system) (inner_of self.old.system)) result }
     {
         if self.step(Actor::Driver(SYSTEM), handlers)? {
@@ -280,7 +264,7 @@ impl<'b, L: IrqLine> Sleeper<'b, L> {
         ensures steps { StepsBy self.old (or_move (inner_of self.old.system) (ask_of self.old.system))
             result self.new }
         ensures heard { HearsOn H.hears self.old handlers.old self.new handlers.new }
-        ensures memory { StepWants L.may_want self.old.system 
+        ensures memory { StepWants L.may_want self.old.system
             (or_move (inner_of self.old.system) (ask_of self.old.system)) result }
     {
         if self.step_inner(handlers)? {

@@ -191,10 +191,10 @@ module _ (b : BoardSeen) (armed : List LineNo) (s : SleeperSeen) (of : IsSleepOf
 
 module _ (may_want : Option Entry → Type 0) where
   -- by the room that is handed out
-  step_done : (b : BoardSeen) (armed : List LineNo) (s : SleeperSeen) → IsSleepOf b armed s → (lines : List LineSeen) → lines ≡ s.system.lines
-      → (reports : List LineReport) → KeepRoom lines reports → PlayWants may_want s s.system.board.picks plays.NoMemory
+  step_done : (b : BoardSeen) (armed : List LineNo) (s : SleeperSeen) → IsSleepOf b armed s → (taken : List LineSeen) → taken ≡ s.system.lines
+      → (reports : List LineReport) → KeepRoom taken reports → PlayWants may_want s s.system.board.picks plays.NoMemory
       → RefusedStep may_want b armed (log_of s) reports
-  step_done b armed s of lines out reports keep wants =
+  step_done b armed s of taken out reports keep wants =
       let w = subst (λ (c : BoardSeen). WantsNext may_want (HasSpare s.system.lines) c armed c.picks (log_of s)) of.longer.slept
       (subst (λ (a : List LineNo). WantsNext may_want (HasSpare s.system.lines) s.system.board a s.system.board.picks (log_of s)) of.watched wants) in
       record {
@@ -216,11 +216,11 @@ module _ (may_want : Option Entry → Type 0) where
           subst (λ (n : ℕ). 1 ≤ n) (keep k i x report (subst (λ (ls : List LineSeen). slice_get ls k ≡ Some x) (sym out) at_x) at (its ∙ sym same)) room
 
   pub hands_out_step : (b : BoardSeen) (armed : List LineNo) (s : SleeperSeen) → IsSleepOf b armed s → (end : PlayEnd)
-      → PlayWants may_want s s.system.board.picks end → (lines : List LineSeen) → lines ≡ s.system.lines → (reports : List LineReport)
-      → KeepRoom lines reports → SleepHandsOut b armed (log_of s) end reports → HandsOutStep may_want b armed (log_of s) end reports
-  hands_out_step b armed s of plays.Done wants lines out reports keep h = h
-  hands_out_step b armed s of (plays.Full line len) wants lines out reports keep h = h
-  hands_out_step b armed s of plays.NoMemory wants lines out reports keep h = (h, step_done b armed s of lines out reports keep wants)
+      → PlayWants may_want s s.system.board.picks end → (taken : List LineSeen) → taken ≡ s.system.lines → (reports : List LineReport)
+      → KeepRoom taken reports → SleepHandsOut b armed (log_of s) end reports → HandsOutStep may_want b armed (log_of s) end reports
+  hands_out_step b armed s of plays.Done wants taken out reports keep h = h
+  hands_out_step b armed s of (plays.Full line len) wants taken out reports keep h = h
+  hands_out_step b armed s of plays.NoMemory wants taken out reports keep h = (h, step_done b armed s of taken out reports keep wants)
 
   without_step : (b : BoardSeen) (armed : List LineNo) (g : List SleepEntry) (end : PlayEnd) (reports : List LineReport)
       → HandsOutStep may_want b armed g end reports → SleepHandsOut b armed g end reports

@@ -21,7 +21,7 @@ returns-clause-plays g c =
     let played = c.report.result in
     let d = c.play-end.new.self in
     let of = c.play-end.ensures.board ∙ c.in-Ok-new-2.ensures.board in
-    let may_want = g.M.MakesDomainLine.Line.IrqLine.may_want in
+    let may_want = g.M.Line.IrqLine.may_want in
     of_some (chain_text b) (ChainHandsOut b) (runs_of_steps b) (λ (runs : List Run). Heard g.H.Handler.hears runs c.args.handlers.now c.play-end.new.handlers)
     d.log played.reports.reports told now played.end
     (answers_as (chain_text b d.log) (chain_text b d.log) (HandsOutChain may_want d) (ChainHandsOut b d.log) refl
@@ -31,6 +31,6 @@ returns-clause-plays g c =
 
 pub returns-clause-step : goal.returns-clause-step
 returns-clause-step g c =
-    tells_step g.M.MakesDomainLine.Line.IrqLine.may_want c.args.board.now c.play-end.new.self
+    tells_step g.M.Line.IrqLine.may_want c.args.board.now c.play-end.new.self
     (c.play-end.ensures.board ∙ c.in-Ok-new-2.ensures.board) (chain_text c.args.board.now c.play-end.new.self.log) c.report.result.reports.reports
     (g.O.Sink.written c.args.out.now) (g.O.Sink.written c.report.new.out) c.report.result.end c.report.ensures.plays

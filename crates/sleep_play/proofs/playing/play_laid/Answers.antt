@@ -33,7 +33,7 @@ report-requires-clause-room g c = c.in-Ok.ensures.room
 pub returns-in-Ok-clause-plays : goal.returns-in-Ok-clause-plays
 returns-in-Ok-clause-plays g c = λ b of.
     let played = c.report.result in
-    answered g.M.MakesDomainLine.Line.IrqLine.may_want b c.args.armed.now
+    answered g.M.Line.IrqLine.may_want b c.args.armed.now
     (λ (runs : List Run). Heard g.H.Handler.hears runs c.args.handlers.now c.play_sleep.new.handlers) c.in-Ok.play.sleeper
     (record {
       longer = record { board = of.board; fits = of.fits; slept = c.in-Ok.ensures.board ∙ of.slept };
@@ -45,7 +45,7 @@ returns-in-Ok-clause-plays g c = λ b of.
 pub returns-in-Ok-clause-step : goal.returns-in-Ok-clause-step
 returns-in-Ok-clause-step g c = λ b of.
     let played = c.report.result in
-    tells_step g.M.MakesDomainLine.Line.IrqLine.may_want b c.args.armed.now c.in-Ok.play.sleeper
+    tells_step g.M.Line.IrqLine.may_want b c.args.armed.now c.in-Ok.play.sleeper
     (record {
       longer = record { board = of.board; fits = of.fits; slept = c.in-Ok.ensures.board ∙ of.slept };
       watched = c.in-Ok.ensures.armed;
@@ -71,7 +71,7 @@ returns-in-Err-clause-plays g c = λ b of.
 
 pub returns-in-Err-clause-step : goal.returns-in-Err-clause-step
 returns-in-Err-clause-step g c = λ b of.
-    subst (λ (e : PlayedEnd). TellsStep g.M.MakesDomainLine.Line.IrqLine.may_want b c.args.armed.now c.unplayed.result.reports.reports e)
+    subst (λ (e : PlayedEnd). TellsStep g.M.Line.IrqLine.may_want b c.args.armed.now c.unplayed.result.reports.reports e)
     (sym c.unplayed.ensures.end) tt
 
 pub returns-in-Err-clause-emptied : goal.returns-in-Err-clause-emptied

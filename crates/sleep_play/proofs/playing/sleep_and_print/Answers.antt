@@ -38,7 +38,7 @@ returns-in-Err-NoMemory-clause-plays g c =
 
 pub returns-in-Err-NoMemory-clause-step : goal.returns-in-Err-NoMemory-clause-step
 returns-in-Err-NoMemory-clause-step g c =
-    subst (λ (e : PlayedEnd). TellsStep g.M.MakesDomainLine.Line.IrqLine.may_want c.args.board c.args.armed.now c.unplayed.result.reports.reports e)
+    subst (λ (e : PlayedEnd). TellsStep g.M.Line.IrqLine.may_want c.args.board c.args.armed.now c.unplayed.result.reports.reports e)
     (sym c.unplayed.ensures.end) tt
 
 pub returns-in-Err-NoMemory-clause-emptied : goal.returns-in-Err-NoMemory-clause-emptied

@@ -18,7 +18,7 @@ pub loop-end-preserved : goal.loop-end-preserved
 loop-end-preserved g c = record {
   goes = went (step g (goal.at.loop-end-preserved g c).After-step_lowest) (ok_is c.in-Ok-true.is c.in-Ok-true.field-0-test);
   heard = hears_then g.H.Handler.hears c.args.self.now c.loop-end.self c.step_lowest.new.self c.args.handlers.now c.loop-end.handlers c.step_lowest.new.handlers
-    c.loop-end.invariant.heard c.loop-end.invariant.goes.1.told c.step_lowest.ensures.heard;
+      c.loop-end.invariant.heard c.loop-end.invariant.goes.1.told c.step_lowest.ensures.heard;
 }
 
 pub returns-in-Err-clause-ends : goal.returns-in-Err-clause-ends

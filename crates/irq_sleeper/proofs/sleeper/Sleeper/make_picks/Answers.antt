@@ -16,7 +16,7 @@ pub loop-pick-preserved : goal.loop-pick-preserved
 loop-pick-preserved g c = record {
   goes = pick_done _ c.loop-pick-test.true c.loop-pick.invariant.goes c.step.ensures.steps c.in-Ok.is;
   heard = hears_then g.H.Handler.hears c.args.self.now c.loop-pick.self c.step.new.self c.args.handlers.now c.loop-pick.handlers c.step.new.handlers
-    c.loop-pick.invariant.heard c.loop-pick.invariant.goes.1.told c.step.ensures.heard;
+      c.loop-pick.invariant.heard c.loop-pick.invariant.goes.1.told c.step.ensures.heard;
 }
 
 pub returns-in-Err-clause-heard : goal.returns-in-Err-clause-heard

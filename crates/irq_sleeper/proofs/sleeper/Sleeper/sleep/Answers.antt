@@ -28,7 +28,7 @@ pub loop-line-preserved : goal.loop-line-preserved
 loop-line-preserved g c = record {
   goes = went (step g (goal.at.loop-line-preserved g c).After-step_asleep) (ok_is c.in-Ok-true.is c.in-Ok-true.field-0-test);
   heard = hears_then g.H.Handler.hears c.args.self.now c.loop-line.self c.step_asleep.new.self c.args.handlers.now c.loop-line.handlers c.step_asleep.new.handlers
-    c.loop-line.invariant.heard c.loop-line.invariant.goes.1.told c.step_asleep.ensures.heard;
+      c.loop-line.invariant.heard c.loop-line.invariant.goes.1.told c.step_asleep.ensures.heard;
 }
 
 pub returns-in-Ok-false-clause-goes : goal.returns-in-Ok-false-clause-goes

@@ -20,7 +20,7 @@ pub loop-self-preserved : goal.loop-self-preserved
 loop-self-preserved g c = record {
   goes = went (step g (goal.at.loop-self-preserved g c).After-step_disabling) (ok_is c.in-Ok-true.is c.in-Ok-true.field-0-test);
   heard = hears_then g.H.Handler.hears c.args.self.now c.loop-self.self c.step_disabling.new.self c.args.handlers.now c.loop-self.handlers c.step_disabling.new.handlers
-    c.loop-self.invariant.heard c.loop-self.invariant.goes.1.told c.step_disabling.ensures.heard;
+      c.loop-self.invariant.heard c.loop-self.invariant.goes.1.told c.step_disabling.ensures.heard;
 }
 
 pub returns-in-Err-clause-ends : goal.returns-in-Err-clause-ends
