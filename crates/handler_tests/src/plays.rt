@@ -69,7 +69,14 @@ fn adds_up(alloc: Global, text: &[u8]) -> Result<bool, NoMemory> {
         return Err(NoMemory);
     };
     let mut out = MemSink::new(alloc, &[], 1000)?;
-    let played = play_and_print(alloc, &board, false, &MakesChainLine, &mut handlers, &mut out);
+    let played = play_and_print(
+        alloc,
+        &board,
+        false,
+        &MakesChainLine,
+        &mut handlers,
+        &mut out,
+    );
     let all = handlers.calls;
     Ok(match played.end {
         PlayedEnd::Done => all == ALL,

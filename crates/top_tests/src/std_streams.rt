@@ -1,7 +1,9 @@
 //! The body of `main` over readers and writers of std, and arguments that can't be read.
 use board_lines::MakesChainLine;
+use callbacks::ByKind;
 use irq_command::{Ended, command, run};
 use irq_io::{MemSink, MemSource};
+use notifiers::ByProcessor;
 use std::alloc::Global;
 use std::env::Args;
 use std::io::{self, Error, ErrorKind, Read, Write};
@@ -38,8 +40,18 @@ fn arguments_that_are_not_read(rt: HostRuntime) -> Result<(), Fail> {
         let mut src = MemSource::new(alloc, BOARD.as_bytes(), 100, &[])?;
         let (mut out, mut err) = (MemSink::new(alloc, &[], 9)?, MemSink::new(alloc, &[], 120)?);
         let args = Err(Error::from(kind));
-        let maker = MakesChainLine;
-        let outcome = command(&rt, alloc, args, &mut src, &mut out, &mut err, &maker);
+        let outcome = command(
+            &rt,
+            alloc,
+            args,
+            &mut src,
+            &mut out,
+            &mut err,
+            &mut ByKind,
+            &ByKind,
+            &MakesChainLine,
+            &mut ByProcessor,
+        );
         assert_eq!(rt; outcome.ending.status(), status);
         assert!(rt; out.written().is_empty() && err.written() == row.as_bytes());
     }
@@ -79,7 +91,18 @@ fn play<T: Threads + Wait + Sync, R: Read + Drop, O: Write + Drop, E: Write + Dr
         args.push(String::from_str(alloc, word)?)?;
     }
     let args: Args = args.into_iter();
-    Ok(run(rt, alloc, Ok(args), input, output, error, &MakesChainLine))
+    Ok(run(
+        rt,
+        alloc,
+        Ok(args),
+        input,
+        output,
+        error,
+        &mut ByKind,
+        &ByKind,
+        &MakesChainLine,
+        &mut ByProcessor,
+    ))
 }
 
 #[test]
