@@ -1,19 +1,19 @@
 -- The bytes of picks.
-use Rattle.std.proofs.Common.{◌≡◌, ℕ, ◌+◌, ◌*◌, ◌<◌, ◌≤◌, ◌^◌, Bool, true, false, not, ◌&&◌, ◌||◌, cond, eqb, leb, ltb}
+use Rattle.std.proofs.Common.{rules, get_or, length, zero, suc, ◌≡◌, ℕ, ◌+◌, ◌*◌, ◌<◌, ◌≤◌, ◌^◌, Bool, true, false, not, ◌&&◌, ◌||◌, cond, eqb, leb, ltb}
 use Rattle.std.proofs.Common.{Option, Some, None, List, [], ◌∷◌, ◌++◌, codes, decimal, refl, sym, ap, subst, ◌∙◌, arith, append_assoc}
 use Rattle.std.specs.List.{list_all, flat_map}
 use Rattle.std.proofs.lemmas.Bool.{and_from, and_parts, false≢true, le-leb, lt-ltb, ne_eqb}
 use Rattle.std.proofs.lemmas.Bool.Decides.{nat_tests}
+use Rattle.std.proofs.lemmas.Fmt.{decimal_digit, decimal_nonempty, digits_decimal, digits_value-decimal, first_decimal, length-decimal-le}
+use Rattle.std.proofs.lemmas.Str.Parse.{IsNumeralModel, numerals_by_fold}
 use Rattle.std.proofs.lemmas.List.Elements.{All-head, All-tail}
 use Rattle.std.proofs.lemmas.List.Folds.{list_all-append}
 use Rattle.std.specs.Prelude.{All}
 use Rattle.board_def.specs.Names.{is_digit}
-use Rattle.board_words.specs.Spelling.{is_decimal, is_star, number_between, value_of}
+use Rattle.board_words.specs.Spelling.{begins_with_zero, is_decimal, is_star, number_between, value_after, value_of}
 use Rattle.board_words.specs.TextLines.{is_allowed, is_blank, is_hash}
 use Rattle.irq_base.specs.declared.entries.Actor.{Actor}
 use Rattle.irq_base.specs.declared.entries.Actor.TheVariants as actors
-use Rattle.log_read.proofs.Digits.{number_read, number_tells}
-use Rattle.log_read.specs.Takes.{Reads}
 use Rattle.log_text.specs.Formed.{IsSmall}
 use Rattle.explore_picks.specs.Rows.{pick_text}
 use Rattle.explore_picks.specs.Stated.{IsNameable}
@@ -23,27 +23,42 @@ leb-true a b h = grind (arith, nat_tests)
 
 -- ---- numbers
 
-chosen : (t : Bool) (v n : ℕ) → cond t (Some v) None ≡ Some n → (t ≡ true) × (v ≡ n)
-chosen true v n h = (refl, cc)
-chosen false v n h = cc
+abbrev AreDigits : List ℕ → Type 0
+AreDigits word = list_all is_digit word ≡ true
+
+own : IsNumeralModel AreDigits value_of
+own = numerals_by_fold AreDigits (search rules) value_after (search rules)
+
+no_zero : (n : ℕ) → IsSmall n → not (begins_with_zero (decimal n) && ltb 1 (length (decimal n))) ≡ true
+no_zero zero small = rw (decimal_digit 0 (omega arith)) refl
+no_zero (suc n) small = by (decimal (suc n)) (first_decimal (suc n) (omega arith) (omega (arith, small)))
+  where
+    apart : (b : ℕ) → 48 < b → eqb b 48 ≡ false
+    apart b h = grind (arith, nat_tests)
+
+    by : (word : List ℕ) → 48 < get_or word 0 0 → not (begins_with_zero word && ltb 1 (length word)) ≡ true
+    by [] h = refl
+    by (b ∷ bs) h = ap (λ t. not (t && ltb 1 (length (b ∷ bs)))) (apart b h)
 
 -- a number of 32 bits is read as it is written
 record IsWritten (n : ℕ) : Type 0 where
+  digits : list_all is_digit (decimal n) ≡ true
   decimal_is : is_decimal (decimal n) ≡ true
   value_is : value_of (decimal n) ≡ n
 
 written : (n : ℕ) → IsSmall n → IsWritten n
-written n small = by (number_between 0 4294967295 (decimal n)) refl
-  where
-    by : (r : Option ℕ) → number_between 0 4294967295 (decimal n) ≡ r → IsWritten n
-    by None is = absurd (number_read (decimal n) None (sym is) n small refl)
-    by (Some m) is =
-        let back = number_read (decimal n) (Some m) (sym is) in
-        let at = chosen _ (value_of (decimal n)) m is in
-        record {
-          decimal_is = (and_parts (is_decimal (decimal n)) _ at.0).0;
-          value_is = at.1 ∙ sym (number_tells n m small back.0 back.1);
-        }
+written n small =
+    let low : n < 2 ^ 64 = omega (arith, small) in
+    let some = decimal_nonempty n low in
+    let few = length-decimal-le 10 n (omega arith) (omega (arith, small)) low in
+    let all = digits_decimal own n low in
+    record {
+      digits = all;
+      decimal_is = and_from _ _ (and_from (list_all is_digit (decimal n)) _ all
+          (and_from (leb 1 (length (decimal n))) (leb (length (decimal n)) 10) (le-leb 1 _ (omega (arith, some))) (le-leb _ 10 few)))
+          (no_zero n small);
+      value_is = digits_value-decimal own n low;
+    }
 
 pub number_is : (low high n : ℕ) → IsSmall n → low ≤ n → n ≤ high → number_between low high (decimal n) ≡ Some n
 number_is low high n small above below =
@@ -101,8 +116,7 @@ all_pass p q each (b ∷ bs) h =
 
 pub digits_plain : (n : ℕ) → IsSmall n → list_all is_plain (decimal n) ≡ true
 digits_plain n small =
-    all_pass is_digit is_plain digit_plain (decimal n)
-    (and_parts (list_all is_digit (decimal n)) _ (and_parts _ _ (written n small).decimal_is).0).0
+    all_pass is_digit is_plain digit_plain (decimal n) (written n small).digits
 
 -- ---- a pick's word
 

@@ -5,6 +5,7 @@ use Rattle.std.specs.List.{AllZip, filter, flat_map, join_with_byte, list_all, r
 use Rattle.std.specs.Option.{option_map}
 use Rattle.std.specs.Prelude.{All}
 use Rattle.std.proofs.lemmas.Bool.{and_parts, ltb-true, ne_eqb, eqb-true}
+use Rattle.std.proofs.lemmas.Bool.Decides.{nat_tests}
 use Rattle.std.proofs.lemmas.List.{reverse-append, reverse-reverse}
 use Rattle.std.proofs.lemmas.List.Elements.{All-cons, All-drop, All-head, All-nil, All-tail, All-take}
 use Rattle.std.proofs.lemmas.List.Folds.{list_all-append}
@@ -205,15 +206,15 @@ module _ (b : BoardSeen) (board : IsBoard b) where
       let k = kept b board picks g picked.0 in
       let on = moves_on b (lines_of b g) a m picked.1 in
       let there = find_there (lines_of b g) (apart_kept b board (lines_of b g) k) on.place on.line on.at in
-      by k on.line on.number there (same_line line m.0) refl
+      by k on.line on.number there (none_moved line apart picks g picked.0) (same_line line m.0) refl
     where
-      by : AreKept b (lines_of b g) → (x : BoardLine) → m.0 ≡ x.def.line → find_line (lines_of b g) x.def.line ≡ Some x
+      by : AreKept b (lines_of b g) → (x : BoardLine) → m.0 ≡ x.def.line → find_line (lines_of b g) x.def.line ≡ Some x → part line g ≡ []
           → (t : Bool) → same_line line m.0 ≡ t → cond t (m.1 ∷ part line g) (part line g) ≡ []
-      by k x number there true same =
+      by k x number there rest true same =
           let its : line ≡ x.def.line = line_from_same line m.0 same ∙ number in
           let none : find_line (lines_of b g) x.def.line ≡ None = ap (find_line (lines_of b g)) (sym its) ∙ apart (lines_of b g) k in
           let never : ⊥ = none-some x (sym none ∙ there) in absurd never
-      by k x number there false same = none_moved line apart picks g picked.0
+      by k x number there rest false same = rest
 
   module _ (picks : List Actor) (g : List Move) (picked : ArePicked b (reverse picks) (reverse g)) (writable : All CanWrite g)
       (named : All IsNameable picks) where

@@ -1,6 +1,6 @@
 -- Whoever made a move of a board can be named by a board.
 use Rattle.std.proofs.Common.{◌≡◌, ℕ, zero, suc, ◌+◌, ◌<◌, ◌≤◌, ◌⊎◌, inl, inr, Bool, true, false, cond, Option, Some, None, List, [], ◌∷◌, ◌++◌}
-use Rattle.std.proofs.Common.{map, reverse, slice_get, refl, sym, ap, subst, ◌∙◌, arith}
+use Rattle.std.proofs.Common.{eqb, map, reverse, slice_get, refl, sym, ap, subst, ◌∙◌, arith}
 use Rattle.std.specs.Prelude.{All}
 use Rattle.std.proofs.lemmas.Bool.{or_cases}
 use Rattle.std.proofs.lemmas.List.Elements.{All-nil, All-cons}
@@ -50,11 +50,12 @@ record IsFound (xs : List DeviceDef) (dev : DevNo) : Type 0 where
 
 found : (xs : List DeviceDef) (dev : DevNo) (x : DeviceDef) → find_device xs dev ≡ Some x → IsFound xs dev
 found [] dev x is = cc
-found (y ∷ ys) dev x is = by (same_dev dev y.dev) refl is
+found (y ∷ ys) dev x is = by (same_dev dev y.dev) refl is (found ys dev x)
   where
-    by : (t : Bool) → same_dev dev y.dev ≡ t → cond t (Some y) (find_device ys dev) ≡ Some x → IsFound (y ∷ ys) dev
-    by true same is = record { place = 0; device = y; at = refl; its = sym (dev_from_same dev y.dev same) }
-    by false other is = let f = found ys dev x is in record { place = suc f.place; device = f.device; at = f.at; its = f.its }
+    by : (t : Bool) → same_dev dev y.dev ≡ t → cond t (Some y) (find_device ys dev) ≡ Some x
+        → (find_device ys dev ≡ Some x → IsFound ys dev) → IsFound (y ∷ ys) dev
+    by true same is deeper = record { place = 0; device = y; at = refl; its = sym (dev_from_same dev y.dev same) }
+    by false other is deeper = let f = deeper is in record { place = suc f.place; device = f.device; at = f.at; its = f.its }
 
 -- ---- processors
 
@@ -98,7 +99,7 @@ record IsDeclared (rs : List DriverNo) (r : DriverNo) : Type 0 where
 
 declared : (rs : List DriverNo) (r : DriverNo) → has_driver rs r ≡ true → IsDeclared rs r
 declared [] r h = cc
-declared (s ∷ rs) r h = elim (or_cases (s.0 == r.0) (has_driver rs r) h) [
+declared (s ∷ rs) r h = elim (or_cases (eqb s.0 r.0) (has_driver rs r) h) [
   | inl here ↦ record { place = 0; driver = s; at = refl; its = driver_from_same s r here }
   | inr there ↦ (let d = declared rs r there in record { place = suc d.place; driver = d.driver; at = d.at; its = d.its })
 ]

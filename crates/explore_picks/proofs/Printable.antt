@@ -11,6 +11,9 @@ use Rattle.board_play.proofs.Parts.{due_of}
 use Rattle.board_report.proofs.Printable.{printable, turned}
 use Rattle.irq_play.specs.Printing.{HasRow}
 use Rattle.explore_play.specs.Made.{ArePicked}
+use Rattle.explore_picks.specs.Small.{HasSmallMove}
+use Rattle.std.proofs.Common.{drop, slice_get}
+use Rattle.std.proofs.lemmas.Option.{same_Some}
 
 printable_so : (b : BoardSeen) (picks : List Actor) (g : List Move) → ArePicked b picks g → All HasRow g
 printable_so b [] [] h = All-nil HasRow
@@ -25,3 +28,10 @@ moves_have_rows b picks g h = subst (All HasRow) (reverse-reverse g) (turned Has
 
 pub some_is : {X : Type 0} (P : X → Type 0) (o : Option X) (x : X) → o ≡ Some x → IfSome o P → P x
 some_is P o x is h = subst (λ t. IfSome t P) is h
+
+-- the numbers of all moves are small, if those of the next and of the rest are
+pub small_next : (xs : List Move) (m : Move) (rest : List Move) → Some m ≡ slice_get xs 0 → rest ≡ drop 1 xs → HasSmallMove m
+    → All HasSmallMove rest → All HasSmallMove xs
+small_next [] m rest first is own others = cc
+small_next (x ∷ xs) m rest first is own others =
+    All-cons HasSmallMove x xs (subst HasSmallMove (same_Some m x first) own) (subst (All HasSmallMove) is others)

@@ -87,7 +87,15 @@ pub fn run<R: Read + Drop, O: Write + Drop, E: Write + Drop, M: MakesDomainLine,
     let mut error = without_buffer(alloc, error);
     match with_buffer(alloc, output) {
         Ok(mut output) => {
-            let ending = command(alloc, args, &mut input, &mut output, &mut error, maker, handlers);
+            let ending = command(
+                alloc,
+                args,
+                &mut input,
+                &mut output,
+                &mut error,
+                maker,
+                handlers,
+            );
             Ended {
                 status: ending.status(),
                 ending,

@@ -1,7 +1,14 @@
-use Rattle.std.proofs.Common.{◌≡◌, ◌≤◌, length, reverse}
+use Rattle.std.proofs.Common.{◌≡◌, ◌≤◌, List, length, reverse, subst}
+use Rattle.std.specs.Prelude.{All}
+use Rattle.irq_base.specs.declared.devices.Run.{Run}
+use Rattle.irq_io.specs.declared.whole.WriteEnd.TheVariants as writes
+use Rattle.board_core.specs.Runs.{runs_of}
+use Rattle.board_play.specs.Lines.{Move}
+use Rattle.callbacks.specs.Heard.{Heard}
 use Rattle.explore_play.specs.Made.{IsMade}
-use Rattle.explore_picks.proofs.Playing.{play_to}
+use Rattle.explore_picks.proofs.Playing.{prints}
 use Rattle.explore_picks.proofs.Printable.{moves_have_rows, some_is}
+use Rattle.explore_picks.specs.Small.{HasSmallMove}
 use Rattle.explore_picks.proofs.making.play_to_and_print.Goals as goal
 
 pub print_made-requires-clause-rows : goal.print_made-requires-clause-rows
@@ -16,27 +23,29 @@ returns-in-Done-clause-plays g c =
     let p = c.in-Ok-Some.play in
     let is = c.in-Ok-Some.field-0-is in
     let e = c.in-Ok-Some.ensures in
-    record {
-      moves = p.system.log;
-      picks = p.picks.items;
-      play = play_to p.system c.args.board.now c.args.line c.args.wanted.now p.picks.items
-          (some_is (λ p. p.system.board ≡ c.args.board.now) c.in-Ok-Some.field-0 p is e.board)
-          (some_is (λ p. IsMade p.system p.picks.items c.args.line c.args.wanted.now) c.in-Ok-Some.field-0 p is e.made)
-          (some_is (λ p. length p.picks.items ≤ 65536) c.in-Ok-Some.field-0 p is e.few);
-      printed = c.in-Done.ensures.content;
-    }
+    let b = c.args.board.now in
+    let heard : List Run → Type 0 = λ runs. Heard g.H.Handler.hears runs c.args.handlers.now c.make.new.handlers in
+    prints p.system b c.is_board.ensures.board c.args.line c.args.wanted.now p.picks.items
+    (some_is (λ p. p.system.board ≡ b) c.in-Ok-Some.field-0 p is e.board)
+    (some_is (λ p. IsMade p.system p.picks.items c.args.line c.args.wanted.now) c.in-Ok-Some.field-0 p is e.made)
+    heard (g.O.Sink.written c.args.out.now) (g.O.Sink.written c.print_made.new.out) writes.Done
+    (some_is (λ p. length p.picks.items ≤ 65536) c.in-Ok-Some.field-0 p is e.few)
+    (subst (λ (h : List Move). All HasSmallMove h) c.moves.ensures c.are_small.ensures)
+    (some_is (λ p. heard (runs_of b (reverse p.system.log))) c.in-Ok-Some.field-0 p is e.heard)
+    c.in-Done.ensures.content
 
 pub returns-in-Ok-Some-clause-plays : goal.returns-in-Ok-Some-clause-plays
 returns-in-Ok-Some-clause-plays g c =
     let p = c.in-Ok-Some.play in
     let is = c.in-Ok-Some.field-0-is in
     let e = c.in-Ok-Some.ensures in
-    record {
-      moves = p.system.log;
-      picks = p.picks.items;
-      play = play_to p.system c.args.board.now c.args.line c.args.wanted.now p.picks.items
-          (some_is (λ p. p.system.board ≡ c.args.board.now) c.in-Ok-Some.field-0 p is e.board)
-          (some_is (λ p. IsMade p.system p.picks.items c.args.line c.args.wanted.now) c.in-Ok-Some.field-0 p is e.made)
-          (some_is (λ p. length p.picks.items ≤ 65536) c.in-Ok-Some.field-0 p is e.few);
-      printed = c.in-Failed.ensures.content;
-    }
+    let b = c.args.board.now in
+    let heard : List Run → Type 0 = λ runs. Heard g.H.Handler.hears runs c.args.handlers.now c.make.new.handlers in
+    prints p.system b c.is_board.ensures.board c.args.line c.args.wanted.now p.picks.items
+    (some_is (λ p. p.system.board ≡ b) c.in-Ok-Some.field-0 p is e.board)
+    (some_is (λ p. IsMade p.system p.picks.items c.args.line c.args.wanted.now) c.in-Ok-Some.field-0 p is e.made)
+    heard (g.O.Sink.written c.args.out.now) (g.O.Sink.written c.print_made.new.out) writes.Failed
+    (some_is (λ p. length p.picks.items ≤ 65536) c.in-Ok-Some.field-0 p is e.few)
+    (subst (λ (h : List Move). All HasSmallMove h) c.moves.ensures c.are_small.ensures)
+    (some_is (λ p. heard (runs_of b (reverse p.system.log))) c.in-Ok-Some.field-0 p is e.heard)
+    c.in-Failed.ensures.content
