@@ -1,7 +1,8 @@
 -- An unlawful log has a reason.
-use Rattle.std.proofs.Common.{◌≡◌, ℕ, ◌<◌, Option, Some, None, List, [], map, length, sym, ap, subst, ◌∙◌, arith}
+use Rattle.std.proofs.Common.{◌≡◌, ℕ, ◌<◌, Option, Some, None, Result, Ok, Err, List, [], map, length, sym, ap, subst, ◌∙◌, arith}
 use Rattle.std.specs.List.{AllZip, slice_get}
 use Rattle.std.specs.Option.{option_map}
+use Rattle.std.specs.Prelude.{IfOk}
 use Rattle.std.proofs.lemmas.Option.{same_Some, slice_get_within, slice_get-map}
 use Rattle.board_def.specs.Layout.{layout_of}
 use Rattle.board_def.specs.Seen.{BoardSeen}
@@ -10,6 +11,7 @@ use Rattle.domain_rules.specs.declared.layouts.Placement.{Placement}
 use Rattle.domain_rules.specs.declared.layouts.Placement.TheVariants as placements
 use Rattle.irq_base.specs.Seen.{HistorySeen}
 use Rattle.irq_base.specs.declared.entries.Entry.{Entry}
+use Rattle.irq_base.specs.declared.memory.NoMemory.{NoMemory}
 use Rattle.irq_base.specs.declared.numbers.LineNo.{LineNo}
 use Rattle.log_check.specs.Judging.{part_at, part_of}
 use Rattle.log_check.specs.Verdicts.{ChecksLog, HasVerdict, JudgedLine}
@@ -70,7 +72,7 @@ module _ (b : BoardSeen) (log : List ℕ) (line : LineNo) (entry : ℕ) (has : H
   has_reason : (found : Option Undue) → Explains (part_at b row place) line (rows_of log) said found → IsReason b log (verdicts.Unlawful line entry) found
   has_reason None legal = absurd (isnt_legal legal)
   has_reason (Some undue) is =
-      record { place = place; row = row; at = has.2.2; of = has.2.3; said = said; each = has.1.each; undue = is }
+      record { place = place; row = row; at = has.2.2; of = has.2.3; said = said; each = has.1.each; is = is }
 
 pub explained : (b : BoardSeen) (log : List ℕ) (verdict : Verdict) (line : LineNo) (entry : ℕ) (found : Option Undue)
     → verdict ≡ verdicts.Unlawful line entry → ChecksLog b log verdict → IsFound b log line found → IsReason b log verdict found
@@ -78,3 +80,11 @@ explained b log verdict line entry found is checks finds =
     let has : HasVerdict b log (verdicts.Unlawful line entry) = subst (λ (v : Verdict). ChecksLog b log v) is checks in
     subst (λ (v : Verdict). IsReason b log v found) (sym is)
     (has_reason b log line entry has found (finds has.2.0 has.2.1 has.1.said has.2.2 has.2.3 has.1.each))
+
+pub explained_if : (b : BoardSeen) (log : List ℕ) (verdict : Verdict) (line : LineNo) (entry : ℕ)
+    → verdict ≡ verdicts.Unlawful line entry → ChecksLog b log verdict → (r : Result (Option Undue) NoMemory)
+    → ((place : ℕ) (row : LineRow) (said : List LineEntry) → slice_get b.lines place ≡ Some row → row.line ≡ line
+    → AllZip (IsRowOn b.lines) (saying (rows_of log)) said → IfOk r (Explains (part_at b row place) line (rows_of log) said))
+    → IfOk r (λ (found : Option Undue). IsReason b log verdict found)
+explained_if b log verdict line entry is checks (Ok found) finds = explained b log verdict line entry found is checks finds
+explained_if b log verdict line entry is checks (Err refused) finds = tt

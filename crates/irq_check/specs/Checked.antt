@@ -48,7 +48,7 @@ pub record IsWhy (board : BoardSeen) (log : List ℕ) (line : LineNo) (undue : U
   pub of : row.line ≡ line
   pub said : List LineEntry
   pub each : AllZip (IsRowOn board.lines) (saying (rows_of log)) said
-  pub undue : IsUndue (part_at board row place) line (rows_of log) said undue
+  pub is : IsUndue (part_at board row place) line (rows_of log) said undue
 
 -- why a log has this verdict: there is a reason exactly if it is unlawful
 abbrev pub IsReason : BoardSeen → List ℕ → Verdict → Option Undue → Type 0

@@ -1,5 +1,5 @@
 //! The rows that say the verdict on a log, and why it is unlawful.
-ghost use Rattle.std.specs.Prelude.{◌≡◌, ◌++◌, ◌≤◌, length, [], codes, decimal};
+ghost use Rattle.std.specs.Prelude.{◌≡◌, ◌+◌, ◌++◌, ◌≤◌, length, [], codes, decimal};
 ghost use Rattle.irq_check.specs.AnswerText.{answer_text, obstacle_text, verdict_text, why_text};
 ghost use Rattle.irq_check.specs.Checked.{IsPrintableAnswer};
 ghost use Rattle.log_check.specs.Why.{IsPrintableDue};

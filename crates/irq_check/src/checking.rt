@@ -1,17 +1,20 @@
 //! An input is judged.
-ghost use Rattle.std.specs.Prelude.{◌≡◌, ◌≤◌, length, IfOk};
+ghost use Rattle.std.specs.Prelude.{◌≡◌, ◌≤◌, length, IfOk, IfSome};
 ghost use Rattle.board_stated.specs.TextOf.{whole};
-ghost use Rattle.irq_check.specs.Checked.{Checks, IsExplained, IsPrintableAnswer};
+ghost use Rattle.board_def.specs.Layout.{layout_of};
+ghost use Rattle.irq_check.specs.Checked.{Checks, IsExplained, IsPrintableAnswer, IsReason};
+ghost use Rattle.line_makers.specs.Chips.{HasAllChips};
+ghost use Rattle.log_check.specs.Why.{IsPrintableDue};
 ghost use Rattle.log_check.specs.Verdicts.{ChecksLog};
 
 use crate::answers::Judgement;
 use crate::parts::cut_input;
-use board_def::Board;
+use board_def::{Board, Layout};
 use board_layout::lay;
 use board_text::{BoardFault, BoardRefused, FaultKind, read_board};
 use irq_base::NoMemory;
 use line_makers::{MakesDomainLine, OverDomains};
-use log_check::{Verdict, check_log, explain_log};
+use log_check::{Undue, Verdict, check_log, explain_log};
 use std::alloc::Global;
 
 /// The most bytes of an input.
@@ -71,11 +74,33 @@ fn judge_log<M: MakesDomainLine>(
     let maker = OverDomains::of_board(maker, &domains, board);
     let verdict =
         check_log::<M::Line, OverDomains<'_, M>>(alloc, board, &layout, &maker, log)?;
-    let why = match verdict {
-        Verdict::Unlawful { line, .. } if why => {
-            explain_log::<M::Line, OverDomains<'_, M>>(alloc, board, &layout, &maker, log, line)?
-        }
-        _ => None,
-    };
+    if !why {
+        return Ok(Judgement { verdict, why: None });
+    }
+    let why = reason_of(alloc, board, &layout, &maker, log, verdict)?;
     Ok(Judgement { verdict, why })
+}
+
+/// Why the log of the board has this verdict, if it is unlawful. The only error is `NoMemory`.
+fn reason_of<M: MakesDomainLine>(
+    alloc: Global,
+    board: &Board,
+    layout: &Layout,
+    maker: &OverDomains<'_, M>,
+    log: &[u8],
+    verdict: Verdict,
+) -> Result<Option<Undue>, NoMemory>
+    requires layout { layout.now ≡ layout_of board.now }
+    requires makes { HasAllChips maker.now board.now }
+    requires few { length log.now ≤ 67108864 }
+    requires verdict { ChecksLog board.now log.now verdict }
+    ensures reason { IfOk result (λ found. IsReason board.now log.now verdict found) }
+    ensures printable { IfOk result (λ found. IfSome found (λ undue. IsPrintableDue undue.due)) }
+{
+    match verdict {
+        Verdict::Unlawful { line, .. } => {
+            explain_log::<M::Line, OverDomains<'_, M>>(alloc, board, layout, maker, log, line)
+        }
+        Verdict::Lawful | Verdict::Malformed { .. } => Ok(None),
+    }
 }

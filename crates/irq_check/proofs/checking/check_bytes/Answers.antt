@@ -19,4 +19,5 @@ returns-in-Ok g c =
         judged = c.in-Ok.ensures.judged;
         explained = c.in-Ok.ensures.explained;
       };
+      printable = c.in-Ok.ensures.printable;
     }
