@@ -61,7 +61,8 @@ call_is (Some j) k c scripts = by_script (slice_get scripts j)
     by_script None = refl
     by_script (Some s) = refl
 
-entry_is : (L : Type 0) (q : Option ℕ) (e : Entry) (scripts : List ScriptSeen) → scripts_after {L = L} q (Ok (stepped.Added e)) scripts ≡ put_at (advanced e) q scripts
+entry_is : (L : Type 0) (q : Option ℕ) (e : Entry) (scripts : List ScriptSeen)
+    → scripts_after {L = L} q (Ok (stepped.Added e)) scripts ≡ put_at (advanced e) q scripts
 entry_is L None e scripts = refl
 entry_is L (Some j) e scripts = by_script (slice_get scripts j)
   where

@@ -1,5 +1,6 @@
 -- The runs of handlers that moves ended.
-use Rattle.std.specs.Prelude.{Option, Some, None, Result, Ok, List, [], ◌∷◌, ◌++◌, drop, length, reverse}
+use Rattle.std.specs.Prelude.{Option, Some, None, Result, Ok, List, [], ◌∷◌, ◌++◌, drop, length}
+use Rattle.std.specs.Prelude.{reverse}
 use Rattle.std.specs.Prelude.{ℕ, slice_get}
 use Rattle.irq_base.specs.declared.devices.Run.{Run}
 use Rattle.irq_base.specs.declared.entries.Entry.{Entry}

@@ -37,7 +37,8 @@ script_after (Some s) j e scripts = slice_set scripts j (advanced e s)
 -- the scripts after the step: the one at place j goes on by the entry that was added
 abbrev pub scripts_after : {L : Type 0} → Option ℕ → Result (Stepped L) StepRefused
     → List ScriptSeen → List ScriptSeen
-scripts_after (Some j) (Ok (stepped.Added e)) scripts = script_after (slice_get scripts j) j e scripts
+scripts_after (Some j) (Ok (stepped.Added e)) scripts
+    = script_after (slice_get scripts j) j e scripts
 scripts_after _ _ scripts = scripts
 
 abbrev pub turn_of : {L : Type 0} → LineNo → Result (Stepped L) StepRefused → Turn

@@ -158,7 +158,8 @@ said_more [] m line = by (eqb m.0.0 line.0)
 said_more (x ∷ xs) m line = by (eqb x.0.0 line.0) (said_more xs m line)
   where
     by : (t : Bool) → entries_on (xs ++ m ∷ []) line ≡ entries_on xs line ++ cond (eqb m.0.0 line.0) (m.1 ∷ []) []
-        → map (λ (y : LineEntry). y.1) (cond t (x ∷ filter (λ (y : LineEntry). eqb y.0.0 line.0) (xs ++ m ∷ [])) (filter (λ (y : LineEntry). eqb y.0.0 line.0) (xs ++ m ∷ [])))
+        → map (λ (y : LineEntry). y.1) (cond t (x ∷ filter (λ (y : LineEntry). eqb y.0.0 line.0) (xs ++ m ∷ []))
+        (filter (λ (y : LineEntry). eqb y.0.0 line.0) (xs ++ m ∷ [])))
         ≡ map (λ (y : LineEntry). y.1) (cond t (x ∷ filter (λ (y : LineEntry). eqb y.0.0 line.0) xs) (filter (λ (y : LineEntry). eqb y.0.0 line.0) xs))
         ++ cond (eqb m.0.0 line.0) (m.1 ∷ []) []
     by true more = ap (λ (es : List Entry). x.1 ∷ es) more

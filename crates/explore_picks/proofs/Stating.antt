@@ -145,7 +145,8 @@ states ps named some = record {
 pub are_stated : (ps : List Actor) → All IsNameable ps → AreStated ps
 are_stated ps named k within =
     let left : length (drop (24 * k) ps) ≡ length ps - 24 * k = length-drop (24 * k) ps in
-    states (row_at ps k) (All-take IsNameable 24 (drop (24 * k) ps) (All-drop IsNameable (24 * k) ps named)) (some (drop (24 * k) ps) (omega (arith, left, within)))
+    states (row_at ps k) (All-take IsNameable 24 (drop (24 * k) ps) (All-drop IsNameable (24 * k) ps named))
+    (some (drop (24 * k) ps) (omega (arith, left, within)))
   where
     some : (xs : List Actor) → 1 ≤ length xs → 1 ≤ length (take 24 xs)
     some [] h = h

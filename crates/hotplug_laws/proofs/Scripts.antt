@@ -110,7 +110,8 @@ mask_aims b line m (rows.Placed l v queues queue true ∷ said) all =
         ≡ target_after line (cond t (Some v.cpu) (lowest_in b.cpus m)) said
     by rest true = rest (2 ^ v.cpu.0) ∙ ap (λ t. target_after line t said) here
     by rest false = rest m
-mask_aims b line m (rows.Placed l v queues queue false ∷ said) all = mask_aims b line m said (tail_of (IsPlacing b) (rows.Placed l v queues queue false) said all)
+mask_aims b line m (rows.Placed l v queues queue false ∷ said) all
+    = mask_aims b line m said (tail_of (IsPlacing b) (rows.Placed l v queues queue false) said all)
 mask_aims b line m (row ∷ said) all = mask_aims b line m said (tail_of (IsPlacing b) row said all)
 
 -- ---- no other call moves a line

@@ -108,8 +108,12 @@ module _ (b : BoardSeen) (g : List ChainEntry) where
         → is_cpu cpu_0 (flow y.def y.past) ≡ true
         → (x : BoardLine) × (slice_get lines i ≡ Some x) × (is_cpu cpu_0 (flow x.def x.past) ≡ true)
     had_flow untaken i y at on =
-        let was = moved_at lines m i y at in
-        (was.line, was.at, by_line was.line (same_line was.line.def.line line) (subst (λ (z : BoardLine). is_cpu cpu_0 (flow z.def z.past) ≡ true) (sym was.is) on))
+        let was = moved_at lines m i y at in (
+          was.line,
+          was.at,
+          by_line was.line (same_line was.line.def.line line)
+              (subst (λ (z : BoardLine). is_cpu cpu_0 (flow z.def z.past) ≡ true) (sym was.is) on),
+        )
       where
         by_line : (x : BoardLine) (t : Bool) → is_cpu cpu_0 (flow x.def (cond t (e ∷ x.past) x.past)) ≡ true → is_cpu cpu_0 (flow x.def x.past) ≡ true
         by_line x true on = kept_flow cpu_0 x.def e x.past untaken on
@@ -121,8 +125,12 @@ module _ (b : BoardSeen) (g : List ChainEntry) where
         → (x : BoardLine) × (slice_get lines i ≡ Some x) × (same_line x.def.line line ≡ true)
     is_taken_one takes i y at on =
         let was = moved_at lines m i y at in
-        let rests = no_flow_at lines cpu_0 (rests_at_take line e takes legal) i was.line was.at in
-        (was.line, was.at, by_line was.line (same_line was.line.def.line line) refl rests (subst (λ (z : BoardLine). is_cpu cpu_0 (flow z.def z.past) ≡ true) (sym was.is) on))
+        let rests = no_flow_at lines cpu_0 (rests_at_take line e takes legal) i was.line was.at in (
+          was.line,
+          was.at,
+          by_line was.line (same_line was.line.def.line line) refl rests
+              (subst (λ (z : BoardLine). is_cpu cpu_0 (flow z.def z.past) ≡ true) (sym was.is) on),
+        )
       where
         by_line : (x : BoardLine) (t : Bool) → same_line x.def.line line ≡ t → is_cpu cpu_0 (flow x.def x.past) ≡ false
             → is_cpu cpu_0 (flow x.def (cond t (e ∷ x.past) x.past)) ≡ true → same_line x.def.line line ≡ true

@@ -19,7 +19,7 @@ use Rattle.log_check.specs.Why.{Explains, IsLegalOf}
 use Rattle.log_check.specs.declared.verdict.Verdict.{Verdict}
 use Rattle.log_check.specs.declared.verdict.Verdict.TheVariants as verdicts
 use Rattle.log_check.specs.declared.why.Undue.{Undue}
-use Rattle.log_read.specs.LogOf.{IsRowOn, LineEntry, entries_of, entries_on, rows_of, saying}
+use Rattle.log_read.specs.LogOf.{IsRowOn, LineEntry, entries_on, rows_of, saying}
 use Rattle.log_read.proofs.Telling.{as_many}
 use Rattle.irq_check.specs.Checked.{IsReason}
 use Rattle.irq_check.proofs.OneVerdict.{each_placed, entries_at, right_or_not, there}

@@ -227,7 +227,8 @@ impl<'b, L: IrqLine> Sleeper<'b, L> {
     fn step<H: Handler>(&mut self, actor: Actor, handlers: &mut H) -> Result<bool, PlayEnd>
         ensures steps { StepsBy self.old (move_of self.old.system actor) result self.new }
         ensures heard { HearsOn H.hears self.old handlers.old self.new handlers.new }
-        ensures memory { StepWants L.may_want self.old.system (move_of self.old.system actor) result }
+        ensures memory { StepWants L.may_want self.old.system (move_of self.old.system actor)
+            result }
     {
         let turn = self.system.turn(actor, handlers);
         self.heed(turn)
@@ -246,7 +247,8 @@ impl<'b, L: IrqLine> Sleeper<'b, L> {
     /// One step of the system's driver, or, while that waits, of the lowest thread or processor
     /// that can move.
     fn step_disabling<H: Handler>(&mut self, handlers: &mut H) -> Result<bool, PlayEnd>
-        ensures steps { StepsBy self.old (or_move (last_of self.old.system) (inner_of self.old.system))
+        ensures steps { StepsBy self.old (or_move (last_of self.old.system)
+            (inner_of self.old.system))
             result self.new }
         ensures heard { HearsOn H.hears self.old handlers.old self.new handlers.new }
         ensures memory { StepWants L.may_want self.old.system
@@ -261,7 +263,8 @@ impl<'b, L: IrqLine> Sleeper<'b, L> {
     /// One step of the lowest thread or processor that can move, or else of the lowest driver of a
     /// device that asks.
     fn step_asleep<H: Handler>(&mut self, handlers: &mut H) -> Result<bool, PlayEnd>
-        ensures steps { StepsBy self.old (or_move (inner_of self.old.system) (ask_of self.old.system))
+        ensures steps { StepsBy self.old (or_move (inner_of self.old.system)
+            (ask_of self.old.system))
             result self.new }
         ensures heard { HearsOn H.hears self.old handlers.old self.new handlers.new }
         ensures memory { StepWants L.may_want self.old.system

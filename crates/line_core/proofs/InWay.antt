@@ -1,5 +1,6 @@
 -- What stands in the way of an actor is what the state says.
-use Rattle.std.proofs.Common.{◌≡◌, ℕ, ◌-◌, ◌≤◌, drop, arith, Bool, true, false, not, ◌||◌, ◌&&◌, cond, is_some, Option, Some, None, List, [], ◌∷◌, option_map, refl, sym, ap, reverse, ◌∙◌}
+use Rattle.std.proofs.Common.{◌≡◌, ℕ, ◌-◌, ◌≤◌, drop, arith, Bool, true, false, not, ◌||◌, ◌&&◌, cond, is_some, Option}
+use Rattle.std.proofs.Common.{Some, None, List, [], ◌∷◌, option_map, refl, sym, ap, reverse, ◌∙◌}
 use Rattle.std.specs.List.{slice_get}
 use Rattle.irq_base.specs.declared.calls.Call.{Call}
 use Rattle.irq_base.specs.declared.devices.DeviceDef.{DeviceDef}
@@ -19,19 +20,15 @@ use Rattle.irq_model.specs.Legal.{IsLegalPast}
 use Rattle.irq_model.specs.Lines.{has_device}
 use Rattle.irq_model.specs.Masks.{is_masked}
 use Rattle.irq_model.specs.Next.{next_of_thread}
-use Rattle.irq_model.specs.Rounds.{is_cpu}
 use Rattle.irq_model.specs.Signal.{target}
 use Rattle.irq_model.specs.Threads.{is_running, is_woken}
 use Rattle.irq_model.specs.Valid.{IsValid}
 use Rattle.irq_model.specs.Waiting.{is_soft}
 use Rattle.device_table.proofs.Tables.{at_device, at_none}
 use Rattle.device_table.specs.Rows.{at}
-use Rattle.act_thread.specs.declared.rows.Stage.TheVariants as stages
-use Rattle.act_thread.specs.declared.rows.ThreadRow.{ThreadRow}
 use Rattle.line_obstacles.specs.Obstacles.{flow_in_way, freed_in_way, in_way, in_way_of_call}
 use Rattle.line_obstacles.specs.Obstacles.{in_way_of_cpu, in_way_of_thread, is_at_work, lower}
-use Rattle.line_obstacles.specs.Obstacles.{lowest_that, obstacle_of, waited_for}
-use Rattle.line_obstacles.specs.declared.obstacle.Obstacle.{Obstacle}
+use Rattle.line_obstacles.specs.Obstacles.{lowest_that, waited_for}
 use Rattle.line_obstacles.specs.declared.obstacle.Obstacle.TheVariants as obstacles
 use Rattle.line_scripts.specs.Rows.{RowSeen}
 use Rattle.line_marks.proofs.CellFollows.{presents_is}
@@ -58,7 +55,10 @@ over x y false f = refl
 
 staged : (s : StateSeen) (d : DevNo) (woken held run returned finished : Bool)
     → cond run (cond (is_some (due_at_stage (stage_by run returned finished) s d (record {
-      woken = woken; stage = stage_by run returned finished; held = held })))
+      woken = woken;
+      stage = stage_by run returned finished;
+      held = held;
+    })))
     None (flow_by s)) None ≡ by_stage s (stage_by run returned finished)
 staged s d woken held false returned finished = refl
 staged s d woken held true false finished = refl

@@ -127,7 +127,8 @@ impl<C: Chip> Line<C> {
     }
 }
 
-/// Makes the step, which is due of the driver's call, and puts its entry at the history's end, which
+/// Makes the step, which is due of the driver's call, and puts its entry at the history's end,
+/// which
 /// has room for it. The driver's place moves. An action that is linked needs room too.
 #[inline(always)]
 fn put_of_call<C: Chip>(

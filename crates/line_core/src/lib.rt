@@ -2,7 +2,8 @@
 //! step looks at a few rows of tables and at no history.
 //!
 //! `Line` is a line over any chips. There is one road of a step, in a file for each kind of actor
-//! (`processors`, `threads`, `drivers`): what is due of the actor, room for its entry, then what the
+//! (`processors`, `threads`, `drivers`): what is due of the actor, room for its entry, then what
+//! the
 //! step does, and its entry at the history's end. A return has the answer of its run from whoever
 //! hears, once there is room. The queries after a step read the state. Memory is taken when a line
 //! is made, for the history's room and for an action that is linked, and nowhere else.

@@ -64,11 +64,7 @@ fn of_stage<C: Chip>(state: &LineState<C>, stage: Stage) -> Option<Obstacle>
 }
 
 /// Who keeps a call that waits for this from its next entry.
-fn of_wait<C: Chip>(
-    state: &LineState<C>,
-    devices: &DeviceList,
-    wait: WaitFor,
-) -> Option<Obstacle>
+fn of_wait<C: Chip>(state: &LineState<C>, devices: &DeviceList, wait: WaitFor) -> Option<Obstacle>
     ensures { result ≡ by_wait state.now.state devices.now wait }
 {
     match wait {

@@ -26,7 +26,8 @@ use irq_line::{StepRefused, Stepped};
 use line_state::{LineState, ThreadStep};
 
 impl<C: Chip> Line<C> {
-    /// A step of a device's thread. It stands apart, as that of a driver, so that a step of a processor is short
+    /// A step of a device's thread. It stands apart, as that of a driver, so that a step of a
+    /// processor is short
     /// where it is made.
     #[inline(never)]
     pub(crate) fn step_of_thread<E: Hears>(

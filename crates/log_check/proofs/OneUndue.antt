@@ -1,6 +1,7 @@
 -- What the rows of a log say of one line, and which of its entries is the first that wasn't due.
-use Rattle.std.proofs.Common.{◌≡◌, ◌⊎◌, inl, inr, ℕ, zero, suc, ◌+◌, ◌-◌, ◌<◌, ◌≤◌, Bool, true, false, not, cond, eqb}
-use Rattle.std.proofs.Common.{IfSome, Option, Some, None, List, [], ◌∷◌, ◌++◌, length, take, drop, map, reverse, refl, sym, ap, subst, ◌∙◌, arith, length-append, eqb-true}
+use Rattle.std.proofs.Common.{◌≡◌, ◌⊎◌, inl, inr, ℕ, ◌+◌, ◌-◌, ◌<◌, ◌≤◌, Bool, true, false, not, cond, eqb}
+use Rattle.std.proofs.Common.{IfSome, Option, Some, None, List, [], ◌∷◌, ◌++◌, length, take, drop, map, reverse, refl}
+use Rattle.std.proofs.Common.{sym, ap, subst, ◌∙◌, arith, length-append, eqb-true}
 use Rattle.std.specs.List.{AllZip, filter, slice_get}
 use Rattle.std.specs.Option.{option_eq}
 use Rattle.std.proofs.lemmas.Bool.{cases_eq, false≢true}
@@ -25,23 +26,22 @@ use Rattle.irq_base.specs.declared.numbers.LineNo.{LineNo}
 use Rattle.irq_laws.specs.LogLimit.{with_log}
 use Rattle.irq_line.specs.Answers.{Adds}
 use Rattle.irq_line.specs.Seen.{LineSeen}
-use Rattle.irq_model.specs.Legal.{IsDue, IsLegal}
+use Rattle.irq_model.specs.Legal.{IsDue}
 use Rattle.irq_model.specs.Next.{next}
 use Rattle.line_obstacles.specs.Obstacles.{in_way}
 use Rattle.log_text.specs.Formed.{IsRowOf}
 use Rattle.log_text.proofs.RowLaws.{rows_tell}
 use Rattle.log_read.specs.Adding.{IsPlaceOf}
 use Rattle.log_read.specs.LogOf.{IsRowOn, LineEntry, entries_on, is_passed_over, is_whole, rows_of, saying}
-use Rattle.log_read.proofs.Telling.{all_taken, drop_next, get_drop, more_on, on_other, on_own, other_line, present, take_next, unended_row}
+use Rattle.log_read.proofs.Telling.{drop_next, get_drop, more_on, on_other, on_own, other_line, present, take_next, unended_row}
 use Rattle.log_check.specs.Judged.{AddsDue}
-use Rattle.log_check.specs.Judging.{HasRoom, IsMade, Stands, most, part_at, part_of}
+use Rattle.log_check.specs.Judging.{HasRoom, IsMade, Stands, most, part_at}
 use Rattle.log_check.specs.Why.{Explains, Finds, GrowsByOne, IsDueThen, IsLegalOf, IsNew, IsUndue, Tries, TriesIfOwn, TriesOn}
 use Rattle.log_check.specs.declared.why.DueThen.{DueThen}
 use Rattle.log_check.specs.declared.why.DueThen.TheVariants as dues
 use Rattle.log_check.specs.declared.why.Undue.{Undue}
 use Rattle.log_check.proofs.NewJudges.{new_stands}
 use Rattle.log_check.proofs.OneLine.{legal_more}
-
 
 -- ---- an entry of the line
 
@@ -56,8 +56,7 @@ module _ (old new : LineSeen) (actor : Actor) (e : Entry) (own : actor ≡ actor
 
   pub wasnt_due : (other : Entry) → t ≡ false → due ≡ Some other → Tries old e (Some (dues.Entry other)) new
   wasnt_due other differ is =
-      let added : Adds old actor other new = subst (λ (x : Option Entry). AddsDue old actor x new) is adds in
-      (
+      let added : Adds old actor other new = subst (λ (x : Option Entry). AddsDue old actor x new) is adds in (
         subst (λ (a : Actor). next old.def old.entries a ≡ Some other) own added.due,
         λ same. false≢true (sym differ ∙ (found_same due e t test).1 (is ∙ ap Some same)),
       )

@@ -76,7 +76,8 @@ pub record AtHand (lines : List LockSeen) (j : JobSeen) (place : ℕ) : Type 0 w
   pub job_is : inside ≡ j
   pub at : AtPlace lines j place
 
-abbrev pub at_hand : {here lines : List LockSeen} {inside j : JobSeen} {place : ℕ} → here ≡ lines → inside ≡ j → ArePosted lines j → place < length j.posts → AtHand lines j place
+abbrev pub at_hand : {here lines : List LockSeen} {inside j : JobSeen} {place : ℕ} → here ≡ lines → inside ≡ j
+    → ArePosted lines j → place < length j.posts → AtHand lines j place
 at_hand {here} {lines} {inside} {j} {place} lines_are job_is posted less =
     record {
       here = here;

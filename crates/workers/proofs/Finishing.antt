@@ -37,7 +37,8 @@ use Rattle.line_lock.specs.Knows.{BeginsWith, IsKnown, is_among}
 use Rattle.line_lock.specs.Placed.{placed}
 use Rattle.line_lock.specs.Passes.{LockSeen, PassSeen}
 use Rattle.workers.specs.Fit.{AreFirsts, IsFirst, actors_on, works_on, has_worker, workers_of, Fit}
-use Rattle.workers.specs.Gathers.{AreKnown, HasPass, board_line, board_lines, IsHome, AreHome, seen_line, seen_lines, AreOut, Gathers, IsFinal, AreFinal, AreSound}
+use Rattle.workers.specs.Gathers.{AreKnown, HasPass, board_line, board_lines, IsHome, AreHome, seen_line, seen_lines}
+use Rattle.workers.specs.Gathers.{AreOut, Gathers, IsFinal, AreFinal, AreSound}
 use Rattle.workers.specs.Gathers.{IsMetIn, HasAllOf, IsSeenIn, AreBack, IsSeenBy, AreGathered}
 use Rattle.workers.specs.Seen.{PostSeen, JobSeen, JobsSeen}
 use Rattle.workers.proofs.Lists.{at_map, at_snoc, of_map, there, there_or, within, none_left, length_snoc}
@@ -293,12 +294,14 @@ pass_among k who (j ∷ jobs) among = by_work (λ its. pass_among k who jobs its
           actor = same;
         }
 
-    by_actor : (is_among who (actors_on k jobs) ≡ true → HasPass jobs k who) → (t : Bool) → same_actor who j.actor ≡ t → works_on k j ≡ true → cond t true (is_among who (actors_on k jobs)) ≡ true
+    by_actor : (is_among who (actors_on k jobs) ≡ true → HasPass jobs k who) → (t : Bool) → same_actor who j.actor ≡ t
+        → works_on k j ≡ true → cond t true (is_among who (actors_on k jobs)) ≡ true
         → HasPass (j ∷ jobs) k who
     by_actor deeper true same works among = here works (sym (actor_from_same who j.actor same))
     by_actor deeper false other works among = later (deeper among)
 
-    by_work : (is_among who (actors_on k jobs) ≡ true → HasPass jobs k who) → (t : Bool) → works_on k j ≡ t → is_among who (map (λ (x : JobSeen). x.actor) (cond t (j ∷ filter (works_on k) jobs)
+    by_work : (is_among who (actors_on k jobs) ≡ true → HasPass jobs k who) → (t : Bool) → works_on k j ≡ t
+        → is_among who (map (λ (x : JobSeen). x.actor) (cond t (j ∷ filter (works_on k) jobs)
         (filter (works_on k) jobs))) ≡ true → HasPass (j ∷ jobs) k who
     by_work deeper true works among = by_actor deeper (same_actor who j.actor) refl works among
     by_work deeper false idle among = later (deeper among)
@@ -364,7 +367,8 @@ module _ (s : JobsSeen) (firsts : List PassSeen) (lines : List LineSeen) (are : 
       let p = pass_of k x at in
       let q = b.given k p.0 p.1 in
       let given : p.0.knows.given ≡ actors_on k s.jobs = q.2 ∙ given_at (slice_get locks k) q.0 (begun.each k q.0 q.1) in
-      by_test (is_among who (actors_on k s.jobs)) refl p.0 p.3 (ap (is_among who) given) (first_at (slice_get locks k) p.0 (home.each k p.0 p.1)) (known k p.0 p.1)
+      by_test (is_among who (actors_on k s.jobs)) refl p.0 p.3 (ap (is_among who) given)
+      (first_at (slice_get locks k) p.0 (home.each k p.0 p.1)) (known k p.0 p.1)
     where
       given_at : (o : Option LockSeen) (q : PassSeen) → IsSomeAnd o (λ l. IsFirst l (actors_on k s.jobs) q) → q.knows.given ≡ actors_on k s.jobs
       given_at None q is = absurd is

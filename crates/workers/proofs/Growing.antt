@@ -66,7 +66,8 @@ posts_more gave a b c v w i s at =
     let n = some_at (slice_get c i) (λ t. Grows gave m.0 t) (w i m.0 m.1) in
     subst (λ (o : Option PostSeen). IsSomeAnd o (λ t. Grows gave s t)) (sym n.1) (grows_more s m.0 n.0 m.2 n.2)
 
-pub posts_set : (gave : Run → Answer → Type 0) (xs : List PostSeen) (k : ℕ) (y x : PostSeen) → slice_get xs k ≡ Some x → Grows gave x y → PostsGrow gave xs (set xs k y)
+pub posts_set : (gave : Run → Answer → Type 0) (xs : List PostSeen) (k : ℕ) (y x : PostSeen) → slice_get xs k ≡ Some x
+    → Grows gave x y → PostsGrow gave xs (set xs k y)
 posts_set gave [] k y x at g i s is = cc
 posts_set gave (z ∷ zs) zero y x at g zero s is = subst (λ (p : PostSeen). Grows gave p y) (sym (the_same z x at) ∙ the_same z s is) g
 posts_set gave (z ∷ zs) zero y x at g (suc i) s is = posts_self gave zs i s is

@@ -138,7 +138,8 @@ module _ (terms : Terms) (board : BoardSeen) (lines : List LockSeen)
 pub works_first : {terms : Terms} (board : BoardSeen) (lines : List LockSeen) (j : JobSeen) → IsJob board lines j → WorksOn terms board lines j j
 works_first {terms} board lines j job = record { actor = refl; first = refl; as_many = refl; job = job; grew = posts_self terms.gave j.posts }
 
-pub works_more : {terms : Terms} (board : BoardSeen) (lines : List LockSeen) (a b c : JobSeen) → WorksOn terms board lines a b → WorksOn terms board lines b c → WorksOn terms board lines a c
+pub works_more : {terms : Terms} (board : BoardSeen) (lines : List LockSeen) (a b c : JobSeen)
+    → WorksOn terms board lines a b → WorksOn terms board lines b c → WorksOn terms board lines a c
 works_more {terms} board lines a b c v w =
     record {
       actor = w.actor ∙ v.actor;

@@ -11,7 +11,8 @@ pub returns-clause-stepped : goal.returns-clause-stepped
 returns-clause-stepped g c =
     stepped_at g.L.IrqLine.seen c.args.lines.now.items c.args.place c.index_mut-line.result.now
     c.step-stepped.new.self c.requires.place c.index_mut-line.ensures.value c.args.handlers.now
-    c.args.order.now.items c.tell.new.order.items c.args.actor c.step-stepped.result c.step-stepped.ensures.answer c.step-stepped.ensures.lacking c.is_sound.ensures
+    c.args.order.now.items c.tell.new.order.items c.args.actor c.step-stepped.result c.step-stepped.ensures.answer
+    c.step-stepped.ensures.lacking c.is_sound.ensures
     (c.tell.ensures.told ∙ ap (λ items. told c.step-stepped.result items c.args.place) c.make_room.ensures.items)
 
 pub returns-clause-memory : goal.returns-clause-memory

@@ -27,7 +27,8 @@ returns-clause-plays g c =
     (answers_as (chain_text b d.log) (chain_text b d.log) (HandsOutChain may_want d) (ChainHandsOut b d.log) refl
     (λ (end : PlayEnd) (reports : List LineReport) h. subst (λ (x : BoardSeen). ChainHandsOut x d.log end reports) of (without_step may_want d end reports h))
     played.reports.reports told now played.end c.report.ensures.plays)
-    (subst (λ (x : BoardSeen). Heard g.H.Handler.hears (runs_of x (children (reverse d.log))) c.args.handlers.now c.play-end.new.handlers) of c.play-end.ensures.heard)
+    (subst (λ (x : BoardSeen). Heard g.H.Handler.hears (runs_of x (children (reverse d.log))) c.args.handlers.now
+    c.play-end.new.handlers) of c.play-end.ensures.heard)
 
 pub returns-clause-step : goal.returns-clause-step
 returns-clause-step g c =

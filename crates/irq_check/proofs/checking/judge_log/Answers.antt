@@ -1,6 +1,5 @@
 use Rattle.board_def.specs.LineOf.{line_of_row}
 use Rattle.irq_check.proofs.Limits.{limited}
-use Rattle.irq_check.proofs.Reasons.{explained}
 use Rattle.irq_check.proofs.checking.judge_log.Goals as goal
 
 pub check_log-requires-clause-makes : goal.check_log-requires-clause-makes

@@ -25,5 +25,6 @@ returns-in-Found-clause-explores g c =
 pub returns-in-Failed-clause-explores : goal.returns-in-Failed-clause-explores
 returns-in-Failed-clause-explores g c =
     unsaid c.args.states c.args.board.now c.args.line c.args.wanted
-    (λ (runs : List Run). Heard g.H.Handler.hears runs c.args.handlers.now c.args.handlers.now) (g.O.Sink.written c.args.out.now) (g.O.Sink.written c.print_answer.new.out)
+    (λ (runs : List Run). Heard g.H.Handler.hears runs c.args.handlers.now c.args.handlers.now)
+    (g.O.Sink.written c.args.out.now) (g.O.Sink.written c.print_answer.new.out)
     c.requires.there c.args.answer.now c.in-Never.is c.requires.answered c.in-Failed.ensures.content refl

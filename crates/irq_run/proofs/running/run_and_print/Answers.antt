@@ -7,7 +7,8 @@ use Rattle.irq_run.proofs.running.run_and_print.Goals as goal
 
 pub settle-requires-clause-over : goal.settle-requires-clause-over
 settle-requires-clause-over g c =
-    let ends = λ (end : ShiftsEnd). Ends (terms_of g.M.Line.IrqLine.seen g.M.Line.IrqLine.may_want (g.H.SharedHandler.gave c.args.handlers.now)) c.run_shifts.new.jobs end in
+    let ends = λ (end : ShiftsEnd). Ends (terms_of g.M.Line.IrqLine.seen g.M.Line.IrqLine.may_want
+    (g.H.SharedHandler.gave c.args.handlers.now)) c.run_shifts.new.jobs end in
     elim (c.in-Quiet.is) [
       | inl quiet ↦ inl (subst ends quiet c.run_shifts.ensures.end)
       | inr full ↦ inr (full.0, full.1, subst ends full.2 c.run_shifts.ensures.end)

@@ -1,4 +1,4 @@
-use Rattle.std.proofs.Common.{Ok, subst}
+use Rattle.std.proofs.Common.{subst}
 use Rattle.irq_base.specs.declared.entries.Actor.{Actor}
 use Rattle.log_check.specs.Judged.{AddsDue}
 use Rattle.log_check.proofs.Trying.{tried}

@@ -1,6 +1,6 @@
 use Rattle.std.proofs.Common.{rules, refl}
 use Rattle.std.specs.Option.{option_map}
-use Rattle.log_check.proofs.OneUndue.{at_next, at_start, none_ended, none_undue, room, undue_here}
+use Rattle.log_check.proofs.OneUndue.{at_next, none_ended, none_undue, undue_here}
 use Rattle.log_check.proofs.why.find_undue.Goals as goal
 
 pub returns-in_default-clause-explains : goal.returns-in_default-clause-explains

@@ -10,25 +10,35 @@ use Rattle.workers.proofs.post.step_heard.Goals as goal
 
 pub returns-in-Ok-Added-clause-tries : goal.returns-in-Ok-Added-clause-tries
 returns-in-Ok-Added-clause-tries g c = λ who is.
-    tries_added g.L.IrqLine.seen g.L.IrqLine.may_want before.TheImpl.ghosts.hears before.TheImpl.ghosts.lacks (g.H.SharedHandler.gave c.args.handlers.now) c.args.line.now who c.args.pass.now c.loop.pass c.step.new.pass
+    tries_added g.L.IrqLine.seen g.L.IrqLine.may_want before.TheImpl.ghosts.hears before.TheImpl.ghosts.lacks
+    (g.H.SharedHandler.gave c.args.handlers.now) c.args.line.now who c.args.pass.now c.loop.pass c.step.new.pass
     c.loop.before c.step.new.before c.loop.invariant.waits c.in-Ok-Added.entry
     (λ run heard. said_given (g.H.SharedHandler.gave c.args.handlers.now) c.loop.before.said run c.loop.invariant.given heard.0)
-    (subst (λ (s : Stepped Run). Steps g.L.IrqLine.seen g.L.IrqLine.may_want before.TheImpl.ghosts.hears before.TheImpl.ghosts.lacks c.args.line.now.def who c.loop.pass.knows c.loop.before (Ok s) c.step.new.pass.knows c.step.new.before)
+    (subst (λ (s : Stepped Run). Steps g.L.IrqLine.seen g.L.IrqLine.may_want before.TheImpl.ghosts.hears
+    before.TheImpl.ghosts.lacks c.args.line.now.def who c.loop.pass.knows c.loop.before (Ok s) c.step.new.pass.knows
+    c.step.new.before)
     c.in-Ok-Added.field-0-is (c.in-Ok-Added.ensures.steps who (c.loop.invariant.waits.actor ∙ is)))
 
 pub returns-in-Ok-NotYet-clause-tries : goal.returns-in-Ok-NotYet-clause-tries
 returns-in-Ok-NotYet-clause-tries g c = λ who is.
-    tries_not_yet g.L.IrqLine.seen g.L.IrqLine.may_want before.TheImpl.ghosts.hears before.TheImpl.ghosts.lacks (g.H.SharedHandler.gave c.args.handlers.now) c.args.line.now who c.args.pass.now c.loop.pass c.step.new.pass c.loop.before c.step.new.before c.loop.invariant.waits
-    (subst (λ (s : Stepped Run). Steps g.L.IrqLine.seen g.L.IrqLine.may_want before.TheImpl.ghosts.hears before.TheImpl.ghosts.lacks c.args.line.now.def who c.loop.pass.knows c.loop.before (Ok s) c.step.new.pass.knows c.step.new.before)
+    tries_not_yet g.L.IrqLine.seen g.L.IrqLine.may_want before.TheImpl.ghosts.hears before.TheImpl.ghosts.lacks
+    (g.H.SharedHandler.gave c.args.handlers.now) c.args.line.now who c.args.pass.now c.loop.pass c.step.new.pass
+    c.loop.before c.step.new.before c.loop.invariant.waits
+    (subst (λ (s : Stepped Run). Steps g.L.IrqLine.seen g.L.IrqLine.may_want before.TheImpl.ghosts.hears
+    before.TheImpl.ghosts.lacks c.args.line.now.def who c.loop.pass.knows c.loop.before (Ok s) c.step.new.pass.knows
+    c.step.new.before)
     c.in-Ok-NotYet.field-0-is (c.in-Ok-NotYet.ensures.steps who (c.loop.invariant.waits.actor ∙ is)))
 
 pub loop-preserved : goal.loop-preserved
 loop-preserved g c =
     let who = its_actor c.args.pass.now.knows.actor c.requires.actor in
     record {
-      waits = waits_on g.L.IrqLine.seen g.L.IrqLine.may_want before.TheImpl.ghosts.hears before.TheImpl.ghosts.lacks (g.H.SharedHandler.gave c.args.handlers.now) c.args.line.now who.0 c.args.pass.now c.loop.pass c.step.new.pass
+      waits = waits_on g.L.IrqLine.seen g.L.IrqLine.may_want before.TheImpl.ghosts.hears before.TheImpl.ghosts.lacks
+          (g.H.SharedHandler.gave c.args.handlers.now) c.args.line.now who.0 c.args.pass.now c.loop.pass c.step.new.pass
           c.loop.before c.step.new.before c.loop.invariant.waits c.in-Ok-Lacks.run'
-          (subst (λ (s : Stepped Run). Steps g.L.IrqLine.seen g.L.IrqLine.may_want before.TheImpl.ghosts.hears before.TheImpl.ghosts.lacks c.args.line.now.def who.0 c.loop.pass.knows c.loop.before (Ok s) c.step.new.pass.knows c.step.new.before) c.in-Ok-Lacks.field-0-is (c.in-Ok-Lacks.ensures.steps who.0
+          (subst (λ (s : Stepped Run). Steps g.L.IrqLine.seen g.L.IrqLine.may_want before.TheImpl.ghosts.hears
+          before.TheImpl.ghosts.lacks c.args.line.now.def who.0 c.loop.pass.knows c.loop.before (Ok s)
+          c.step.new.pass.knows c.step.new.before) c.in-Ok-Lacks.field-0-is (c.in-Ok-Lacks.ensures.steps who.0
           (c.loop.invariant.waits.actor ∙ who.1)))
           c.step.ensures.pass c.step.ensures.idle c.step.ensures.same_actor;
       given = called_given (g.H.SharedHandler.gave c.args.handlers.now) c.in-Ok-Lacks.run' c.of.result c.of.ensures.said c.of.ensures.gave;
@@ -36,13 +46,20 @@ loop-preserved g c =
 
 pub returns-in-Err-clause-tries : goal.returns-in-Err-clause-tries
 returns-in-Err-clause-tries g c = λ who is.
-    tries_refused g.L.IrqLine.seen g.L.IrqLine.may_want before.TheImpl.ghosts.hears before.TheImpl.ghosts.lacks (g.H.SharedHandler.gave c.args.handlers.now) c.args.line.now who c.args.pass.now c.loop.pass c.step.new.pass
+    tries_refused g.L.IrqLine.seen g.L.IrqLine.may_want before.TheImpl.ghosts.hears before.TheImpl.ghosts.lacks
+    (g.H.SharedHandler.gave c.args.handlers.now) c.args.line.now who c.args.pass.now c.loop.pass c.step.new.pass
     c.loop.before c.step.new.before c.loop.invariant.waits c.in-Err.refused
-    (subst (λ (r : StepRefused). Steps g.L.IrqLine.seen g.L.IrqLine.may_want before.TheImpl.ghosts.hears before.TheImpl.ghosts.lacks c.args.line.now.def who c.loop.pass.knows c.loop.before (Err r) c.step.new.pass.knows c.step.new.before) c.in-Err.refused-is (c.in-Err.ensures.steps who (c.loop.invariant.waits.actor ∙ is)))
+    (subst (λ (r : StepRefused). Steps g.L.IrqLine.seen g.L.IrqLine.may_want before.TheImpl.ghosts.hears
+    before.TheImpl.ghosts.lacks c.args.line.now.def who c.loop.pass.knows c.loop.before (Err r)
+    c.step.new.pass.knows c.step.new.before) c.in-Err.refused-is
+    (c.in-Err.ensures.steps who (c.loop.invariant.waits.actor ∙ is)))
 
 pub returns-in-Ok-NotYet-clause-flows : goal.returns-in-Ok-NotYet-clause-flows
 returns-in-Ok-NotYet-clause-flows g c = λ cpu is own none.
-    flow_not_yet g.L.IrqLine.seen g.L.IrqLine.may_want before.TheImpl.ghosts.hears before.TheImpl.ghosts.lacks (g.H.SharedHandler.gave c.args.handlers.now) c.args.line.now (actors.Cpu cpu) c.args.pass.now c.loop.pass
+    flow_not_yet g.L.IrqLine.seen g.L.IrqLine.may_want before.TheImpl.ghosts.hears before.TheImpl.ghosts.lacks
+    (g.H.SharedHandler.gave c.args.handlers.now) c.args.line.now (actors.Cpu cpu) c.args.pass.now c.loop.pass
     c.step.new.pass c.loop.before c.step.new.before c.loop.invariant.waits
-    (subst (λ (s : Stepped Run). Steps g.L.IrqLine.seen g.L.IrqLine.may_want before.TheImpl.ghosts.hears before.TheImpl.ghosts.lacks c.args.line.now.def (actors.Cpu cpu) c.loop.pass.knows c.loop.before (Ok s) c.step.new.pass.knows c.step.new.before) c.in-Ok-NotYet.field-0-is
+    (subst (λ (s : Stepped Run). Steps g.L.IrqLine.seen g.L.IrqLine.may_want before.TheImpl.ghosts.hears
+    before.TheImpl.ghosts.lacks c.args.line.now.def (actors.Cpu cpu) c.loop.pass.knows c.loop.before (Ok s)
+    c.step.new.pass.knows c.step.new.before) c.in-Ok-NotYet.field-0-is
     (c.in-Ok-NotYet.ensures.steps (actors.Cpu cpu) (c.loop.invariant.waits.actor ∙ is))) cpu refl own

@@ -5,14 +5,16 @@ use Rattle.workers.specs.Terms.{terms_of}
 use Rattle.workers.proofs.shifts.run_shifts.Goals as goal
 
 pub returns-in-Idle-clause-end : goal.returns-in-Idle-clause-end
-returns-in-Idle-clause-end g c = quiet (terms_of g.L.IrqLine.seen g.L.IrqLine.may_want (g.H.SharedHandler.gave c.args.handlers.now)) c.one_shift.new.self c.one_shift.ensures.ends c.in-Idle.ensures.all
+returns-in-Idle-clause-end g c = quiet (terms_of g.L.IrqLine.seen g.L.IrqLine.may_want
+    (g.H.SharedHandler.gave c.args.handlers.now)) c.one_shift.new.self c.one_shift.ensures.ends c.in-Idle.ensures.all
 
 pub returns-in-Full-clause-end : goal.returns-in-Full-clause-end
 returns-in-Full-clause-end g c = full_for (terms_of g.L.IrqLine.seen g.L.IrqLine.may_want (g.H.SharedHandler.gave c.args.handlers.now)) c.one_shift.new.self
     c.one_shift.ensures.ends c.in-Full.line c.in-Full.len c.in-Full.ensures.all
 
 pub returns-in-NoMemory-clause-end : goal.returns-in-NoMemory-clause-end
-returns-in-NoMemory-clause-end g c = wanted_for (terms_of g.L.IrqLine.seen g.L.IrqLine.may_want (g.H.SharedHandler.gave c.args.handlers.now)) c.one_shift.new.self
+returns-in-NoMemory-clause-end g c = wanted_for (terms_of g.L.IrqLine.seen g.L.IrqLine.may_want
+    (g.H.SharedHandler.gave c.args.handlers.now)) c.one_shift.new.self
     c.one_shift.ensures.ends c.in-NoMemory.ensures.all
 
 pub returns-in-Idle-clause-grew : goal.returns-in-Idle-clause-grew

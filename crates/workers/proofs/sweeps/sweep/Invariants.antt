@@ -7,4 +7,5 @@ use Rattle.workers.proofs.sweeps.sweep.Given as goal
 abbrev pub invariant-loop-i : goal.invariant-loop-i
 invariant-loop-i g l =
     ((k : ℕ) (d : JobSeen) → l.i ≤ k → get_or l.jobs k d ≡ get_or l.fn.jobs k d)
-    × ((k : ℕ) (d : JobSeen) → k < l.i → GoesOn (terms_of g.L.IrqLine.seen g.L.IrqLine.may_want (g.H.SharedHandler.gave l.handlers)) l.board l.lines (get_or l.fn.jobs k d) (get_or l.jobs k d))
+    × ((k : ℕ) (d : JobSeen) → k < l.i → GoesOn (terms_of g.L.IrqLine.seen g.L.IrqLine.may_want
+    (g.H.SharedHandler.gave l.handlers)) l.board l.lines (get_or l.fn.jobs k d) (get_or l.jobs k d))

@@ -8,7 +8,12 @@ use Rattle.board_core.proofs.Wanting.{pick_ends_play}
 use Rattle.board_core.proofs.system.System.play.Goals as goal
 
 pub loop-pick-init : goal.loop-pick-init
-loop-pick-init g c = record { board = refl; layout = refl; underway = fresh c.args.self.now c.args.picks.now c.requires; heard = heard_fresh g.H.Handler.hears c.args.self.now c.requires c.args.handlers.now }
+loop-pick-init g c = record {
+  board = refl;
+  layout = refl;
+  underway = fresh c.args.self.now c.args.picks.now c.requires;
+  heard = heard_fresh g.H.Handler.hears c.args.self.now c.requires c.args.handlers.now;
+}
 
 pub returns-in-Full-clause-play : goal.returns-in-Full-clause-play
 returns-in-Full-clause-play g c = pick_full (pick_turn _ c.turn.result c.loop-pick-test.true c.loop-pick.invariant.underway c.turn.ensures.turns) c.in-Full.is

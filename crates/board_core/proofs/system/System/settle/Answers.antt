@@ -10,7 +10,13 @@ pub loop-line-smaller : goal.loop-line-smaller
 loop-line-smaller g c = room_falls (lowest_turn c.turn_lowest.result c.turn_lowest.ensures.turns) c.in-Moved.is
 
 pub loop-line-init : goal.loop-line-init
-loop-line-init g c = record { board = refl; layout = refl; underway = λ picks u. u; moves = settles_none _; heard = since_begun g.H.Handler.hears c.args.self.now c.args.handlers.now }
+loop-line-init g c = record {
+  board = refl;
+  layout = refl;
+  underway = λ picks u. u;
+  moves = settles_none _;
+  heard = since_begun g.H.Handler.hears c.args.self.now c.args.handlers.now;
+}
 
 pub loop-line-preserved : goal.loop-line-preserved
 loop-line-preserved g c =

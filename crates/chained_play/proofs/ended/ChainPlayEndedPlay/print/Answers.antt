@@ -12,4 +12,5 @@ pub print_rows-requires : goal.print_rows-requires
 print_rows-requires g c =
     let d = c.self.inside.demux in
     subst (λ (log : List ChainEntry). All (HasRow told) log) (sym c.steps-steps.ensures)
-    (rows_done d (subst (λ (end : PlayEnd). IsPlay d d.board.picks end) (ap (λ (p : ChainPlaySeen). p.end) c.self.view_is ∙ c.requires) c.self.invariant.0.play))
+    (rows_done d (subst (λ (end : PlayEnd). IsPlay d d.board.picks end)
+    (ap (λ (p : ChainPlaySeen). p.end) c.self.view_is ∙ c.requires) c.self.invariant.0.play))

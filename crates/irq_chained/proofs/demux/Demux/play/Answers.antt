@@ -5,7 +5,12 @@ use Rattle.irq_chained.proofs.Wanting.{pick_ends}
 use Rattle.irq_chained.proofs.demux.Demux.play.Goals as goal
 
 pub loop-pick-init : goal.loop-pick-init
-loop-pick-init g c = record { board = refl; layout = refl; underway = fresh c.args.self.now c.args.picks.now c.requires; heard = heard_fresh g.H.Handler.hears c.args.self.now c.requires c.args.handlers.now }
+loop-pick-init g c = record {
+  board = refl;
+  layout = refl;
+  underway = fresh c.args.self.now c.args.picks.now c.requires;
+  heard = heard_fresh g.H.Handler.hears c.args.self.now c.requires c.args.handlers.now;
+}
 
 pub returns-in-Full-clause-play : goal.returns-in-Full-clause-play
 returns-in-Full-clause-play g c = pick_full _ c.loop-pick-test.true c.loop-pick.invariant.underway (a_turn c.turn.result c.turn.ensures.turns) c.in-Full.is
@@ -24,10 +29,12 @@ pub returns-in-NoMemory-clause-play : goal.returns-in-NoMemory-clause-play
 returns-in-NoMemory-clause-play g c = refused (a_turn c.turn.result c.turn.ensures.turns) c.loop-pick.invariant.underway c.in-NoMemory.is
 
 pub returns-in-Full-clause-heard : goal.returns-in-Full-clause-heard
-returns-in-Full-clause-heard g c = heard_turned g.H.Handler.hears _ _ _ c.turn.result c.turn.ensures.turns _ _ _ c.loop-pick.invariant.heard c.turn.ensures.heard
+returns-in-Full-clause-heard g c = heard_turned g.H.Handler.hears _ _ _ c.turn.result c.turn.ensures.turns _ _ _
+    c.loop-pick.invariant.heard c.turn.ensures.heard
 
 pub returns-in-NoMemory-clause-heard : goal.returns-in-NoMemory-clause-heard
-returns-in-NoMemory-clause-heard g c = heard_turned g.H.Handler.hears _ _ _ c.turn.result c.turn.ensures.turns _ _ _ c.loop-pick.invariant.heard c.turn.ensures.heard
+returns-in-NoMemory-clause-heard g c = heard_turned g.H.Handler.hears _ _ _ c.turn.result c.turn.ensures.turns _ _ _
+    c.loop-pick.invariant.heard c.turn.ensures.heard
 
 pub returns-clause-heard : goal.returns-clause-heard
 returns-clause-heard g c = c.settle.ensures.heard _ c.loop-pick.invariant.heard

@@ -25,6 +25,7 @@ returns-in-Err-clause-heard g c =
     c.loop-pick.invariant.heard c.loop-pick.invariant.goes.1.told c.step.ensures.heard
 
 pub returns-in-Err-clause-memory : goal.returns-in-Err-clause-memory
-returns-in-Err-clause-memory g c = pick_wants g.L.IrqLine.may_want c.loop-pick.self c.step.new.self _ c.loop-pick-test.true c.loop-pick.invariant.goes c.step.result
+returns-in-Err-clause-memory g c = pick_wants g.L.IrqLine.may_want c.loop-pick.self c.step.new.self _
+    c.loop-pick-test.true c.loop-pick.invariant.goes c.step.result
     c.step.ensures.steps
     c.in-Err.is c.step.ensures.memory

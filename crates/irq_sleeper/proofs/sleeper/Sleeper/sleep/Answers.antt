@@ -19,7 +19,8 @@ step g c = sleeping_step c.loop-line.invariant.goes (not_woken g c) c.step_aslee
 
 pub returns-in-Some-clause-goes : goal.returns-in-Some-clause-goes
 returns-in-Some-clause-goes g c =
-    wakes_by_line c.loop-line.invariant.goes (sym (ap (λ (s : SleeperSeen). s.watch.woken) c.self.view_is) ∙ (sym c.woken.ensures ∙ c.in-Some.is)) c.wake_by.ensures
+    wakes_by_line c.loop-line.invariant.goes (sym (ap (λ (s : SleeperSeen). s.watch.woken) c.self.view_is)
+    ∙ (sym c.woken.ensures ∙ c.in-Some.is)) c.wake_by.ensures
 
 pub loop-line-smaller : goal.loop-line-smaller
 loop-line-smaller g c = falls (step g (goal.at.loop-line-smaller g c).After-step_asleep) (ok_is c.in-Ok-true.is c.in-Ok-true.field-0-test)
@@ -27,7 +28,8 @@ loop-line-smaller g c = falls (step g (goal.at.loop-line-smaller g c).After-step
 pub loop-line-preserved : goal.loop-line-preserved
 loop-line-preserved g c = record {
   goes = went (step g (goal.at.loop-line-preserved g c).After-step_asleep) (ok_is c.in-Ok-true.is c.in-Ok-true.field-0-test);
-  heard = hears_then g.H.Handler.hears c.args.self.now c.loop-line.self c.step_asleep.new.self c.args.handlers.now c.loop-line.handlers c.step_asleep.new.handlers
+  heard = hears_then g.H.Handler.hears c.args.self.now c.loop-line.self c.step_asleep.new.self c.args.handlers.now
+      c.loop-line.handlers c.step_asleep.new.handlers
       c.loop-line.invariant.heard c.loop-line.invariant.goes.1.told c.step_asleep.ensures.heard;
 }
 

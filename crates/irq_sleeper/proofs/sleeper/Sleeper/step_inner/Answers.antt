@@ -14,7 +14,11 @@ returns-in-Some-clause-steps g c =
     subst (λ due. StepsBy c.args.self.now due c.step.result c.step.new.self) (sym its) c.step.ensures.steps
 
 pub returns-in-None-clause-steps : goal.returns-in-None-clause-steps
-returns-in-None-clause-steps g c = (subst (λ (x : SleeperSeen). inner_of x.system ≡ None) c.self.view_is (inner_none c.self.inside.system c.in-None.ensures), refl)
+returns-in-None-clause-steps g c = (
+  subst (λ (x : SleeperSeen). inner_of x.system ≡ None) c.self.view_is
+      (inner_none c.self.inside.system c.in-None.ensures),
+  refl,
+)
 
 pub returns-in-Some-clause-memory : goal.returns-in-Some-clause-memory
 returns-in-Some-clause-memory g c =

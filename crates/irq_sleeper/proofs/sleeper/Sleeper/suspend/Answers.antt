@@ -19,7 +19,8 @@ loop-self-smaller g c =
 pub loop-self-preserved : goal.loop-self-preserved
 loop-self-preserved g c = record {
   goes = went (step g (goal.at.loop-self-preserved g c).After-step_disabling) (ok_is c.in-Ok-true.is c.in-Ok-true.field-0-test);
-  heard = hears_then g.H.Handler.hears c.args.self.now c.loop-self.self c.step_disabling.new.self c.args.handlers.now c.loop-self.handlers c.step_disabling.new.handlers
+  heard = hears_then g.H.Handler.hears c.args.self.now c.loop-self.self c.step_disabling.new.self c.args.handlers.now
+      c.loop-self.handlers c.step_disabling.new.handlers
       c.loop-self.invariant.heard c.loop-self.invariant.goes.1.told c.step_disabling.ensures.heard;
 }
 
@@ -31,7 +32,8 @@ returns-clause-goes g c = falls_asleep c.loop-self.invariant.goes (sym c.is_disa
 
 pub returns-in-Err-clause-heard : goal.returns-in-Err-clause-heard
 returns-in-Err-clause-heard g c =
-    hears_then g.H.Handler.hears c.args.self.now c.loop-self.self c.step_disabling.new.self c.args.handlers.now c.loop-self.handlers c.step_disabling.new.handlers
+    hears_then g.H.Handler.hears c.args.self.now c.loop-self.self c.step_disabling.new.self c.args.handlers.now
+    c.loop-self.handlers c.step_disabling.new.handlers
     c.loop-self.invariant.heard c.loop-self.invariant.goes.1.told c.step_disabling.ensures.heard
 
 pub returns-in-Err-clause-memory : goal.returns-in-Err-clause-memory
@@ -40,7 +42,8 @@ returns-in-Err-clause-memory g c =
 
 pub returns-in-Ok-false-clause-heard : goal.returns-in-Ok-false-clause-heard
 returns-in-Ok-false-clause-heard g c =
-    hears_then g.H.Handler.hears c.args.self.now c.loop-self.self c.step_disabling.new.self c.args.handlers.now c.loop-self.handlers c.step_disabling.new.handlers
+    hears_then g.H.Handler.hears c.args.self.now c.loop-self.self c.step_disabling.new.self c.args.handlers.now
+    c.loop-self.handlers c.step_disabling.new.handlers
     c.loop-self.invariant.heard c.loop-self.invariant.goes.1.told c.step_disabling.ensures.heard
 
 pub returns-clause-heard : goal.returns-clause-heard

@@ -1,6 +1,5 @@
 use Rattle.std.proofs.Common.{◌≡◌, None, ap, sym, subst, ◌∙◌}
 use Rattle.irq_base.specs.declared.entries.Actor.{Actor}
-use Rattle.irq_base.specs.declared.entries.Actor.TheVariants as actors
 use Rattle.irq_line.specs.Seen.{LineSeen}
 use Rattle.line_core.proofs.InWay.{cpu_told, no_call_in_way, thread_told, wait_told}
 use Rattle.line_core.proofs.Stepping.{line_of}

@@ -19,7 +19,10 @@ returns-clause-steps g c = λ who is.
     let answer = subst (λ (a : Actor). Answers line a c.step_held-answer.result after) actor c.step_held-answer.ensures.answer in
     let now : c.leave.new.pass.knows ≡ looked c.args.pass.now.knows after.entries = search rules in
     let memory = subst (λ (a : Actor). WantsMemory g.L.IrqLine.may_want line a c.step_held-answer.result) actor c.step_held-answer.ensures.memory in
-    let lacking = subst (λ (a : Actor). Lacks before.TheImpl.ghosts.lacks line a c.args.before.now c.step_held-answer.result) actor c.step_held-answer.ensures.lacking in
-    steps g.L.IrqLine.seen g.L.IrqLine.may_want before.TheImpl.ghosts.hears before.TheImpl.ghosts.lacks c.args.self.now.def who c.args.pass.now.knows c.leave.new.pass.knows
+    let lacking = subst (λ (a : Actor). Lacks before.TheImpl.ghosts.lacks line a c.args.before.now
+    c.step_held-answer.result) actor c.step_held-answer.ensures.lacking in
+    steps g.L.IrqLine.seen g.L.IrqLine.may_want before.TheImpl.ghosts.hears before.TheImpl.ghosts.lacks
+    c.args.self.now.def who c.args.pass.now.knows c.leave.new.pass.knows
     c.hold-held.result.line.value after c.args.before.now c.step_held-answer.new.before c.step_held-answer.result def is c.step_held-answer.ensures.sound.0
-    c.hold-held.ensures.begins c.hold-held.ensures.mine answer c.step_held-answer.ensures.heard lacking memory (c.step_held-answer.ensures.def ∙ def) c.step_held-answer.ensures.sound.1 now
+    c.hold-held.ensures.begins c.hold-held.ensures.mine answer c.step_held-answer.ensures.heard lacking memory
+    (c.step_held-answer.ensures.def ∙ def) c.step_held-answer.ensures.sound.1 now

@@ -21,7 +21,8 @@ loop-place-preserved g c =
 
 pub returns-then-not-is_not_yet : goal.returns-then-not-is_not_yet
 returns-then-not-is_not_yet g c =
-    cpu_after (terms_of g.L.IrqLine.seen g.L.IrqLine.may_want (g.H.SharedHandler.gave c.args.handlers.now)) c.args.lines.now c.step_cpu-attempt.result c.args.self.now c.loop-place.self
+    cpu_after (terms_of g.L.IrqLine.seen g.L.IrqLine.may_want (g.H.SharedHandler.gave c.args.handlers.now))
+    c.args.lines.now c.step_cpu-attempt.result c.args.self.now c.loop-place.self
     c.step_cpu-attempt.new.self _ c.loop-place.place c.loop-place.invariant.keeps c.loop-place.invariant.room
     c.step_cpu-attempt.ensures (sym c.is_not_yet.ensures ∙ c.if-not-is_not_yet.true) c.self-in-loop-place.view_is
 

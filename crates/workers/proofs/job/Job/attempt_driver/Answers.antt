@@ -50,7 +50,8 @@ unreachable-requires g c =
 pub returns-in_default : goal.returns-in_default
 returns-in_default g c =
     let there = (goal.at.returns-in_default g c).After-next_call-self-inside in
-    driver_done c.requires.driven c.next_call-self-inside.result (now_is g there) (terms_of g.L.IrqLine.seen g.L.IrqLine.may_want (g.H.SharedHandler.gave c.args.handlers.now))
+    driver_done c.requires.driven c.next_call-self-inside.result (now_is g there)
+    (terms_of g.L.IrqLine.seen g.L.IrqLine.may_want (g.H.SharedHandler.gave c.args.handlers.now))
     (driven g there) (sym c.call.ensures ∙ c.in_default.is)
 
 pub step_driver-requires-clause-driven : goal.step_driver-requires-clause-driven

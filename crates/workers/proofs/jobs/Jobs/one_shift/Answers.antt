@@ -13,14 +13,18 @@ pub shift-requires-clause-jobs : goal.shift-requires-clause-jobs
 shift-requires-clause-jobs g c = λ κs lives k d less. shift_may c.requires c.self.view_is c.as_mut_slice-jobs.ensures.value k d less
 
 -- what the shift leaves, once the slice is the list again
-shifted : (g : given.Over) (c : After-shift g) → OneShift (terms_of g.L.IrqLine.seen g.L.IrqLine.may_want (g.H.SharedHandler.gave c.args.handlers.now)) c.args.lines.now c.args.self.now (record {
-  board = c.self.inside.board.now;
-  jobs = take c.self.inside.jobs.len (c.shift.new.jobs ++ drop (length c.shift.new.jobs) c.self.inside.jobs.items);
-  firsts = c.self.inside.firsts.items;
-})
+shifted : (g : given.Over) (c : After-shift g) → OneShift
+    (terms_of g.L.IrqLine.seen g.L.IrqLine.may_want (g.H.SharedHandler.gave c.args.handlers.now)) c.args.lines.now
+    c.args.self.now (record {
+      board = c.self.inside.board.now;
+      jobs = take c.self.inside.jobs.len (c.shift.new.jobs ++ drop (length c.shift.new.jobs) c.self.inside.jobs.items);
+      firsts = c.self.inside.firsts.items;
+    })
 shifted g c =
     let long : length c.shift.new.jobs ≡ length c.as_mut_slice-jobs.result.now = c.shift.auto.jobs in
-    one_shift c.requires c.self.view_is c.as_mut_slice-jobs.ensures.value (terms_of g.L.IrqLine.seen g.L.IrqLine.may_want (g.H.SharedHandler.gave c.args.handlers.now)) long c.shift.ensures
+    one_shift c.requires c.self.view_is c.as_mut_slice-jobs.ensures.value
+    (terms_of g.L.IrqLine.seen g.L.IrqLine.may_want (g.H.SharedHandler.gave c.args.handlers.now)) long
+    c.shift.ensures
     (whole_again c.self.inside.jobs.len c.shift.new.jobs c.self.inside.jobs.items (let e = c.as_mut_slice-jobs.ensures.len in omega (arith, long, e)))
 
 pub returns-clause-fit : goal.returns-clause-fit
