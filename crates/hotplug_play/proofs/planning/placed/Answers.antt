@@ -16,7 +16,8 @@ returns-clause-told g c =
 pub returns-in_err-take_events-clause-some : goal.returns-in_err-take_events-clause-some
 returns-in_err-take_events-clause-some g c =
     let told : List Notice → Type 0 = λ placings. Told g.N.Notifier.tells placings c.args.notify.now c.take_events.new.notify in
-    on_err _ c.from_residual-in_err-take_events.result (inl (up_to told c.args.board.now c.args.vectors c.args.events.now c.in_ok-fleet.fleet c.take_events.new.fleet
+    on_err _ c.from_residual-in_err-take_events.result (inl (up_to told c.args.board.now c.args.vectors c.args.events.now
+    c.in_ok-fleet.fleet c.take_events.new.fleet
     c.in_ok-fleet.ensures.first c.in_err-take_events.ensures.some
     (told_after g.N.Notifier.tells c.in_ok-fleet.fleet.said c.take_events.new.fleet.said c.args.notify.now c.new.new.notify
     c.take_events.new.notify c.in_ok-fleet.ensures.told c.take_events.ensures.told)))
