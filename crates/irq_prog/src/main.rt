@@ -1,6 +1,6 @@
 //! The program `genirq`: it hands its arguments, standard streams and the maker of its lines, those
-//! over the chips of their whole paths, to the body, and ends with the body's status. Handlers answer
-//! by the kinds of their devices, and the notifier by the processor.
+//! over the chips of their whole paths, to the body, and ends with the body's status. Handlers
+//! answer by the kinds of their devices, and the notifier by the processor.
 #![tactic(auto)]
 
 use board_lines::MakesChainLine;
