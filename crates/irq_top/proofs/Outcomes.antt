@@ -4,16 +4,14 @@ use Rattle.irq_base.specs.declared.devices.Answer.{Answer}
 use Rattle.irq_base.specs.declared.devices.Run.{Run}
 use Rattle.irq_base.specs.declared.reporting.LineReport.{LineReport}
 use Rattle.board_words.specs.declared.faults.FaultKind.{FaultKind}
-use Rattle.irq_hotplug.specs.declared.events.Event.{Event}
 use Rattle.irq_play.specs.declared.ending.PlayedEnd.{PlayedEnd}
 use Rattle.irq_play.specs.declared.ending.PlayedEnd.TheVariants as plays
-use Rattle.notifiers.specs.Told.{Notice}
 use Rattle.board_def.specs.Rules.{IsBoard}
 use Rattle.board_def.specs.Seen.{BoardSeen}
 use Rattle.irq_play.specs.declared.ending.WantedFor.TheVariants as wants
 use Rattle.irq_top.specs.declared.ending.Ending.{Ending}
 use Rattle.irq_top.specs.declared.ending.Ending.TheVariants as endings
-use Rattle.irq_top.specs.Commands.{CallsNobody, EndsAs, EndsIfFit, HotplugsAs, IsReadToEnd, IsSane, RunsAs, TakesBoard, TakesInput}
+use Rattle.irq_top.specs.Commands.{EndsAs, EndsIfFit, IsReadToEnd, IsSane, RunsAs, TakesBoard, TakesInput}
 use Rattle.irq_top.specs.Commands.{TellsPlay, TellsTaken}
 use Rattle.irq_top.specs.Ending.{ending_of_play, ending_of_refusal, is_read_fault_end}
 use Rattle.program_io.specs.Reading.{IsStated, ReadsBoard}
@@ -25,37 +23,41 @@ read_to_end None left b read = tt
 read_to_end (Some bytes) left b read = read.1
 
 module _ (nobody : Type 0) (OnBoard : BoardSeen → List LineReport → Option (List ℕ) → Option (List ℕ) → Ending → Type 0)
-    (sane : IsSane nobody OnBoard) (told left before now : Option (List ℕ)) (reports : List LineReport) where
+    (told left before now : Option (List ℕ)) (reports : List LineReport) where
   -- what was done with the board that was read
   taken : (ending : Ending) (b : BoardSeen) → ReadsBoard told left (Ok b) → IsStated told b → IsBoard b
       → OnBoard b reports before now ending → TakesInput nobody OnBoard told left reports before now ending
   taken ending b read stated keeps done =
       record { board = b; stated = stated; read = read_to_end told left b read; keeps_rules = keeps; done = done }
 
-  pub takes_board : (ending : Ending) (b : BoardSeen) → ReadsBoard told left (Ok b) → IsStated told b → IsBoard b
+  pub takes_board : (ending : Ending) → is_read_fault_end ending ≡ false → (b : BoardSeen) → ReadsBoard told left (Ok b) → IsStated told b → IsBoard b
       → OnBoard b reports before now ending → TakesBoard nobody OnBoard told left reports before now ending
-  takes_board endings.ReadFault b read stated keeps done = absurd (sane b reports before now done)
-  takes_board (endings.NoMemory wants.Making) b read stated keeps done = inr (taken (endings.NoMemory wants.Making) b read stated keeps done)
-  takes_board (endings.Board fault) b read stated keeps done = inr (taken (endings.Board fault) b read stated keeps done)
-  takes_board endings.Done b read stated keeps done = taken endings.Done b read stated keeps done
-  takes_board (endings.Unlawful line entry) b read stated keeps done = taken (endings.Unlawful line entry) b read stated keeps done
-  takes_board (endings.Malformed row) b read stated keeps done = taken (endings.Malformed row) b read stated keeps done
-  takes_board endings.Usage b read stated keeps done = taken endings.Usage b read stated keeps done
-  takes_board endings.WriteFault b read stated keeps done = taken endings.WriteFault b read stated keeps done
-  takes_board (endings.LogFull line len) b read stated keeps done = taken (endings.LogFull line len) b read stated keeps done
-  takes_board (endings.NoMemory wants.Step) b read stated keeps done = taken (endings.NoMemory wants.Step) b read stated keeps done
+  takes_board endings.ReadFault unread b read stated keeps done = cc
+  takes_board (endings.NoMemory wants.Making) unread b read stated keeps done = inr (taken (endings.NoMemory wants.Making) b read stated keeps done)
+  takes_board (endings.Board fault) unread b read stated keeps done = inr (taken (endings.Board fault) b read stated keeps done)
+  takes_board endings.Done unread b read stated keeps done = taken endings.Done b read stated keeps done
+  takes_board (endings.Unlawful line entry) unread b read stated keeps done = taken (endings.Unlawful line entry) b read stated keeps done
+  takes_board (endings.Malformed row) unread b read stated keeps done = taken (endings.Malformed row) b read stated keeps done
+  takes_board endings.Usage unread b read stated keeps done = taken endings.Usage b read stated keeps done
+  takes_board endings.WriteFault unread b read stated keeps done = taken endings.WriteFault b read stated keeps done
+  takes_board (endings.LogFull line len) unread b read stated keeps done = taken (endings.LogFull line len) b read stated keeps done
+  takes_board (endings.NoMemory wants.Step) unread b read stated keeps done = taken (endings.NoMemory wants.Step) b read stated keeps done
 
-  -- it came without a read fault
-  pub taken_unread : (ending : Ending) (b : BoardSeen) → OnBoard b reports before now ending → is_read_fault_end ending ≡ false
-  taken_unread endings.ReadFault b done = absurd (sane b reports before now done)
-  taken_unread _ b done = refl
+-- it came without a read fault
+pub taken_unread : (OnBoard : BoardSeen → List LineReport → Option (List ℕ) → Option (List ℕ) → Ending → Type 0) → IsSane OnBoard
+    → (before now : Option (List ℕ)) (reports : List LineReport) (ending : Ending) (b : BoardSeen) → OnBoard b reports before now ending
+    → is_read_fault_end ending ≡ false
+taken_unread OnBoard sane before now reports endings.ReadFault b done = absurd (sane b reports before now done)
+taken_unread OnBoard sane before now reports _ b done = refl
 
-pub runs_are_sane : (gave : Run → Answer → Type 0) (summary : Bool) → IsSane (Unit {0}) (RunsAs gave summary)
+pub plays_read_nothing : (end : PlayedEnd) → is_read_fault_end (ending_of_play end) ≡ false
+plays_read_nothing plays.Done = refl
+plays_read_nothing plays.WriteFault = refl
+plays_read_nothing (plays.LogFull line len) = refl
+plays_read_nothing (plays.NoMemory wanted) = refl
+
+pub runs_are_sane : (gave : Run → Answer → Type 0) (summary : Bool) → IsSane (RunsAs gave summary)
 runs_are_sane gave summary b reports before now none = none
-
-pub hotplugs_are_sane : (heard : List Run → Type 0) (placed : List Notice → Type 0) (vectors : ℕ) (events : List Event)
-    → IsSane (CallsNobody heard placed) (HotplugsAs heard placed vectors events)
-hotplugs_are_sane heard placed vectors events b reports before now none = none
 
 -- the call ends as the play did
 module _ (IsntFor : BoardSeen → Type 0) (nobody : Type 0) (kind : FaultKind)

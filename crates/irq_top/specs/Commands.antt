@@ -64,6 +64,12 @@ pub record RefusesInput (nobody : Type 0) (told left : Option (List ℕ)) (repor
   pub reports_are : reports ≡ []
   pub uncalled : nobody
 
+-- what a command does with a board is never a read fault
+abbrev pub IsSane : (BoardSeen → List LineReport → Option (List ℕ) → Option (List ℕ) → Ending
+    → Type 0) → Type 0
+IsSane OnBoard = (b : BoardSeen) (reports : List LineReport) (before now : Option (List ℕ))
+    → OnBoard b reports before now endings.ReadFault → ⊥
+
 -- what a command does with a board: with these reports, with this output before and now, and with
 -- this ending
 module _ (nobody : Type 0) (OnBoard : BoardSeen → List LineReport → Option (List ℕ)
@@ -89,11 +95,6 @@ module _ (nobody : Type 0) (OnBoard : BoardSeen → List LineReport → Option (
       RefusesInput nobody told left reports refusals.NoMemory
       ⊎ TakesInput told left reports before now (endings.NoMemory wants.Making)
   TakesBoard told left reports before now ending = TakesInput told left reports before now ending
-
-  -- what a command does with a board is never a read fault
-  abbrev pub IsSane : Type 0
-  IsSane = (b : BoardSeen) (reports : List LineReport) (before now : Option (List ℕ))
-      → OnBoard b reports before now endings.ReadFault → ⊥
 
 -- a board was played. If all is printed, or after a fault of the output, the play's headline holds;
 -- else it was played until a log was full, or until a step was refused memory

@@ -228,6 +228,7 @@ fn hotplug_board<O: Sink, H: Handler, M: MakesDomainLine, N: Notifier>(
     ensures write_fault { Counts (O.faults out.old) (O.faults out.new)
         (is_write_fault_end result.ending) }
     ensures silent { is_printing result.ending ≡ false → out.new ≡ out.old }
+    ensures unread { is_read_fault_end result.ending ≡ false }
 {
     match hotplug_and_print(alloc, board, vectors, events, maker, handlers, notify, out) {
         Ok(played) => Outcome::of_play(played),

@@ -1,7 +1,7 @@
 //! What the top call hands out.
-ghost use Rattle.std.specs.Prelude.{◌≡◌, []};
+ghost use Rattle.std.specs.Prelude.{◌≡◌, [], false};
 ghost use Rattle.board_stated.specs.TextOf.{whole};
-ghost use Rattle.irq_top.specs.Ending.{ending_of_play};
+ghost use Rattle.irq_top.specs.Ending.{ending_of_play, is_read_fault_end};
 
 use crate::ending::Ending;
 use board_words::{BoardFault, FaultKind};
@@ -35,6 +35,7 @@ impl Outcome {
     /// What a play hands out.
     pub(crate) fn of_play(played: PlayedBoard) -> Outcome
         ensures ending { result.ending ≡ ending_of_play played.end }
+        ensures unread { is_read_fault_end result.ending ≡ false }
         ensures reports { result.reports.reports ≡ played.reports.reports }
     {
         Outcome {
@@ -46,6 +47,7 @@ impl Outcome {
     /// An ending at which the board isn't for what is asked: the fault is the whole text's.
     pub(crate) fn refused(alloc: Global, kind: FaultKind) -> Outcome
         ensures ending { result.ending ≡ Ending.Board (whole kind) }
+        ensures unread { is_read_fault_end result.ending ≡ false }
         ensures reports { result.reports.reports ≡ [] }
     {
         Outcome::without_reports(alloc, Ending::Board(BoardFault { at: 0, kind }))

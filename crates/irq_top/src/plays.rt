@@ -38,8 +38,6 @@ impl OnBoard for Play {
         let summary = self.summary;
         Outcome::of_play(play_and_print(alloc, &board, summary, maker, handlers, out))
     }
-
-    ghost sane = { λ way heard b reports before now none. none };
 }
 
 /// `chained`: behind one demultiplexer.
@@ -67,8 +65,6 @@ impl OnBoard for Chain {
             Err(NotForChain) => Outcome::refused(alloc, FaultKind::NotForChain),
         }
     }
-
-    ghost sane = { λ way heard b reports before now none. none };
 }
 
 /// `sleep`: with a sleep from which the armed lines wake it.
@@ -98,6 +94,4 @@ impl OnBoard for Sleep<'_> {
             Err(NotForSleep) => Outcome::refused(alloc, FaultKind::NotForSleep),
         }
     }
-
-    ghost sane = { λ way heard b reports before now none. none };
 }

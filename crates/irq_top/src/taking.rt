@@ -23,8 +23,9 @@ pub(crate) trait OnBoard {
     ghost use Rattle.irq_base.specs.declared.reporting.LineReport.{LineReport};
     ghost use Rattle.irq_io.specs.Faults.{Counts};
     ghost use Rattle.board_def.specs.Seen.{BoardSeen};
-    ghost use Rattle.irq_top.specs.Commands.{IsSane, TellsPlay};
-    ghost use Rattle.irq_top.specs.Ending.{is_printed, is_printing, is_write_fault_end};
+    ghost use Rattle.irq_top.specs.Commands.{TellsPlay};
+    ghost use Rattle.irq_top.specs.Ending.{is_printed, is_printing, is_read_fault_end};
+    ghost use Rattle.irq_top.specs.Ending.{is_write_fault_end};
     ghost use Rattle.callbacks.specs.Heard.{Heard};
     ghost use Rattle.irq_play.specs.declared.ending.PlayedEnd.{PlayedEnd};
     ghost use Rattle.irq_top.specs.declared.ending.Ending.{Ending};
@@ -39,7 +40,7 @@ pub(crate) trait OnBoard {
     ghost tells: { Self → (Option Entry → Type 0) → BoardSeen → List LineReport → PlayedEnd
         → Type 0 };
 
-    /// Plays the board, and prints its log, or a summary.
+    /// Plays the board, and prints its log, or a summary. Nothing is read.
     fn play<O: Sink, H: Handler, M: MakesDomainLine>(
         self,
         alloc: Global,
@@ -55,10 +56,8 @@ pub(crate) trait OnBoard {
         ensures emptied { is_printed result.ending ≡ true → O.kept out.new ≡ [] }
         ensures write_fault { Counts (O.faults out.old) (O.faults out.new)
             (is_write_fault_end result.ending) }
-        ensures silent { is_printing result.ending ≡ false → out.new ≡ out.old };
-
-    /// It reads nothing.
-    ghost sane: { (way : Self) (heard : List Run → Type 0) → IsSane (does way heard) };
+        ensures silent { is_printing result.ending ≡ false → out.new ≡ out.old }
+        ensures unread { is_read_fault_end result.ending ≡ false };
 }
 
 /// Reads a board, plays it in this way, and prints it.

@@ -6,17 +6,18 @@ use Rattle.irq_top.proofs.commands.run.Goals as goal
 
 pub returns-in-Ok-clause-runs : goal.returns-in-Ok-clause-runs
 returns-in-Ok-clause-runs g c =
-    takes_board (Unit {0}) (RunsAs (g.D.SharedHandler.gave c.args.shared.now) c.args.summary)
-    (runs_are_sane (g.D.SharedHandler.gave c.args.shared.now) c.args.summary) (g.S.Source.left c.args.src.now)
+    takes_board (Unit {0}) (RunsAs (g.D.SharedHandler.gave c.args.shared.now) c.args.summary) (g.S.Source.left c.args.src.now)
     (g.S.Source.left c.read_input.new.src) (g.O.Sink.written c.args.out.now) (g.O.Sink.written c.run_board.new.out)
-    c.run_board.result.reports.reports
-    c.run_board.result.ending c.in-Ok.board c.in-Ok.ensures.content c.in-Ok.ensures.stated c.is_board.ensures.board c.run_board.ensures.runs
+    c.run_board.result.reports.reports c.run_board.result.ending
+    (taken_unread (RunsAs (g.D.SharedHandler.gave c.args.shared.now) c.args.summary)
+    (runs_are_sane (g.D.SharedHandler.gave c.args.shared.now) c.args.summary) (g.O.Sink.written c.args.out.now)
+    (g.O.Sink.written c.run_board.new.out) c.run_board.result.reports.reports c.run_board.result.ending c.in-Ok.board c.run_board.ensures.runs)
+    c.in-Ok.board c.in-Ok.ensures.content c.in-Ok.ensures.stated c.is_board.ensures.board c.run_board.ensures.runs
 
 pub returns-in-Ok-clause-read_fault : goal.returns-in-Ok-clause-read_fault
 returns-in-Ok-clause-read_fault g c =
     subst (λ (t : Bool). Counts (g.S.Source.faults c.args.src.now) (g.S.Source.faults c.read_input.new.src) t)
-    (sym (taken_unread (Unit {0}) (RunsAs (g.D.SharedHandler.gave c.args.shared.now) c.args.summary)
-    (runs_are_sane (g.D.SharedHandler.gave c.args.shared.now) c.args.summary) (g.S.Source.left c.args.src.now)
-    (g.S.Source.left c.read_input.new.src) (g.O.Sink.written c.args.out.now) (g.O.Sink.written c.run_board.new.out)
-    c.run_board.result.reports.reports c.run_board.result.ending c.in-Ok.board c.run_board.ensures.runs))
+    (sym (taken_unread (RunsAs (g.D.SharedHandler.gave c.args.shared.now) c.args.summary)
+    (runs_are_sane (g.D.SharedHandler.gave c.args.shared.now) c.args.summary) (g.O.Sink.written c.args.out.now)
+    (g.O.Sink.written c.run_board.new.out) c.run_board.result.reports.reports c.run_board.result.ending c.in-Ok.board c.run_board.ensures.runs))
     c.in-Ok.ensures.cause
