@@ -1,3 +1,4 @@
 mod Asked
+mod Buffers
 mod NoForm
 mod Outcomes

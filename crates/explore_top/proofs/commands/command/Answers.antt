@@ -16,3 +16,9 @@ returns-in-Ok-clause-unread g c = λ none.
     c.with_words.ensures.unread (subst (λ (words : List (String Global)). AsksNothing (map string_bytes words))
     (sym c.as_slice.ensures.value) (nothing_asked c.args.args (map string_bytes c.in-Ok.words.items)
     c.in-Ok.ensures.words none))
+
+pub returns-in-Ok-clause-unheard : goal.returns-in-Ok-clause-unheard
+returns-in-Ok-clause-unheard g c = λ none.
+    c.with_words.ensures.unheard (subst (λ (words : List (String Global)). AsksNothing (map string_bytes words))
+    (sym c.as_slice.ensures.value) (nothing_asked c.args.args (map string_bytes c.in-Ok.words.items)
+    c.in-Ok.ensures.words none))

@@ -25,3 +25,9 @@ returns-in-Ok-clause-does g c = λ asked asks.
     c.explore_main.ensures.does asked
     (subst (λ (words : List (Bor (List ℕ))). Asks (map (λ (w : Bor (List ℕ)). w.now) words) asked) (sym c.as_slice.ensures.value)
     (subst (λ (words : List (List ℕ)). Asks words asked) (sym c.in-Ok.ensures) asks))
+
+pub returns-in-Ok-clause-unheard : goal.returns-in-Ok-clause-unheard
+returns-in-Ok-clause-unheard g c = λ none.
+    c.explore_main.ensures.unheard
+    (subst (λ (words : List (Bor (List ℕ))). AsksNothing (map (λ (w : Bor (List ℕ)). w.now) words)) (sym c.as_slice.ensures.value)
+    (subst AsksNothing (sym c.in-Ok.ensures) none))
