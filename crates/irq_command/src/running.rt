@@ -43,8 +43,8 @@ pub struct Ended<R: Read + Drop, O: Write + Drop, E: Write + Drop> {
 
 /// Runs the program over its arguments as they come, its input, its output and its error stream.
 /// The output gets a buffer. If the status is 0 or 1, nothing is kept back there, and the writer
-/// has all of the output. The maker makes the lines that are played, run and checked; `handlers` are
-/// called by what is played, `shared` by the threads of `run`.
+/// has all of the output. The maker makes the lines that are played, run and checked; `handlers`
+/// are called by what is played, `shared` by the threads of `run`.
 pub fn run<
     T: Threads + Wait + Sync,
     R: Read + Drop,

@@ -2,8 +2,8 @@
 -- what it has left of them; `before` and `now` are what the output has; `reports` are the histories
 -- that are handed out. Of runs, the newest first, `heard` says that handlers were called once for
 -- each, in this order, and for no other; of a run and an answer `gave` says that the handlers which
--- threads share gave it in a call; and of placings `placed` says that the notifier was told of these,
--- in this order, and of no other.
+-- threads share gave it in a call; and of placings `placed` says that the notifier was told of
+-- these, in this order, and of no other.
 use Rattle.std.specs.Prelude.{◌≡◌, ◌⊎◌, ℕ, Bool, true, false, Option, Some, None, Err, List, []}
 use Rattle.irq_base.specs.declared.devices.Answer.{Answer}
 use Rattle.irq_base.specs.declared.devices.Run.{Run}
@@ -206,28 +206,29 @@ Checks why told left reports before now _ = ⊥
 -- What each command does. `run`, `play`, `chained`, `hotplug` and `sleep` take a board, and run it,
 -- play it, or play it behind one demultiplexer, with processors that go offline, or with a sleep;
 -- `check` judges a log; `gen N` plays the board that the number generates, and prints its summary.
--- `hotplug` alone tells the notifier of anything, `run` and `check` call no handler but shared ones.
-module _ (heard : List Run → Type 0) (gave : Run → Answer → Type 0) (placed : List Notice → Type 0)
-    where
-  abbrev pub Does : Command → Option (List ℕ) → Option (List ℕ) → List LineReport
-      → Option (List ℕ) → Option (List ℕ) → Ending → Type 0
-  Does (commands.Run summary) told left reports before now ending =
-      TakesBoard (Unit {0}) (RunsAs gave summary) told left reports before now ending
-      × CallsNobody heard placed
-  Does (commands.Play summary) told left reports before now ending =
-      TakesBoard (heard []) (PlaysAs heard summary) told left reports before now ending
-      × placed []
-  Does (commands.Check why) told left reports before now ending =
-      Checks why told left reports before now ending × CallsNobody heard placed
-  Does (commands.Gen n) told left reports before now ending =
-      PlaysAs heard true (generated n) reports before now ending × placed []
-  Does commands.Chained told left reports before now ending =
-      TakesBoard (heard []) (ChainsAs heard) told left reports before now ending × placed []
-  Does (commands.Hotplug vectors events) told left reports before now ending =
-      TakesBoard (CallsNobody heard placed) (HotplugsAs heard placed vectors events) told left
-      reports before now ending
-  Does (commands.Sleep armed) told left reports before now ending =
-      TakesBoard (heard []) (SleepsAs heard armed) told left reports before now ending × placed []
+-- `hotplug` alone tells the notifier of anything, `run` and `check` call no handler but shared
+-- ones.
+module _ (heard : List Run → Type 0) (gave : Run → Answer → Type 0) where
+  module _ (placed : List Notice → Type 0) where
+    abbrev pub Does : Command → Option (List ℕ) → Option (List ℕ) → List LineReport
+        → Option (List ℕ) → Option (List ℕ) → Ending → Type 0
+    Does (commands.Run summary) told left reports before now ending =
+        TakesBoard (Unit {0}) (RunsAs gave summary) told left reports before now ending
+        × CallsNobody heard placed
+    Does (commands.Play summary) told left reports before now ending =
+        TakesBoard (heard []) (PlaysAs heard summary) told left reports before now ending
+        × placed []
+    Does (commands.Check why) told left reports before now ending =
+        Checks why told left reports before now ending × CallsNobody heard placed
+    Does (commands.Gen n) told left reports before now ending =
+        PlaysAs heard true (generated n) reports before now ending × placed []
+    Does commands.Chained told left reports before now ending =
+        TakesBoard (heard []) (ChainsAs heard) told left reports before now ending × placed []
+    Does (commands.Hotplug vectors events) told left reports before now ending =
+        TakesBoard (CallsNobody heard placed) (HotplugsAs heard placed vectors events) told left
+        reports before now ending
+    Does (commands.Sleep armed) told left reports before now ending =
+        TakesBoard (heard []) (SleepsAs heard armed) told left reports before now ending × placed []
 
 -- which step of a play was refused memory; `may_want` says for which entry that is due a line may
 -- want memory, though its history has room

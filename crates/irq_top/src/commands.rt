@@ -114,8 +114,9 @@ fn run<
 ) -> Outcome
 where
     M::Line: Send + Sync,
-    ensures runs { TakesBoard (Unit {0}) (RunsAs (D.gave shared.now) summary) (S.left src.old) (S.left src.new)
-        result.reports.reports (O.written out.old) (O.written out.new) result.ending }
+    ensures runs { TakesBoard (Unit {0}) (RunsAs (D.gave shared.now) summary) (S.left src.old)
+        (S.left src.new) result.reports.reports (O.written out.old) (O.written out.new)
+        result.ending }
     ensures read_fault { Counts (S.faults src.old) (S.faults src.new)
         (is_read_fault_end result.ending) }
     ensures emptied { is_printed result.ending ≡ true → O.kept out.new ≡ [] }
@@ -151,8 +152,8 @@ fn run_board<
 ) -> Outcome
 where
     M::Line: Send + Sync,
-    ensures runs { RunsAs (D.gave shared.now) summary board.now result.reports.reports (O.written out.old)
-        (O.written out.new) result.ending }
+    ensures runs { RunsAs (D.gave shared.now) summary board.now result.reports.reports
+        (O.written out.old) (O.written out.new) result.ending }
     ensures emptied { is_printed result.ending ≡ true → O.kept out.new ≡ [] }
     ensures write_fault { Counts (O.faults out.old) (O.faults out.new)
         (is_write_fault_end result.ending) }
@@ -247,7 +248,8 @@ fn play_generated<O: Sink, H: Handler, M: MakesDomainLine>(
     ensures generates { PlaysAs (λ runs. Heard H.hears runs handlers.old handlers.new) true
         (generated n) result.reports.reports (O.written out.old) (O.written out.new)
         result.ending }
-    ensures wanted { TellsPlay (TellsStep M.Line.may_want) (generated n) result.reports.reports result.ending }
+    ensures wanted { TellsPlay (TellsStep M.Line.may_want) (generated n) result.reports.reports
+        result.ending }
     ensures emptied { is_printed result.ending ≡ true → O.kept out.new ≡ [] }
     ensures write_fault { Counts (O.faults out.old) (O.faults out.new)
         (is_write_fault_end result.ending) }

@@ -15,7 +15,9 @@ pub fn error_row(row: &mut TextRow, ending: Ending)
     match ending {
         Ending::Done | Ending::Unlawful { .. } | Ending::Malformed { .. } => {}
         Ending::Usage => {
-            row.push_bytes(b"usage: genirq run [--summary] | play [--summary] | check [--why] | gen N");
+            row.push_bytes(
+                b"usage: genirq run [--summary] | play [--summary] | check [--why] | gen N",
+            );
             row.push_bytes(b" | chained | hotplug V EVENT... | sleep LINE...\n");
         }
         Ending::Board(fault) => push_fault(row, fault),

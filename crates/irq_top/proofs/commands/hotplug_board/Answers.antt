@@ -14,7 +14,8 @@ returns-in-Ok-clause-plays g c =
     ends_as_played (λ (b : BoardSeen). IsForHotplug b → ⊥)
     (CallsNobody (λ runs. Heard g.H.Handler.hears runs c.args.handlers.now c.hotplug_and_print.new.handlers)
     (λ placings. Told g.N.Notifier.tells placings c.args.notify.now c.hotplug_and_print.new.notify)) faults.NotForHotplug
-    (λ (b : BoardSeen). HotplugsBoard b c.args.vectors c.args.events.now (λ runs. Heard g.H.Handler.hears runs c.args.handlers.now c.hotplug_and_print.new.handlers)
+    (λ (b : BoardSeen). HotplugsBoard b c.args.vectors c.args.events.now
+    (λ runs. Heard g.H.Handler.hears runs c.args.handlers.now c.hotplug_and_print.new.handlers)
     (λ placings. Told g.N.Notifier.tells placings c.args.notify.now c.hotplug_and_print.new.notify)) c.args.board (g.O.Sink.written c.args.out.now)
     (g.O.Sink.written c.hotplug_and_print.new.out) c.in-Ok.played.reports.reports c.of_play.result.reports.reports
     c.in-Ok.played.end c.of_play.result.ending c.of_play.ensures.ending c.of_play.ensures.reports c.in-Ok.ensures.plays

@@ -23,4 +23,5 @@ returns-clause-runs g c =
     let before = g.O.Sink.written c.args.out.now in
     let now = g.O.Sink.written c.run_and_print-ran.new.out in
     subst (RunsAs (g.D.SharedHandler.gave c.args.shared.now) c.args.summary c.args.board.now reports before now) (sym c.from.ensures)
-    (runs_as (g.D.SharedHandler.gave c.args.shared.now) c.args.summary c.args.board.now reports before now c.run_and_print-ran.result.end c.run_and_print-ran.ensures.runs)
+    (runs_as (g.D.SharedHandler.gave c.args.shared.now) c.args.summary c.args.board.now reports before now
+    c.run_and_print-ran.result.end c.run_and_print-ran.ensures.runs)

@@ -10,7 +10,9 @@ use Rattle.irq_top.proofs.plays.ChainOnBoard.play.Goals as goal
 pub returns-in-Ok-clause-does : goal.returns-in-Ok-clause-does
 returns-in-Ok-clause-does g c =
     ends_as_played (λ (b : BoardSeen). is_for_chain b ≡ false) (Heard g.H.Handler.hears [] c.args.handlers.now c.chained_and_print.new.handlers)
-    faults.NotForChain (λ (b : BoardSeen). ChainsBoard b (λ runs. Heard g.H.Handler.hears runs c.args.handlers.now c.chained_and_print.new.handlers)) c.args.board (g.O.Sink.written c.args.out.now)
+    faults.NotForChain (λ (b : BoardSeen). ChainsBoard b
+    (λ runs. Heard g.H.Handler.hears runs c.args.handlers.now c.chained_and_print.new.handlers)) c.args.board
+    (g.O.Sink.written c.args.out.now)
     (g.O.Sink.written c.chained_and_print.new.out) c.in-Ok.played.reports.reports c.of_play.result.reports.reports
     c.in-Ok.played.end c.of_play.result.ending c.of_play.ensures.ending c.of_play.ensures.reports c.in-Ok.ensures.plays
 

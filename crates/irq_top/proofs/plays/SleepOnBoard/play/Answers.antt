@@ -11,7 +11,9 @@ pub returns-in-Ok-clause-does : goal.returns-in-Ok-clause-does
 returns-in-Ok-clause-does g c =
     ends_as_played (λ (b : BoardSeen). is_for_sleep b c.args.self.armed.now ≡ false)
     (Heard g.H.Handler.hears [] c.args.handlers.now c.sleep_and_print.new.handlers) faults.NotForSleep
-    (λ (b : BoardSeen). SleepsBoard b c.args.self.armed.now (λ runs. Heard g.H.Handler.hears runs c.args.handlers.now c.sleep_and_print.new.handlers)) c.args.board (g.O.Sink.written c.args.out.now)
+    (λ (b : BoardSeen). SleepsBoard b c.args.self.armed.now
+    (λ runs. Heard g.H.Handler.hears runs c.args.handlers.now c.sleep_and_print.new.handlers)) c.args.board
+    (g.O.Sink.written c.args.out.now)
     (g.O.Sink.written c.sleep_and_print.new.out) c.in-Ok.played.reports.reports c.of_play.result.reports.reports
     c.in-Ok.played.end c.of_play.result.ending c.of_play.ensures.ending c.of_play.ensures.reports c.in-Ok.ensures.plays
 
