@@ -72,8 +72,7 @@ fn judge_log<M: MakesDomainLine>(
 {
     let (domains, layout) = lay(alloc, board)?;
     let maker = OverDomains::of_board(maker, &domains, board);
-    let verdict =
-        check_log::<M::Line, OverDomains<'_, M>>(alloc, board, &layout, &maker, log)?;
+    let verdict = check_log::<M::Line, OverDomains<'_, M>>(alloc, board, &layout, &maker, log)?;
     if !why {
         return Ok(Judgement { verdict, why: None });
     }
