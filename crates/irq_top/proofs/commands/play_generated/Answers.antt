@@ -1,0 +1,14 @@
+use Rattle.std.proofs.Common.{◌≡◌, IfOk, List, true, subst}
+use Rattle.irq_base.specs.declared.devices.Run.{Run}
+use Rattle.board_gen.specs.Generated.{generated}
+use Rattle.callbacks.specs.Heard.{Heard}
+use Rattle.irq_top.specs.Commands.{PlaysAs}
+use Rattle.irq_top.proofs.commands.play_generated.Goals as goal
+
+pub returns-in-Ok-clause-generates : goal.returns-in-Ok-clause-generates
+returns-in-Ok-clause-generates g c =
+    let made = subst (λ told. IfOk told (λ b. b ≡ generated c.args.n)) c.in-Ok.is c.generate.ensures in
+    let heard = λ (runs : List Run). Heard g.H.Handler.hears runs c.args.handlers.now c.play.new.handlers in
+    subst (λ b. PlaysAs heard true b c.play.result.reports.reports (g.O.Sink.written c.args.out.now) (g.O.Sink.written c.play.new.out)
+        c.play.result.ending)
+    made c.play.ensures.does
