@@ -39,12 +39,11 @@ returns-in-Sleep-clause-does g c =
     subst (λ (asked : Command). Does heard (g.D.SharedHandler.gave c.args.shared.now)
     (λ placings. Told g.N.Notifier.tells placings c.args.notify.now c.args.notify.now) asked (g.S.Source.left c.args.src.now)
     (g.S.Source.left c.take_board-in-Sleep.new.src) c.take_board-in-Sleep.result.reports.reports (g.O.Sink.written c.args.out.now)
-    (g.O.Sink.written c.take_board-in-Sleep.new.out) c.take_board-in-Sleep.result.ending) (sym c.in-Sleep.is)
-    (
+    (g.O.Sink.written c.take_board-in-Sleep.new.out) c.take_board-in-Sleep.result.ending) (sym c.in-Sleep.is) (
       subst (λ (armed : List LineNo). TakesBoard (heard []) (SleepsAs heard armed)
-      (g.S.Source.left c.args.src.now) (g.S.Source.left c.take_board-in-Sleep.new.src) c.take_board-in-Sleep.result.reports.reports
-      (g.O.Sink.written c.args.out.now) (g.O.Sink.written c.take_board-in-Sleep.new.out) c.take_board-in-Sleep.result.ending)
-      c.as_slice-armed.ensures.value c.take_board-in-Sleep.ensures.takes,
+          (g.S.Source.left c.args.src.now) (g.S.Source.left c.take_board-in-Sleep.new.src) c.take_board-in-Sleep.result.reports.reports
+          (g.O.Sink.written c.args.out.now) (g.O.Sink.written c.take_board-in-Sleep.new.out) c.take_board-in-Sleep.result.ending)
+          c.as_slice-armed.ensures.value c.take_board-in-Sleep.ensures.takes,
       refl,
     )
 

@@ -10,5 +10,5 @@ returns-in-Ok-clause-generates g c =
     let made = subst (λ told. IfOk told (λ b. b ≡ generated c.args.n)) c.in-Ok.is c.generate.ensures in
     let heard = λ (runs : List Run). Heard g.H.Handler.hears runs c.args.handlers.now c.play.new.handlers in
     subst (λ b. PlaysAs heard true b c.play.result.reports.reports (g.O.Sink.written c.args.out.now) (g.O.Sink.written c.play.new.out)
-        c.play.result.ending)
+    c.play.result.ending)
     made c.play.ensures.does
