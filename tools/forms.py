@@ -58,7 +58,9 @@ def reads_as_genirq(words):
     name, rest = (words[0], words[1:]) if words else ("", [])
     if name in ("play", "run"):
         return rest in ([], ["--summary"])
-    if name in ("check", "chained"):
+    if name == "check":
+        return rest in ([], ["--why"])
+    if name == "chained":
         return not rest
     if name == "hotplug":
         return bool(rest) and is_number(rest[0], 1, 64) and len(rest) <= MOST_WORDS + 1 and all(map(is_event, rest[1:]))
