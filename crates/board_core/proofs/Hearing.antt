@@ -1,7 +1,9 @@
 -- The handlers were called for the runs that the moves of a system ended.
-use Rattle.std.proofs.Common.{◌≡◌, Option, List, [], ◌∷◌, ◌++◌, length, drop, reverse, refl, sym, ap, ◌∙◌, subst}
+use Rattle.std.proofs.Common.{◌≡◌, Option, List, [], ◌∷◌, ◌++◌, length, drop, reverse, refl, sym, ap, ◌∙◌, subst, Result, Ok, Err}
 use Rattle.std.proofs.Math.Seq.{drop-append_seam}
 use Rattle.std.proofs.lemmas.List.{append-nil, append_assoc, reverse-append, reverse-reverse}
+use Rattle.irq_line.specs.declared.answers.StepRefused.TheVariants as refusals
+use Rattle.irq_line.specs.declared.answers.StepRefused.{StepRefused}
 use Rattle.irq_base.specs.declared.devices.Run.{Run}
 use Rattle.irq_base.specs.declared.entries.Actor.{Actor}
 use Rattle.callbacks.specs.Heard.{Heard}
@@ -52,33 +54,33 @@ module _ (old new : SystemSeen) where
   since_same same = since_moves [] (ap (λ (s : SystemSeen). s.log) same ∙ sym (append-nil old.log))
 
 -- one turn more: its own run, if it ended one, and those before
-pub since_turned : (first old new : SystemSeen) (due : Option Move) (turn : Turn) → StepsBy old due turn new → Settles first old
+pub since_turned : (first old new : SystemSeen) (due : Option Move) (turn : Result Turn StepRefused) → StepsBy old due turn new → Settles first old
     → runs_since first new ≡ runs_by_turn old turn ++ runs_since first old
-since_turned first old new due (turns.Moved line e) t s =
+since_turned first old new due (Ok (turns.Moved line e)) t s =
     let m : Move = (line, e) in
     let log : new.log ≡ first.log ++ reverse (m ∷ s.moves) = t.log ∙ (ap (λ (g : List Move). g ++ m ∷ []) s.log
     ∙ (append_assoc first.log (reverse s.moves) (m ∷ []) ∙ ap (λ (g : List Move). first.log ++ g) (sym (reverse-append (m ∷ []) s.moves)))) in
     since_moves first new (m ∷ s.moves) log
     ∙ (ap (λ (ls : List BoardLine). runs_by_move ls m ++ runs_from (board_lines first.lines) s.moves) (sym s.lines)
     ∙ ap (λ (runs : List Run). runs_by_move (board_lines old.lines) m ++ runs) (sym (since_settled first old s)))
-since_turned first old new due turns.NotYet t s = ap (λ (x : SystemSeen). runs_since first x) t.1
-since_turned first old new due (turns.Full line len) t s = ap (λ (x : SystemSeen). runs_since first x) t.1
-since_turned first old new due turns.NoMemory t s = ap (λ (x : SystemSeen). runs_since first x) t
+since_turned first old new due (Ok turns.NotYet) t s = ap (λ (x : SystemSeen). runs_since first x) t.1
+since_turned first old new due (Err (refusals.Full line len)) t s = ap (λ (x : SystemSeen). runs_since first x) t.1
+since_turned first old new due (Err refusals.NoMemory) t s = ap (λ (x : SystemSeen). runs_since first x) t
 
 -- ---- the runs of a play of a system, after a turn and after a settling
 
 -- a turn is a step on its actor's line
-pub step_of_turn : (old new : SystemSeen) (a : Actor) (turn : Turn) → Turns old a turn new → StepsBy old (move_of old a) turn new
-step_of_turn old new a (turns.Moved line e) t = t
-step_of_turn old new a turns.NotYet t = t
-step_of_turn old new a (turns.Full line len) t = t
-step_of_turn old new a turns.NoMemory t = t.1
+pub step_of_turn : (old new : SystemSeen) (a : Actor) (turn : Result Turn StepRefused) → Turns old a turn new → StepsBy old (move_of old a) turn new
+step_of_turn old new a (Ok (turns.Moved line e)) t = t
+step_of_turn old new a (Ok turns.NotYet) t = t
+step_of_turn old new a (Err (refusals.Full line len)) t = t
+step_of_turn old new a (Err refusals.NoMemory) t = t.1
 
-pub step_of_turn_by : (old new : SystemSeen) (due : Option Move) (turn : Turn) → TurnsBy old due turn new → StepsBy old due turn new
-step_of_turn_by old new due (turns.Moved line e) t = t
-step_of_turn_by old new due turns.NotYet t = t
-step_of_turn_by old new due (turns.Full line len) t = t
-step_of_turn_by old new due turns.NoMemory t = t.1
+pub step_of_turn_by : (old new : SystemSeen) (due : Option Move) (turn : Result Turn StepRefused) → TurnsBy old due turn new → StepsBy old due turn new
+step_of_turn_by old new due (Ok (turns.Moved line e)) t = t
+step_of_turn_by old new due (Ok turns.NotYet) t = t
+step_of_turn_by old new due (Err (refusals.Full line len)) t = t
+step_of_turn_by old new due (Err refusals.NoMemory) t = t.1
 
 module _ (old new : SystemSeen) (lines : board_lines old.lines ≡ lines_of old.board (reverse old.log)) where
   more_moves : (moves : List Move) → new.board ≡ old.board → new.log ≡ old.log ++ reverse moves
@@ -91,13 +93,13 @@ module _ (old new : SystemSeen) (lines : board_lines old.lines ≡ lines_of old.
       ∙ ap (λ (ls : List BoardLine). runs_from ls moves ++ runs_in old) (sym lines)))
 
   -- after a turn: its own run, if it ended one, and those before
-  pub runs_turned : (due : Option Move) (turn : Turn) → StepsBy old due turn new → runs_in new ≡ runs_by_turn old turn ++ runs_in old
-  runs_turned due (turns.Moved line e) t =
+  pub runs_turned : (due : Option Move) (turn : Result Turn StepRefused) → StepsBy old due turn new → runs_in new ≡ runs_by_turn old turn ++ runs_in old
+  runs_turned due (Ok (turns.Moved line e)) t =
       more_moves ((line, e) ∷ []) t.board t.log
       ∙ ap (λ (runs : List Run). runs ++ runs_in old) (append-nil (runs_by_move (board_lines old.lines) (line, e)))
-  runs_turned due turns.NotYet t = ap (λ (s : SystemSeen). runs_in s) t.1
-  runs_turned due (turns.Full line len) t = ap (λ (s : SystemSeen). runs_in s) t.1
-  runs_turned due turns.NoMemory t = ap (λ (s : SystemSeen). runs_in s) t
+  runs_turned due (Ok turns.NotYet) t = ap (λ (s : SystemSeen). runs_in s) t.1
+  runs_turned due (Err (refusals.Full line len)) t = ap (λ (s : SystemSeen). runs_in s) t.1
+  runs_turned due (Err refusals.NoMemory) t = ap (λ (s : SystemSeen). runs_in s) t
 
   -- after a settling: those since it began, and those before
   pub runs_settled : new.board ≡ old.board → (s : Settles old new) → runs_in new ≡ runs_since old new ++ runs_in old
@@ -114,7 +116,7 @@ module _ {H : Type 0} (hears : H → Run → H → Type 0) where
   heard_fresh s f h = heard_none h (runs_in s) (ap (λ (g : List Move). runs_of s.board (reverse g)) f.log)
 
   -- the calls for the runs of a play, and those for what a turn or a settling ended after it
-  pub heard_turned : (old new : SystemSeen) (due : Option Move) (turn : Turn) → StepsBy old due turn new
+  pub heard_turned : (old new : SystemSeen) (due : Option Move) (turn : Result Turn StepRefused) → StepsBy old due turn new
       → board_lines old.lines ≡ lines_of old.board (reverse old.log) → (h k m : H) → Heard hears (runs_in old) h k
       → Heard hears (runs_by_turn old turn) k m → Heard hears (runs_in new) h m
   heard_turned old new due turn t lines h k m before now =
@@ -132,7 +134,7 @@ module _ {H : Type 0} (hears : H → Run → H → Type 0) where
   pub since_begun : (s : SystemSeen) (h : H) → Heard hears (runs_since s s) h h
   since_begun s h = heard_none h (runs_since s s) (since_same s s refl)
 
-  pub since_more : (first old new : SystemSeen) (due : Option Move) (turn : Turn) → StepsBy old due turn new → Settles first old → (h k m : H)
+  pub since_more : (first old new : SystemSeen) (due : Option Move) (turn : Result Turn StepRefused) → StepsBy old due turn new → Settles first old → (h k m : H)
       → Heard hears (runs_since first old) h k → Heard hears (runs_by_turn old turn) k m → Heard hears (runs_since first new) h m
   since_more first old new due turn t s h k m before now =
       subst (λ (runs : List Run). Heard hears runs h m) (sym (since_turned first old new due turn t s))

@@ -177,18 +177,18 @@ module _ {L : Type 0} {view : SystemSeen} (system : KeptSystem view) {a : Actor}
         pieced = pieced;
       }
 
-  pub steps_so : (turn : Turn) → turn ≡ turn_of step.number step.answer
+  pub steps_so : (turn : Result Turn StepRefused) → turn ≡ turn_of step.number step.answer
       → StepsBy view (due_on (slice_get (board_lines view.lines) stand.line) a) turn (seen_of board layout step.lines step.order)
   steps_so turn same =
-      subst (λ (t : Turn). StepsBy view (due_on (slice_get (board_lines view.lines) stand.line) a) t (seen_of board layout step.lines step.order))
+      subst (λ (t : Result Turn StepRefused). StepsBy view (due_on (slice_get (board_lines view.lines) stand.line) a) t (seen_of board layout step.lines step.order))
       (sym same) (turned L system can step)
 
   -- a refusal of the place is one of the system
-  pub wants_so : (may_want : Option Entry → Type 0) (turn : Turn) → turn ≡ turn_of step.number step.answer
+  pub wants_so : (may_want : Option Entry → Type 0) (turn : Result Turn StepRefused) → turn ≡ turn_of step.number step.answer
       → StepWants may_want lines (length system.order) stand.line a step.answer
       → WantsOn may_want view (slice_get (board_lines view.lines) stand.line) a turn
   wants_so may_want turn same wants =
-      subst (λ (t : Turn). WantsOn may_want view (slice_get (board_lines view.lines) stand.line) a t) (sym same) (by_answer step.answer wants)
+      subst (λ (t : Result Turn StepRefused). WantsOn may_want view (slice_get (board_lines view.lines) stand.line) a t) (sym same) (by_answer step.answer wants)
     where
       by_answer : (r : Result (Stepped L) StepRefused) → StepWants may_want lines (length system.order) stand.line a r
           → WantsOn may_want view (slice_get (board_lines view.lines) stand.line) a (turn_of step.number r)
@@ -206,8 +206,8 @@ module _ {L : Type 0} {view : SystemSeen} (system : KeptSystem view) {a : Actor}
           })
 
   -- the run that ended at the place is the turn's
-  pub runs_so : (turn : Turn) → turn ≡ turn_of step.number step.answer → runs_at lines stand.line step.answer ≡ runs_by_turn view turn
-  runs_so turn same = by_answer step.answer ∙ ap (λ (t : Turn). runs_by_turn view t) (sym same)
+  pub runs_so : (turn : Result Turn StepRefused) → turn ≡ turn_of step.number step.answer → runs_at lines stand.line step.answer ≡ runs_by_turn view turn
+  runs_so turn same = by_answer step.answer ∙ ap (λ (t : Result Turn StepRefused). runs_by_turn view t) (sym same)
     where
       by_answer : (r : Result (Stepped L) StepRefused) → runs_at lines stand.line r ≡ runs_by_turn view (turn_of step.number r)
       by_answer (Ok (stepped.Added e)) =

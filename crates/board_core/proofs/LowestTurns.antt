@@ -1,7 +1,9 @@
 -- Turns of the lowest actor that can move: a play after its picks, and a settling.
-use Rattle.std.proofs.Common.{◌≡◌, ℕ, ◌<◌, IsSome, Option}
+use Rattle.std.proofs.Common.{◌≡◌, ℕ, ◌<◌, IsSome, Option, Result, Ok, Err}
 use Rattle.std.proofs.Common.{Some, None, List, [], ◌∷◌, ◌++◌, reverse, refl, sym, ap, ◌∙◌, subst}
 use Rattle.std.proofs.lemmas.List.{append-nil, append_assoc, reverse-append}
+use Rattle.irq_line.specs.declared.answers.StepRefused.TheVariants as refusals
+use Rattle.irq_line.specs.declared.answers.StepRefused.{StepRefused}
 use Rattle.irq_base.specs.declared.entries.Actor.{Actor}
 use Rattle.irq_base.specs.declared.entries.Entry.{Entry}
 use Rattle.irq_base.specs.declared.numbers.LineNo.{LineNo}
@@ -13,7 +15,6 @@ use Rattle.board_core.specs.Seen.{SystemSeen, board_lines}
 use Rattle.board_core.specs.Turns.{Moves, IsFullFor, TurnsBy, lowest_move}
 use Rattle.board_core.specs.declared.turns.Turn.{Turn}
 use Rattle.board_core.specs.declared.turns.Turn.TheVariants as turns
-use Rattle.board_core.specs.declared.turns.PlayEnd.TheVariants as ends
 use Rattle.board_core.proofs.Room.{room_of, room_of_moved}
 use Rattle.board_core.proofs.Underway.{more, is_full, refused}
 
@@ -22,28 +23,28 @@ lowest_next s m is = ap (λ (o : Option Move). with_picks [] o) is
 
 -- a turn of the lowest actor that can move
 pub record LowestTurn (old new : SystemSeen) : Type 0 where
-  pub turn : Turn
+  pub turn : Result Turn StepRefused
   pub turns : TurnsBy old (lowest_move old) turn new
 
-abbrev pub lowest_turn : {old new : SystemSeen} (turn : Turn) → TurnsBy old (lowest_move old) turn new → LowestTurn old new
+abbrev pub lowest_turn : {old new : SystemSeen} (turn : Result Turn StepRefused) → TurnsBy old (lowest_move old) turn new → LowestTurn old new
 lowest_turn turn turns = record { turn = turn; turns = turns }
 
-same_board : (old new : SystemSeen) (due : Option Move) (turn : Turn) → TurnsBy old due turn new → new.board ≡ old.board
-same_board old new due (turns.Moved line e) t = t.board
-same_board old new due turns.NotYet t = ap (λ (s : SystemSeen). s.board) t.1
-same_board old new due (turns.Full line len) t = ap (λ (s : SystemSeen). s.board) t.1
-same_board old new due turns.NoMemory t = ap (λ (s : SystemSeen). s.board) t.1
+same_board : (old new : SystemSeen) (due : Option Move) (turn : Result Turn StepRefused) → TurnsBy old due turn new → new.board ≡ old.board
+same_board old new due (Ok (turns.Moved line e)) t = t.board
+same_board old new due (Ok turns.NotYet) t = ap (λ (s : SystemSeen). s.board) t.1
+same_board old new due (Err (refusals.Full line len)) t = ap (λ (s : SystemSeen). s.board) t.1
+same_board old new due (Err refusals.NoMemory) t = ap (λ (s : SystemSeen). s.board) t.1
 
-same_layout : (old new : SystemSeen) (due : Option Move) (turn : Turn) → TurnsBy old due turn new → new.layout ≡ old.layout
-same_layout old new due (turns.Moved line e) t = t.layout
-same_layout old new due turns.NotYet t = ap (λ (s : SystemSeen). s.layout) t.1
-same_layout old new due (turns.Full line len) t = ap (λ (s : SystemSeen). s.layout) t.1
-same_layout old new due turns.NoMemory t = ap (λ (s : SystemSeen). s.layout) t.1
+same_layout : (old new : SystemSeen) (due : Option Move) (turn : Result Turn StepRefused) → TurnsBy old due turn new → new.layout ≡ old.layout
+same_layout old new due (Ok (turns.Moved line e)) t = t.layout
+same_layout old new due (Ok turns.NotYet) t = ap (λ (s : SystemSeen). s.layout) t.1
+same_layout old new due (Err (refusals.Full line len)) t = ap (λ (s : SystemSeen). s.layout) t.1
+same_layout old new due (Err refusals.NoMemory) t = ap (λ (s : SystemSeen). s.layout) t.1
 
 module _ {old new : SystemSeen} (t : LowestTurn old new) where
   -- what holds if that was answered
-  pub answered : (turn : Turn) → t.turn ≡ turn → TurnsBy old (lowest_move old) turn new
-  answered turn same = subst (λ (x : Turn). TurnsBy old (lowest_move old) x new) same t.turns
+  pub answered : (turn : Result Turn StepRefused) → t.turn ≡ turn → TurnsBy old (lowest_move old) turn new
+  answered turn same = subst (λ (x : Result Turn StepRefused). TurnsBy old (lowest_move old) x new) same t.turns
 
   pub lowest_keeps_board : new.board ≡ old.board
   lowest_keeps_board = same_board old new (lowest_move old) t.turn t.turns
@@ -53,42 +54,42 @@ module _ {old new : SystemSeen} (t : LowestTurn old new) where
 
   -- ---- of a play that is underway
 
-  pub lowest_moved : {picks : List Actor} {line : LineNo} {e : Entry} → IsUnderway old picks [] → t.turn ≡ turns.Moved line e → IsUnderway new picks []
+  pub lowest_moved : {picks : List Actor} {line : LineNo} {e : Entry} → IsUnderway old picks [] → t.turn ≡ Ok (turns.Moved line e) → IsUnderway new picks []
   lowest_moved {picks} {line} {e} u same =
-      let moves : Moves old (lowest_move old) (line, e) new = answered (turns.Moved line e) same in
+      let moves : Moves old (lowest_move old) (line, e) new = answered (Ok (turns.Moved line e)) same in
       more old new (lowest_move old) (line, e) picks [] [] u moves (lowest_next old (line, e) moves.is)
 
-  pub lowest_done : {picks : List Actor} → IsUnderway old picks [] → t.turn ≡ turns.NotYet → IsPlay new picks ends.Done
+  pub lowest_done : {picks : List Actor} → IsUnderway old picks [] → t.turn ≡ Ok turns.NotYet → IsPlay new picks (Ok tt)
   lowest_done {picks} u same =
-      let rests : (lowest_move old ≡ None) × (new ≡ old) = answered turns.NotYet same in
+      let rests : (lowest_move old ≡ None) × (new ≡ old) = answered (Ok turns.NotYet) same in
       let none : choice old.board (board_lines old.lines) [] ≡ None = ap (λ (o : Option Move). with_picks [] o) rests.0 in
-      subst (λ (s : SystemSeen). IsPlay s picks ends.Done) (sym rests.1)
+      subst (λ (s : SystemSeen). IsPlay s picks (Ok tt)) (sym rests.1)
       (u.left, u.chosen, ap (λ (ls : List BoardLine). choice old.board ls u.left) (sym u.lines) ∙ (u.next ∙ none))
 
-  pub lowest_full : {picks : List Actor} {line : LineNo} {len : ℕ} → IsUnderway old picks [] → t.turn ≡ turns.Full line len
-      → IsPlay new picks (ends.Full line len)
+  pub lowest_full : {picks : List Actor} {line : LineNo} {len : ℕ} → IsUnderway old picks [] → t.turn ≡ Err (refusals.Full line len)
+      → IsPlay new picks (Err (refusals.Full line len))
   lowest_full {picks} {line} {len} u same =
-      let full : IsFullFor old (lowest_move old) line len × (new ≡ old) = answered (turns.Full line len) same in
-      subst (λ (s : SystemSeen). IsPlay s picks (ends.Full line len)) (sym full.1)
+      let full : IsFullFor old (lowest_move old) line len × (new ≡ old) = answered (Err (refusals.Full line len)) same in
+      subst (λ (s : SystemSeen). IsPlay s picks (Err (refusals.Full line len))) (sym full.1)
       (is_full old picks [] [] (lowest_move old) line len u full.0 (λ m is. lowest_next old m is))
 
-  pub lowest_refused : {picks : List Actor} → IsUnderway old picks [] → t.turn ≡ turns.NoMemory → IsPlay new picks ends.NoMemory
+  pub lowest_refused : {picks : List Actor} → IsUnderway old picks [] → t.turn ≡ Err refusals.NoMemory → IsPlay new picks (Err refusals.NoMemory)
   lowest_refused {picks} u same =
-      let wanted : IsSome (lowest_move old) × (new ≡ old) = answered turns.NoMemory same in
-      subst (λ (s : SystemSeen). IsPlay s picks ends.NoMemory) (sym wanted.1) (refused old picks [] u wanted.0)
+      let wanted : IsSome (lowest_move old) × (new ≡ old) = answered (Err refusals.NoMemory) same in
+      subst (λ (s : SystemSeen). IsPlay s picks (Err refusals.NoMemory)) (sym wanted.1) (refused old picks [] u wanted.0)
 
   -- ---- of the lowest actors alone
 
-  pub ends_refused : t.turn ≡ turns.NoMemory → Ends new ends.NoMemory
+  pub ends_refused : t.turn ≡ Err refusals.NoMemory → Ends new (Err refusals.NoMemory)
   ends_refused same =
-      let wanted : IsSome (lowest_move old) × (new ≡ old) = answered turns.NoMemory same in
-      subst (λ (s : SystemSeen). Ends s ends.NoMemory) (sym wanted.1) wanted.0
+      let wanted : IsSome (lowest_move old) × (new ≡ old) = answered (Err refusals.NoMemory) same in
+      subst (λ (s : SystemSeen). Ends s (Err refusals.NoMemory)) (sym wanted.1) wanted.0
 
-  pub settles_moved : {first : SystemSeen} {line : LineNo} {e : Entry} → old.board ≡ first.board → t.turn ≡ turns.Moved line e
+  pub settles_moved : {first : SystemSeen} {line : LineNo} {e : Entry} → old.board ≡ first.board → t.turn ≡ Ok (turns.Moved line e)
       → Settles first old → Settles first new
   settles_moved {first} {line} {e} board same s =
       let m : Move = (line, e) in
-      let moves : Moves old (lowest_move old) m new = answered (turns.Moved line e) same in
+      let moves : Moves old (lowest_move old) m new = answered (Ok (turns.Moved line e)) same in
       let here : IsLowestMove old.board (board_lines old.lines) m = record { is = moves.is; room = moves.room } in
       let more : reverse (m ∷ s.moves) ≡ reverse s.moves ++ m ∷ [] = reverse-append (m ∷ []) s.moves in
       record {
@@ -103,8 +104,8 @@ module _ {old new : SystemSeen} (t : LowestTurn old new) where
         lines = moves.lines ∙ ap (λ (ls : List BoardLine). lines_after m ls) s.lines;
       }
 
-  pub room_falls : {line : LineNo} {e : Entry} → t.turn ≡ turns.Moved line e → room_of new < room_of old
-  room_falls {line} {e} same = room_of_moved old new (line, e) (answered (turns.Moved line e) same)
+  pub room_falls : {line : LineNo} {e : Entry} → t.turn ≡ Ok (turns.Moved line e) → room_of new < room_of old
+  room_falls {line} {e} same = room_of_moved old new (line, e) (answered (Ok (turns.Moved line e)) same)
 
 pub settles_none : (s : SystemSeen) → Settles s s
 settles_none s = record { moves = []; lowest = tt; log = sym (append-nil s.log); lines = refl }

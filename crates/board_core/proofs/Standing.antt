@@ -1,7 +1,8 @@
 -- Where an actor steps, as a system answers it.
-use Rattle.std.proofs.Common.{◌≡◌, ℕ, suc, ◌==◌, inl, inr, true, false, is_some, Option, Some, None, List, [], ◌∷◌}
+use Rattle.std.proofs.Common.{◌≡◌, ℕ, suc, ◌==◌, inl, inr, true, false, is_some, Option, Some, None, List, [], ◌∷◌, Result}
 use Rattle.std.proofs.Common.{map, slice_get, refl, sym, ap, ◌∙◌, subst, eq-eqb}
 use Rattle.std.proofs.lemmas.Bool.{leb-true, le-leb, or_cases}
+use Rattle.irq_line.specs.declared.answers.StepRefused.{StepRefused}
 use Rattle.irq_base.specs.declared.devices.DeviceDef.{DeviceDef}
 use Rattle.irq_base.specs.declared.entries.Actor.{Actor}
 use Rattle.irq_base.specs.declared.entries.Actor.TheVariants as actors
@@ -322,7 +323,7 @@ can_step s a stand at = record { line = ap (λ (o : Option BoardLine). is_some o
     by_actor (actors.Cpu c) place = tt
     by_actor (actors.Thread d) place = tt
 
-pub steps_by_move : (old new : SystemSeen) (a : Actor) (stand : Stand) (turn : Turn) → IsAt old a stand
+pub steps_by_move : (old new : SystemSeen) (a : Actor) (stand : Stand) (turn : Result Turn StepRefused) → IsAt old a stand
     → StepsBy old (due_on (slice_get (board_lines old.lines) stand.line) a) turn new
     → StepsBy old (move_of old a) turn new
 steps_by_move old new a stand turn at s = subst (λ (o : Option BoardLine). StepsBy old (due_on o a) turn new) at.line.1 s

@@ -1,9 +1,11 @@
 -- A play of a system, move by move.
-use Rattle.std.proofs.Common.{◌≡◌, ℕ, ◌+◌, ◌<◌, is_some, IsSome, IsSomeAnd, Option}
+use Rattle.std.proofs.Common.{◌≡◌, ℕ, ◌+◌, ◌<◌, is_some, IsSome, IsSomeAnd, Option, Result, Ok, Err}
 use Rattle.std.proofs.Common.{Some, None, List, [], ◌∷◌, length, reverse, get_or, drop, refl, sym, ap, ◌∙◌, subst}
 use Rattle.std.proofs.Common.{add-one}
 use Rattle.std.proofs.Math.Seq.{drop-cons}
 use Rattle.std.proofs.lemmas.List.{reverse-append}
+use Rattle.irq_line.specs.declared.answers.StepRefused.TheVariants as refusals
+use Rattle.irq_line.specs.declared.answers.StepRefused.{StepRefused}
 use Rattle.irq_base.specs.declared.entries.Actor.{Actor}
 use Rattle.irq_base.specs.declared.entries.Entry.{Entry}
 use Rattle.irq_base.specs.declared.numbers.LineNo.{LineNo}
@@ -17,7 +19,6 @@ use Rattle.board_core.specs.Seen.{SystemSeen, board_lines}
 use Rattle.board_core.specs.Turns.{move_of, Moves, IsFullFor, MayWant, Turns, lowest_move}
 use Rattle.board_core.specs.declared.turns.Turn.{Turn}
 use Rattle.board_core.specs.declared.turns.Turn.TheVariants as turns
-use Rattle.board_core.specs.declared.turns.PlayEnd.TheVariants as ends
 
 pub fresh : (s : SystemSeen) (picks : List Actor) → IsFresh s → IsUnderway s picks picks
 fresh s picks f =
@@ -91,7 +92,7 @@ at_pick s picks i d within u =
 pub is_full : (s : SystemSeen) (picks rest after : List Actor) (due : Option Move) (line : LineNo) (len : ℕ)
     → IsUnderway s picks rest → IsFullFor s due line len
     → ((m : Move) → due ≡ Some m → choice s.board (board_lines s.lines) rest ≡ Some (m, after))
-    → IsPlay s picks (ends.Full line len)
+    → IsPlay s picks (Err (refusals.Full line len))
 is_full s picks rest after due line len u full next =
     let told : length (part line (reverse s.log)) ≡ len = part_in s line (λ past. length past ≡ len) u.lines full.length in (
       (
@@ -126,24 +127,24 @@ some_choice s (pick ∷ picks) some = by_pick (move_of s pick) (some_choice s pi
     by_pick (Some m) deeper = refl
 
 -- memory was refused, and there was a next move
-pub refused : (s : SystemSeen) (picks rest : List Actor) → IsUnderway s picks rest → IsSome (lowest_move s) → IsPlay s picks ends.NoMemory
+pub refused : (s : SystemSeen) (picks rest : List Actor) → IsUnderway s picks rest → IsSome (lowest_move s) → IsPlay s picks (Err refusals.NoMemory)
 refused s picks rest u some =
     let next : IsSome (choice s.board (board_lines s.lines) u.left) = ap (λ (o : Option (Move × List Actor)). is_some o) u.next ∙ some_choice s rest some in
     (u.left, u.chosen, subst (λ (ls : List BoardLine). IsSome (choice s.board ls u.left)) u.lines next)
 
 -- ---- board and layout stay
 
-turn_same_board : (old new : SystemSeen) (a : Actor) (turn : Turn) → Turns old a turn new → new.board ≡ old.board
-turn_same_board old new a (turns.Moved line e) t = t.board
-turn_same_board old new a turns.NotYet t = ap (λ (s : SystemSeen). s.board) t.1
-turn_same_board old new a (turns.Full line len) t = ap (λ (s : SystemSeen). s.board) t.1
-turn_same_board old new a turns.NoMemory t = ap (λ (s : SystemSeen). s.board) t.1
+turn_same_board : (old new : SystemSeen) (a : Actor) (turn : Result Turn StepRefused) → Turns old a turn new → new.board ≡ old.board
+turn_same_board old new a (Ok (turns.Moved line e)) t = t.board
+turn_same_board old new a (Ok turns.NotYet) t = ap (λ (s : SystemSeen). s.board) t.1
+turn_same_board old new a (Err (refusals.Full line len)) t = ap (λ (s : SystemSeen). s.board) t.1
+turn_same_board old new a (Err refusals.NoMemory) t = ap (λ (s : SystemSeen). s.board) t.1
 
-turn_same_layout : (old new : SystemSeen) (a : Actor) (turn : Turn) → Turns old a turn new → new.layout ≡ old.layout
-turn_same_layout old new a (turns.Moved line e) t = t.layout
-turn_same_layout old new a turns.NotYet t = ap (λ (s : SystemSeen). s.layout) t.1
-turn_same_layout old new a (turns.Full line len) t = ap (λ (s : SystemSeen). s.layout) t.1
-turn_same_layout old new a turns.NoMemory t = ap (λ (s : SystemSeen). s.layout) t.1
+turn_same_layout : (old new : SystemSeen) (a : Actor) (turn : Result Turn StepRefused) → Turns old a turn new → new.layout ≡ old.layout
+turn_same_layout old new a (Ok (turns.Moved line e)) t = t.layout
+turn_same_layout old new a (Ok turns.NotYet) t = ap (λ (s : SystemSeen). s.layout) t.1
+turn_same_layout old new a (Err (refusals.Full line len)) t = ap (λ (s : SystemSeen). s.layout) t.1
+turn_same_layout old new a (Err refusals.NoMemory) t = ap (λ (s : SystemSeen). s.layout) t.1
 
 -- ---- a pick's turn
 
@@ -151,12 +152,12 @@ turn_same_layout old new a turns.NoMemory t = ap (λ (s : SystemSeen). s.layout)
 pub record PickTurn (old new : SystemSeen) (picks : List Actor) (i : ℕ) : Type 0 where
   -- where there is no pick
   pub other : Actor
-  pub turn : Turn
+  pub turn : Result Turn StepRefused
   pub within : i < length picks
   pub underway : IsUnderway old picks (drop i picks)
   pub turns : Turns old (get_or picks i other) turn new
 
-abbrev pub pick_turn : {old new : SystemSeen} {picks : List Actor} {i : ℕ} (other : Actor) (turn : Turn) → i < length picks
+abbrev pub pick_turn : {old new : SystemSeen} {picks : List Actor} {i : ℕ} (other : Actor) (turn : Result Turn StepRefused) → i < length picks
     → IsUnderway old picks (drop i picks) → Turns old (get_or picks i other) turn new → PickTurn old new picks i
 pick_turn other turn within underway turns =
     record { other = other; turn = turn; within = within; underway = underway; turns = turns }
@@ -173,36 +174,36 @@ module _ {old new : SystemSeen} {picks : List Actor} {i : ℕ} (t : PickTurn old
   pick_next = at_pick old picks i t.other t.within t.underway
 
   -- what holds if that was answered
-  pub answered : (turn : Turn) → t.turn ≡ turn → Turns old pick turn new
-  answered turn same = subst (λ (x : Turn). Turns old pick x new) same t.turns
+  pub answered : (turn : Result Turn StepRefused) → t.turn ≡ turn → Turns old pick turn new
+  answered turn same = subst (λ (x : Result Turn StepRefused). Turns old pick x new) same t.turns
 
-  pub pick_full : {line : LineNo} {len : ℕ} → t.turn ≡ turns.Full line len → IsPlay new picks (ends.Full line len)
+  pub pick_full : {line : LineNo} {len : ℕ} → t.turn ≡ Err (refusals.Full line len) → IsPlay new picks (Err (refusals.Full line len))
   pick_full {line} {len} same =
-      let full : IsFullFor old (move_of old pick) line len × (new ≡ old) = answered (turns.Full line len) same in
-      subst (λ (s : SystemSeen). IsPlay s picks (ends.Full line len)) (sym full.1)
+      let full : IsFullFor old (move_of old pick) line len × (new ≡ old) = answered (Err (refusals.Full line len)) same in
+      subst (λ (s : SystemSeen). IsPlay s picks (Err (refusals.Full line len))) (sym full.1)
       (is_full old picks (pick ∷ after) after (move_of old pick) line len pick_next full.0 (λ m due. with_move old pick after m due))
 
-  pub pick_refused : t.turn ≡ turns.NoMemory → IsPlay new picks ends.NoMemory
+  pub pick_refused : t.turn ≡ Err refusals.NoMemory → IsPlay new picks (Err refusals.NoMemory)
   pick_refused same =
-      let wanted : MayWant old pick × (new ≡ old) = answered turns.NoMemory same in
-      subst (λ (s : SystemSeen). IsPlay s picks ends.NoMemory) (sym wanted.1)
+      let wanted : MayWant old pick × (new ≡ old) = answered (Err refusals.NoMemory) same in
+      subst (λ (s : SystemSeen). IsPlay s picks (Err refusals.NoMemory)) (sym wanted.1)
       (refused old picks (pick ∷ after) pick_next wanted.0.somebody)
 
   -- the play goes on with the picks after it
-  pub pick_done : ((line : LineNo) (len : ℕ) → t.turn ≡ turns.Full line len → ⊥) → (t.turn ≡ turns.NoMemory → ⊥) → IsUnderway new picks after
+  pub pick_done : ((line : LineNo) (len : ℕ) → t.turn ≡ Err (refusals.Full line len) → ⊥) → (t.turn ≡ Err refusals.NoMemory → ⊥) → IsUnderway new picks after
   pick_done full none = by_turn t.turn refl
     where
-      by_turn : (turn : Turn) → t.turn ≡ turn → IsUnderway new picks after
-      by_turn (turns.Moved line e) same =
-          let moves : Moves old (move_of old pick) (line, e) new = answered (turns.Moved line e) same in
+      by_turn : (turn : Result Turn StepRefused) → t.turn ≡ turn → IsUnderway new picks after
+      by_turn (Ok (turns.Moved line e)) same =
+          let moves : Moves old (move_of old pick) (line, e) new = answered (Ok (turns.Moved line e)) same in
           more old new (move_of old pick) (line, e) picks (pick ∷ after) after pick_next moves (with_move old pick after (line, e) moves.is)
-      by_turn turns.NotYet same =
-          let rests : (move_of old pick ≡ None) × (new ≡ old) = answered turns.NotYet same in
+      by_turn (Ok turns.NotYet) same =
+          let rests : (move_of old pick ≡ None) × (new ≡ old) = answered (Ok turns.NotYet) same in
           let u = pick_next in
           subst (λ (s : SystemSeen). IsUnderway s picks after) (sym rests.1)
           (record { lines = u.lines; left = u.left; chosen = u.chosen; next = u.next ∙ passed_over old pick after rests.0 })
-      by_turn (turns.Full line len) same = absurd (full line len same)
-      by_turn turns.NoMemory same = absurd (none same)
+      by_turn (Err (refusals.Full line len)) same = absurd (full line len same)
+      by_turn (Err refusals.NoMemory) same = absurd (none same)
 
   pub pick_keeps_board : new.board ≡ old.board
   pick_keeps_board = turn_same_board old new pick t.turn t.turns

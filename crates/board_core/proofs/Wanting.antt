@@ -1,6 +1,8 @@
 -- For which step of a system memory was refused.
-use Rattle.std.proofs.Common.{◌≡◌, ℕ, IsSome, Option, Some, List, [], ◌∷◌, length, reverse, slice_get, refl, sym, ◌∙◌}
+use Rattle.std.proofs.Common.{◌≡◌, ℕ, IsSome, Option, Some, List, [], ◌∷◌, length, reverse, slice_get, refl, sym, ◌∙◌, Result, Ok, Err}
 use Rattle.std.proofs.Common.{subst, arith}
+use Rattle.irq_line.specs.declared.answers.StepRefused.TheVariants as refusals
+use Rattle.irq_line.specs.declared.answers.StepRefused.{StepRefused}
 use Rattle.irq_base.specs.declared.entries.Actor.{Actor}
 use Rattle.irq_base.specs.declared.entries.Actor.TheVariants as actors
 use Rattle.irq_base.specs.declared.entries.Entry.{Entry}
@@ -20,21 +22,21 @@ use Rattle.board_core.proofs.Underway.{PickTurn, pick, after, pick_next, answere
 
 module _ (may_want : Option Entry → Type 0) where
   -- where the actor steps
-  pub wants_there : (s : SystemSeen) (a : Actor) (stand : Stand) (turn : Turn) → IsAt s a stand
+  pub wants_there : (s : SystemSeen) (a : Actor) (stand : Stand) (turn : Result Turn StepRefused) → IsAt s a stand
       → WantsOn may_want s (slice_get (board_lines s.lines) stand.line) a turn → Wants may_want s a turn
   wants_there s a stand turn at wants = subst (λ (o : Option BoardLine). WantsOn may_want s o a turn) at.line.1 wants
 
-  pub lowest_wants : (s : SystemSeen) (a : Actor) (turn : Turn) → lowest_move s ≡ move_of s a → Wants may_want s a turn → LowestWants may_want s turn
-  lowest_wants s a (turns.Moved line e) lowest wants = tt
-  lowest_wants s a turns.NotYet lowest wants = tt
-  lowest_wants s a (turns.Full line len) lowest wants = tt
-  lowest_wants s a turns.NoMemory lowest wants = record { actor = a; lowest = lowest; step = wants }
+  pub lowest_wants : (s : SystemSeen) (a : Actor) (turn : Result Turn StepRefused) → lowest_move s ≡ move_of s a → Wants may_want s a turn → LowestWants may_want s turn
+  lowest_wants s a (Ok (turns.Moved line e)) lowest wants = tt
+  lowest_wants s a (Ok turns.NotYet) lowest wants = tt
+  lowest_wants s a (Err (refusals.Full line len)) lowest wants = tt
+  lowest_wants s a (Err refusals.NoMemory) lowest wants = record { actor = a; lowest = lowest; step = wants }
 
   -- the lowest actor's turn ends a settling
-  pub lowest_ends : {old new : SystemSeen} (t : LowestTurn old new) → t.turn ≡ turns.NoMemory → LowestWants may_want old t.turn → WantsLowest may_want new
+  pub lowest_ends : {old new : SystemSeen} (t : LowestTurn old new) → t.turn ≡ Err refusals.NoMemory → LowestWants may_want old t.turn → WantsLowest may_want new
   lowest_ends {old} {new} t same wants =
-      let refused : IsSome (lowest_move old) × (new ≡ old) = answered t turns.NoMemory same in
-      subst (λ (s : SystemSeen). WantsLowest may_want s) (sym refused.1) (subst (λ (x : Turn). LowestWants may_want old x) same wants)
+      let refused : IsSome (lowest_move old) × (new ≡ old) = answered t (Err refusals.NoMemory) same in
+      subst (λ (s : SystemSeen). WantsLowest may_want s) (sym refused.1) (subst (λ (x : Result Turn StepRefused). LowestWants may_want old x) same wants)
 
   pub may_move : (s : SystemSeen) (a : Actor) → IsSome (move_of s a) → MayMove s a
   may_move s (actors.Thread d) some = (d, omega arith, refl, some)
@@ -67,20 +69,20 @@ module _ (may_want : Option Entry → Type 0) where
       }
 
   pub lowest_ends_play : {old new : SystemSeen} (t : LowestTurn old new) {picks : List Actor} → IsUnderway old picks []
-      → t.turn ≡ turns.NoMemory → LowestWants may_want old t.turn → WantsNext may_want (HasSpare new.lines) new.board picks new.log
+      → t.turn ≡ Err refusals.NoMemory → LowestWants may_want old t.turn → WantsNext may_want (HasSpare new.lines) new.board picks new.log
   lowest_ends_play {old} {new} t {picks} u same wants =
-      let refused : IsSome (lowest_move old) × (new ≡ old) = answered t turns.NoMemory same in
-      let low = subst (λ (x : Turn). LowestWants may_want old x) same wants in
+      let refused : IsSome (lowest_move old) × (new ≡ old) = answered t (Err refusals.NoMemory) same in
+      let low = subst (λ (x : Result Turn StepRefused). LowestWants may_want old x) same wants in
       subst (λ (s : SystemSeen). WantsNext may_want (HasSpare s.lines) s.board picks s.log) (sym refused.1)
       (next_wants old picks [] u refused.0 low.actor
       (may_move old low.actor (subst (λ (o : Option Move). IsSome o) low.lowest refused.0))
       (λ m due. ([], lowest_next old m (low.lowest ∙ due))) low.step)
 
   -- a pick's turn ends a play
-  pub pick_ends_play : {old new : SystemSeen} {picks : List Actor} {i : ℕ} (t : PickTurn old new picks i) → t.turn ≡ turns.NoMemory
+  pub pick_ends_play : {old new : SystemSeen} {picks : List Actor} {i : ℕ} (t : PickTurn old new picks i) → t.turn ≡ Err refusals.NoMemory
       → Wants may_want old (pick t) t.turn → WantsNext may_want (HasSpare new.lines) new.board picks new.log
   pick_ends_play {old} {new} {picks} t same wants =
-      let refused : MayWant old (pick t) × (new ≡ old) = pick_answered t turns.NoMemory same in
+      let refused : MayWant old (pick t) × (new ≡ old) = pick_answered t (Err refusals.NoMemory) same in
       subst (λ (s : SystemSeen). WantsNext may_want (HasSpare s.lines) s.board picks s.log) (sym refused.1)
       (next_wants old picks (pick t ∷ after t) (pick_next t) refused.0.somebody (pick t) refused.0.actor
-      (λ m due. (after t, with_move old (pick t) (after t) m due)) (subst (λ (x : Turn). Wants may_want old (pick t) x) same wants))
+      (λ m due. (after t, with_move old (pick t) (after t) m due)) (subst (λ (x : Result Turn StepRefused). Wants may_want old (pick t) x) same wants))

@@ -1,15 +1,15 @@
 -- What a play of a system comes to.
-use Rattle.std.specs.Prelude.{◌≡◌, ◌<◌, IsSome, IsSomeAnd, Some, None, List, [], ◌∷◌, ◌++◌}
+use Rattle.std.specs.Prelude.{◌≡◌, ◌<◌, IsSome, IsSomeAnd, Some, None, List, [], ◌∷◌, ◌++◌, Result, Ok, Err}
 use Rattle.std.specs.Prelude.{length, reverse}
+use Rattle.irq_line.specs.declared.answers.StepRefused.TheVariants as refusals
+use Rattle.irq_line.specs.declared.answers.StepRefused.{StepRefused}
 use Rattle.irq_base.specs.declared.entries.Actor.{Actor}
 use Rattle.board_def.specs.Seen.{BoardSeen}
 use Rattle.board_play.specs.Lines.{BoardLine, Move, find_line, lines_after, lines_of, part}
 use Rattle.board_play.specs.Order.{actors_of}
 use Rattle.board_play.specs.Play.{Done, Full, first_move, choice, IsChosen, Plays}
 use Rattle.board_core.specs.Seen.{SystemSeen, board_lines}
-use Rattle.board_core.specs.Turns.{IsFullFor, lowest_move}
-use Rattle.board_core.specs.declared.turns.PlayEnd.{PlayEnd}
-use Rattle.board_core.specs.declared.turns.PlayEnd.TheVariants as ends
+use Rattle.board_core.specs.Turns.{IsRefused, lowest_move}
 
 -- nothing has happened: the histories and the log are empty
 pub record IsFresh (s : SystemSeen) : Type 0 where
@@ -26,19 +26,17 @@ pub record IsUnderway (s : SystemSeen) (picks rest : List Actor) : Type 0 where
 
 -- The log is the play of the board with these picks, done or full as was answered; a full one says
 -- the length. If memory was refused it is the play so far, and there is a next move.
-abbrev pub IsPlay : SystemSeen → List Actor → PlayEnd → Type 0
-IsPlay s picks ends.Done = Plays s.board picks (reverse s.log) Done
-IsPlay s picks (ends.Full line len) =
+abbrev pub IsPlay : SystemSeen → List Actor → Result Unit StepRefused → Type 0
+IsPlay s picks (Ok _) = Plays s.board picks (reverse s.log) Done
+IsPlay s picks (Err (refusals.Full line len)) =
     Plays s.board picks (reverse s.log) (Full line) × (length (part line (reverse s.log)) ≡ len)
-IsPlay s picks ends.NoMemory = (left : List Actor) × IsChosen s.board picks (reverse s.log) left
+IsPlay s picks (Err refusals.NoMemory) = (left : List Actor) × IsChosen s.board picks (reverse s.log) left
     × IsSome (choice s.board (lines_of s.board (reverse s.log)) left)
 
--- no actor can move; or the lowest actor that can move has a line without room, and the length of
--- its history is answered; or memory was needed
-abbrev pub Ends : SystemSeen → PlayEnd → Type 0
-Ends s ends.Done = lowest_move s ≡ None
-Ends s (ends.Full line len) = IsFullFor s (lowest_move s) line len
-Ends s ends.NoMemory = IsSome (lowest_move s)
+-- no actor can move, or the move of the lowest actor that can was refused
+abbrev pub Ends : SystemSeen → Result Unit StepRefused → Type 0
+Ends s (Ok _) = lowest_move s ≡ None
+Ends s (Err refused) = IsRefused s (lowest_move s) refused
 
 -- the lines after all these moves; the list begins with the newest
 abbrev pub lines_after_all : List Move → List BoardLine → List BoardLine

@@ -41,8 +41,8 @@ runs_from lines [] = []
 runs_from lines (m ∷ g) = runs_by_move (lines_after_all g lines) m ++ runs_from lines g
 
 -- the run that the turn ended: that of its move, if there was one
-abbrev pub runs_by_turn : SystemSeen → Turn → List Run
-runs_by_turn old (turns.Moved line entry) = runs_by_move (board_lines old.lines) (line, entry)
+abbrev pub runs_by_turn : SystemSeen → Result Turn StepRefused → List Run
+runs_by_turn old (Ok (turns.Moved line entry)) = runs_by_move (board_lines old.lines) (line, entry)
 runs_by_turn old _ = []
 
 -- the runs that ended from the old system to the new one: those of the moves that the log has more

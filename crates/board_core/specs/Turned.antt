@@ -19,8 +19,8 @@ use Rattle.board_core.specs.declared.turns.Turn.TheVariants as turns
 
 -- what a step answers and leaves; `due` is the move to be made, if there is one; memory may be
 -- refused at any step
-abbrev pub StepsBy : SystemSeen → Option Move → Turn → SystemSeen → Type 0
-StepsBy old due turns.NoMemory new = new ≡ old
+abbrev pub StepsBy : SystemSeen → Option Move → Result Turn StepRefused → SystemSeen → Type 0
+StepsBy old due (Err refusals.NoMemory) new = new ≡ old
 StepsBy old due turn new = TurnsBy old due turn new
 
 -- the place of a driver's script; none for a thread or a processor
@@ -41,8 +41,7 @@ scripts_after (Some j) (Ok (stepped.Added e)) scripts
     = script_after (slice_get scripts j) j e scripts
 scripts_after _ _ scripts = scripts
 
-abbrev pub turn_of : {L : Type 0} → LineNo → Result (Stepped L) StepRefused → Turn
-turn_of line (Ok (stepped.Added entry)) = turns.Moved line entry
-turn_of line (Ok _) = turns.NotYet
-turn_of line (Err (refusals.Full number len)) = turns.Full number len
-turn_of line (Err refusals.NoMemory) = turns.NoMemory
+abbrev pub turn_of : {L : Type 0} → LineNo → Result (Stepped L) StepRefused → Result Turn StepRefused
+turn_of line (Ok (stepped.Added entry)) = Ok (turns.Moved line entry)
+turn_of line (Ok _) = Ok turns.NotYet
+turn_of line (Err refused) = Err refused

@@ -1,6 +1,8 @@
 -- What a turn of an actor comes to.
-use Rattle.std.specs.Prelude.{◌≡◌, ◌<◌, ◌≤◌, IsSome, IsSomeAnd, ℕ, Option, Some, None, List, []}
+use Rattle.std.specs.Prelude.{◌≡◌, ◌<◌, ◌≤◌, IsSome, IsSomeAnd, ℕ, Option, Some, None, List, [], Result, Ok, Err}
 use Rattle.std.specs.Prelude.{◌∷◌, ◌++◌, length}
+use Rattle.irq_line.specs.declared.answers.StepRefused.TheVariants as refusals
+use Rattle.irq_line.specs.declared.answers.StepRefused.{StepRefused}
 use Rattle.irq_base.specs.declared.entries.Actor.{Actor}
 use Rattle.irq_base.specs.declared.entries.Actor.TheVariants as actors
 use Rattle.irq_base.specs.declared.numbers.DevNo.{DevNo}
@@ -38,13 +40,17 @@ pub record IsFullFor (s : SystemSeen) (due : Option Move) (line : LineNo) (len :
   pub length : HasLength (find_line (board_lines s.lines) line) len
   pub log : len ≡ s.board.log
 
--- what a turn answers and leaves; `due` is the move to be made, if there is one; memory is needed
--- only for a move
-abbrev pub TurnsBy : SystemSeen → Option Move → Turn → SystemSeen → Type 0
-TurnsBy old due (turns.Moved line entry) new = Moves old due (line, entry) new
-TurnsBy old due turns.NotYet new = (due ≡ None) × (new ≡ old)
-TurnsBy old due (turns.Full line len) new = IsFullFor old due line len × (new ≡ old)
-TurnsBy old due turns.NoMemory new = IsSome due × (new ≡ old)
+-- the move that is due wasn't made: its line has no room, or memory was needed, which is needed only
+-- for a move
+abbrev pub IsRefused : SystemSeen → Option Move → StepRefused → Type 0
+IsRefused s due (refusals.Full line len) = IsFullFor s due line len
+IsRefused s due refusals.NoMemory = IsSome due
+
+-- what a turn answers and leaves; `due` is the move to be made, if there is one
+abbrev pub TurnsBy : SystemSeen → Option Move → Result Turn StepRefused → SystemSeen → Type 0
+TurnsBy old due (Ok (turns.Moved line entry)) new = Moves old due (line, entry) new
+TurnsBy old due (Ok turns.NotYet) new = (due ≡ None) × (new ≡ old)
+TurnsBy old due (Err refused) new = IsRefused old due refused × (new ≡ old)
 
 -- The actor has a move. For a thread less is known: it, or the thread of a device with a lower
 -- number, has a move on its line; a line tells only the lowest of its threads.
@@ -67,6 +73,6 @@ pub record MayWant (s : SystemSeen) (a : Actor) : Type 0 where
   pub actor : MayMove s a
   pub somebody : IsSome (lowest_move s)
 
-abbrev pub Turns : SystemSeen → Actor → Turn → SystemSeen → Type 0
-Turns old a turns.NoMemory new = MayWant old a × (new ≡ old)
+abbrev pub Turns : SystemSeen → Actor → Result Turn StepRefused → SystemSeen → Type 0
+Turns old a (Err refusals.NoMemory) new = MayWant old a × (new ≡ old)
 Turns old a turn new = TurnsBy old (move_of old a) turn new

@@ -1,5 +1,7 @@
 -- For which step of a system memory was refused.
-use Rattle.std.specs.Prelude.{◌≡◌, ◌≤◌, ℕ, IsSome, Option, Some, List, length, reverse, slice_get}
+use Rattle.std.specs.Prelude.{◌≡◌, ◌≤◌, ℕ, IsSome, Option, Some, List, length, reverse, slice_get, Result, Err}
+use Rattle.irq_line.specs.declared.answers.StepRefused.TheVariants as refusals
+use Rattle.irq_line.specs.declared.answers.StepRefused.{StepRefused}
 use Rattle.irq_base.specs.declared.entries.Actor.{Actor}
 use Rattle.irq_base.specs.declared.entries.Entry.{Entry}
 use Rattle.irq_base.specs.declared.numbers.LineNo.{LineNo}
@@ -12,8 +14,6 @@ use Rattle.board_play.specs.Play.{IsChosen, choice}
 use Rattle.board_core.specs.Pieces.{EndsPiece}
 use Rattle.board_core.specs.Seen.{SystemSeen, board_lines}
 use Rattle.board_core.specs.Turns.{CanMove, lowest_move, move_of}
-use Rattle.board_core.specs.declared.turns.PlayEnd.{PlayEnd}
-use Rattle.board_core.specs.declared.turns.PlayEnd.TheVariants as ends
 use Rattle.board_core.specs.declared.turns.Turn.{Turn}
 use Rattle.board_core.specs.declared.turns.Turn.TheVariants as turns
 
@@ -33,14 +33,14 @@ HasSpare lines number =
     (k : ℕ) (x : LineSeen) → slice_get lines k ≡ Some x → x.def.line ≡ number → 1 ≤ x.spare
 
 -- a turn's step on this line was refused memory
-abbrev pub WantsOn : (Option Entry → Type 0) → SystemSeen → Option BoardLine → Actor → Turn
+abbrev pub WantsOn : (Option Entry → Type 0) → SystemSeen → Option BoardLine → Actor → Result Turn StepRefused
     → Type 0
-WantsOn may_want s on a turns.NoMemory =
+WantsOn may_want s on a (Err refusals.NoMemory) =
     WantedMemory may_want (HasSpare s.lines) (length s.log) on a
 WantsOn may_want s on a turn = Unit {0}
 
 -- a turn's step was refused memory, on the line where the actor steps
-abbrev pub Wants : (Option Entry → Type 0) → SystemSeen → Actor → Turn → Type 0
+abbrev pub Wants : (Option Entry → Type 0) → SystemSeen → Actor → Result Turn StepRefused → Type 0
 Wants may_want s a turn = WantsOn may_want s (line_for s.board (board_lines s.lines) a) a turn
 
 -- the step of the lowest actor that can move was refused memory
@@ -50,12 +50,12 @@ pub record WantsLowest (may_want : Option Entry → Type 0) (s : SystemSeen) : T
   pub step : WantedMemory may_want (HasSpare s.lines) (length s.log)
       (line_for s.board (board_lines s.lines) actor) actor
 
-abbrev pub LowestWants : (Option Entry → Type 0) → SystemSeen → Turn → Type 0
-LowestWants may_want s turns.NoMemory = WantsLowest may_want s
+abbrev pub LowestWants : (Option Entry → Type 0) → SystemSeen → Result Turn StepRefused → Type 0
+LowestWants may_want s (Err refusals.NoMemory) = WantsLowest may_want s
 LowestWants may_want s turn = Unit {0}
 
-abbrev pub EndWants : (Option Entry → Type 0) → SystemSeen → PlayEnd → Type 0
-EndWants may_want s ends.NoMemory = WantsLowest may_want s
+abbrev pub EndWants : (Option Entry → Type 0) → SystemSeen → Result Unit StepRefused → Type 0
+EndWants may_want s (Err refusals.NoMemory) = WantsLowest may_want s
 EndWants may_want s end = Unit {0}
 
 -- The board was played with these picks and these moves, the oldest first, and then a step was
@@ -73,7 +73,7 @@ pub record WantsNext (may_want : Option Entry → Type 0) (room : LineNo → Typ
   pub step : WantedMemory may_want room (length g) (line_for b (lines_of b (reverse g)) actor)
       actor
 
-abbrev pub PlayWants : (Option Entry → Type 0) → SystemSeen → List Actor → PlayEnd → Type 0
-PlayWants may_want s picks ends.NoMemory =
+abbrev pub PlayWants : (Option Entry → Type 0) → SystemSeen → List Actor → Result Unit StepRefused → Type 0
+PlayWants may_want s picks (Err refusals.NoMemory) =
     WantsNext may_want (HasSpare s.lines) s.board picks s.log
 PlayWants may_want s picks end = Unit {0}

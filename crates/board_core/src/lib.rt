@@ -22,4 +22,4 @@ pub mod turns;
 pub use making::make_lines;
 pub use moves::{MovePlace, Moves};
 pub use system::System;
-pub use turns::{DueCall, PlayEnd, Turn};
+pub use turns::{DueCall, Turn};

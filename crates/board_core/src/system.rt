@@ -32,12 +32,12 @@ use crate::refreshing::{make_ready, numbers_of_drivers, numbers_of_lines, refres
 use crate::scripts::Script;
 use crate::stands::Stand;
 use crate::turning::{advance, turn_of};
-use crate::turns::{DueCall, PlayEnd, Turn};
+use crate::turns::{DueCall, Turn};
 use board_def::{Board, Layout};
 use board_ready::{LineReadiness, ReadyActor, ReadyActors};
 use callbacks::Handler;
 use irq_base::{Actor, CpuNo, DevNo, DriverNo, LineNo, NoMemory};
-use irq_line::{IrqLine, MakesLine};
+use irq_line::{IrqLine, MakesLine, StepRefused};
 use std::alloc::Global;
 use std::marker::Model;
 
@@ -281,14 +281,14 @@ impl<'b, L: IrqLine> System<'b, L> {
     /// One step of the actor on its line, if it can move. If the entry ends a run of a handler,
     /// that handler is called. It takes the same time however many actors and entries there are,
     /// and no memory but the log's and the line's.
-    pub fn turn<H: Handler>(&mut self, actor: Actor, handlers: &mut H) -> Turn
+    pub fn turn<H: Handler>(&mut self, actor: Actor, handlers: &mut H) -> Result<Turn, StepRefused>
         ensures turns { Turns self.old actor result self.new }
         ensures heard { Heard H.hears (runs_by_turn self.old result) handlers.old handlers.new }
         ensures memory { Wants L.may_want self.old actor result }
     {
         match self.stand(actor) {
             Some(stand) => self.step_at(stand, actor, handlers),
-            None => Turn::NotYet,
+            None => Ok(Turn::NotYet),
         }
     }
 
@@ -403,7 +403,12 @@ impl<'b, L: IrqLine> System<'b, L> {
     /// One step of the actor on this line, whichever line it would step on in a turn; a driver's
     /// current call is on it. `NotYet` if the line takes no part. So the plays of other scenarios
     /// are made, which choose lines by a rule of their own.
-    pub fn step_on<H: Handler>(&mut self, line: LineNo, actor: Actor, handlers: &mut H) -> Turn
+    pub fn step_on<H: Handler>(
+        &mut self,
+        line: LineNo,
+        actor: Actor,
+        handlers: &mut H,
+    ) -> Result<Turn, StepRefused>
         requires { IsCurrentOn self.old line actor }
         ensures steps { StepsBy self.old
             (due_on (find_line (board_lines self.old.lines) line) actor) result self.new }
@@ -412,7 +417,7 @@ impl<'b, L: IrqLine> System<'b, L> {
             actor result }
     {
         let Some(stand) = self.stand_on(line, actor) else {
-            return Turn::NotYet;
+            return Ok(Turn::NotYet);
         };
         self.step_stand(stand, actor, handlers)
     }
@@ -444,7 +449,12 @@ impl<'b, L: IrqLine> System<'b, L> {
 
     /// A step of the actor on its own line.
     #[inline(always)]
-    fn step_at<H: Handler>(&mut self, stand: Stand, actor: Actor, handlers: &mut H) -> Turn
+    fn step_at<H: Handler>(
+        &mut self,
+        stand: Stand,
+        actor: Actor,
+        handlers: &mut H,
+    ) -> Result<Turn, StepRefused>
         requires { IsAt self.old actor stand }
         ensures steps { StepsBy self.old (move_of self.old actor) result self.new }
         ensures heard { Heard H.hears (runs_by_turn self.old result) handlers.old handlers.new }
@@ -455,7 +465,12 @@ impl<'b, L: IrqLine> System<'b, L> {
 
     /// A step of the actor on the line of `stand`.
     #[inline(always)]
-    fn step_stand<H: Handler>(&mut self, stand: Stand, actor: Actor, handlers: &mut H) -> Turn
+    fn step_stand<H: Handler>(
+        &mut self,
+        stand: Stand,
+        actor: Actor,
+        handlers: &mut H,
+    ) -> Result<Turn, StepRefused>
         requires { CanStepAt self.old actor stand }
         ensures steps { StepsBy self.old
             (due_on (slice_get (board_lines self.old.lines) stand.line) actor) result self.new }
@@ -474,19 +489,19 @@ impl<'b, L: IrqLine> System<'b, L> {
 
     /// One step of the lowest actor that can move; `NotYet` if none can.
     #[inline(always)]
-    pub fn turn_lowest<H: Handler>(&mut self, handlers: &mut H) -> Turn
+    pub fn turn_lowest<H: Handler>(&mut self, handlers: &mut H) -> Result<Turn, StepRefused>
         ensures turns { TurnsBy self.old (lowest_move self.old) result self.new }
         ensures heard { Heard H.hears (runs_by_turn self.old result) handlers.old handlers.new }
         ensures memory { LowestWants L.may_want self.old result }
     {
         match self.lowest_stand() {
             Some((actor, stand)) => self.step_at(stand, actor, handlers),
-            None => Turn::NotYet,
+            None => Ok(Turn::NotYet),
         }
     }
 
     /// Steps of the lowest actor that can move, until none can.
-    pub fn settle<H: Handler>(&mut self, handlers: &mut H) -> PlayEnd
+    pub fn settle<H: Handler>(&mut self, handlers: &mut H) -> Result<(), StepRefused>
         ensures board { self.new.board ≡ self.old.board }
         ensures layout { self.new.layout ≡ self.old.layout }
         ensures moves { Settles self.old self.new }
@@ -501,18 +516,16 @@ impl<'b, L: IrqLine> System<'b, L> {
             → board_lines self.new.lines ≡ lines_of self.new.board (reverse self.new.log) }
     {
         loop {
-            match self.turn_lowest(handlers) {
+            match self.turn_lowest(handlers)? {
                 Turn::Moved { .. } => {}
-                Turn::NotYet => return PlayEnd::Done,
-                Turn::Full { line, len } => return PlayEnd::Full { line, len },
-                Turn::NoMemory => return PlayEnd::NoMemory,
+                Turn::NotYet => return Ok(()),
             }
         }
     }
 
     /// Plays the board from its beginning to its end: the picks in turn, with one that can't move
     /// passed over, and then always the lowest actor that can move.
-    pub fn play<H: Handler>(&mut self, picks: &[Actor], handlers: &mut H) -> PlayEnd
+    pub fn play<H: Handler>(&mut self, picks: &[Actor], handlers: &mut H) -> Result<(), StepRefused>
         requires { IsFresh self.old }
         ensures board { self.new.board ≡ self.old.board }
         ensures layout { self.new.layout ≡ self.old.layout }
@@ -523,11 +536,7 @@ impl<'b, L: IrqLine> System<'b, L> {
             ≡ lines_of self.new.board (reverse self.new.log) }
     {
         for pick in picks {
-            match self.turn(*pick, handlers) {
-                Turn::Full { line, len } => return PlayEnd::Full { line, len },
-                Turn::NoMemory => return PlayEnd::NoMemory,
-                _ => {}
-            }
+            self.turn(*pick, handlers)?;
         }
         self.settle(handlers)
     }

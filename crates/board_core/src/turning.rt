@@ -25,13 +25,15 @@ pub(crate) fn advance(
 }
 
 /// What a turn answers, by what the step of its line answered.
-pub(crate) fn turn_of(line: LineNo, stepped: Result<Stepped<Infallible>, StepRefused>) -> Turn
+pub(crate) fn turn_of(
+    line: LineNo,
+    stepped: Result<Stepped<Infallible>, StepRefused>,
+) -> Result<Turn, StepRefused>
     ensures { result ≡ turn_of line stepped }
 {
     match stepped {
-        Ok(Stepped::Added(entry)) => Turn::Moved { line, entry },
-        Ok(Stepped::NotYet) => Turn::NotYet,
-        Err(StepRefused::Full { line, len }) => Turn::Full { line, len },
-        Err(StepRefused::NoMemory) => Turn::NoMemory,
+        Ok(Stepped::Added(entry)) => Ok(Turn::Moved { line, entry }),
+        Ok(Stepped::NotYet) => Ok(Turn::NotYet),
+        Err(refused) => Err(refused),
     }
 }

@@ -4,8 +4,7 @@ use Rattle.std.specs.Prelude.{length, take, drop, Result, Ok, Err}
 use Rattle.irq_io.specs.Told.{IsBeginning}
 use Rattle.irq_io.specs.declared.whole.ReadRefused.{ReadRefused}
 use Rattle.irq_io.specs.declared.whole.ReadRefused.TheVariants as refusals
-use Rattle.irq_io.specs.declared.whole.WriteEnd.{WriteEnd}
-use Rattle.irq_io.specs.declared.whole.WriteEnd.TheVariants as ends
+use Rattle.irq_io.specs.declared.whole.WriteFailed.{WriteFailed}
 
 -- whether a reading ended with a fault
 abbrev pub met_fault : {T : Type 0} → Result T ReadRefused → Bool
@@ -14,14 +13,14 @@ met_fault (Err refusals.Fault) = true
 met_fault (Err refusals.NoMemory) = false
 
 -- whether a writing ended with a fault
-abbrev pub writing_failed : WriteEnd → Bool
-writing_failed ends.Done = false
-writing_failed ends.Failed = true
+abbrev pub writing_failed : Result Unit WriteFailed → Bool
+writing_failed (Ok _) = false
+writing_failed (Err _) = true
 
 -- if a writing with a flush after it is done, the sink keeps nothing back
-abbrev pub KeepsNone : List ℕ → WriteEnd → Type 0
-KeepsNone kept ends.Done = kept ≡ []
-KeepsNone kept ends.Failed = Unit {0}
+abbrev pub KeepsNone : List ℕ → Result Unit WriteFailed → Type 0
+KeepsNone kept (Ok _) = kept ≡ []
+KeepsNone kept (Err _) = Unit {0}
 
 -- if the source tells what is left: the bytes are the first `most` of it, or all of it, and exactly
 -- these were taken
@@ -38,8 +37,9 @@ TakesAtMost most (Some before) now =
     × (now ≡ Some rest)
 
 -- if the sink tells its content: it grew by the bytes, or after a fault by a beginning of them
-abbrev pub WritesAll : Option (List ℕ) → Option (List ℕ) → List ℕ → WriteEnd → Type 0
+abbrev pub WritesAll : Option (List ℕ) → Option (List ℕ) → List ℕ → Result Unit WriteFailed
+    → Type 0
 WritesAll None now bytes end = Unit {0}
-WritesAll (Some before) now bytes ends.Done = now ≡ Some (before ++ bytes)
-WritesAll (Some before) now bytes ends.Failed =
+WritesAll (Some before) now bytes (Ok _) = now ≡ Some (before ++ bytes)
+WritesAll (Some before) now bytes (Err _) =
     (taken : List ℕ) × IsBeginning taken bytes × (now ≡ Some (before ++ taken))

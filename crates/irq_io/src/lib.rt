@@ -23,4 +23,4 @@ pub use sinks::{FlushAnswer, Sink, WriteAnswer};
 pub use sources::{ReadAnswer, Source};
 pub use std_sink::StdSink;
 pub use std_source::StdSource;
-pub use whole::{ReadRefused, WriteEnd, read_up_to, write_all};
+pub use whole::{ReadRefused, WriteFailed, read_up_to, write_all};

@@ -1,5 +1,5 @@
 //! Reading up to a bound, and writing to the end, in as many pieces as it takes.
-ghost use Rattle.std.specs.Prelude.{◌≡◌, ◌≤◌, [], IfOk, OnErr, vec_len};
+ghost use Rattle.std.specs.Prelude.{◌≡◌, ◌≤◌, [], IfOk, Ok, OnErr, vec_len};
 ghost use Rattle.irq_io.specs.Faults.{Counts};
 ghost use Rattle.irq_io.specs.Whole.{TakesAtMost, TakesUpTo, WritesAll, met_fault, writing_failed};
 
@@ -30,14 +30,10 @@ impl From<AllocError> for ReadRefused {
     }
 }
 
-/// How a writing ended.
-#[derive(Clone, Copy, Debug, PartialEq, Eq)]
-pub enum WriteEnd {
-    /// All was taken.
-    Done,
-    /// A write failed.
-    Failed,
-}
+/// A write or a flush failed. A beginning of what was to be written has been taken.
+#[derive(Clone, Copy, Debug, PartialEq, Eq, Error)]
+#[error("a write failed")]
+pub struct WriteFailed;
 
 /// The size of the pieces in which a source is read, in bytes.
 const PIECE: usize = 64 * 1024;
@@ -73,9 +69,9 @@ pub fn read_up_to<S: Source>(
 
 /// Writes the bytes: what a write didn't take is written again, until all is taken. Without bytes
 /// there is no write. After a fault a beginning of the bytes has been taken. The count of faults
-/// rises exactly with `Failed`.
-pub fn write_all<O: Sink>(sink: &mut O, bytes: &[u8]) -> WriteEnd
-    ensures nothing { bytes.now ≡ [] → (result ≡ WriteEnd.Done) × (sink.new ≡ sink.old) }
+/// rises exactly with the error.
+pub fn write_all<O: Sink>(sink: &mut O, bytes: &[u8]) -> Result<(), WriteFailed>
+    ensures nothing { bytes.now ≡ [] → (result ≡ Ok tt) × (sink.new ≡ sink.old) }
     ensures content { WritesAll (O.written sink.old) (O.written sink.new) bytes.now result }
     ensures cause { Counts (O.faults sink.old) (O.faults sink.new) (writing_failed result) }
 {
@@ -83,8 +79,8 @@ pub fn write_all<O: Sink>(sink: &mut O, bytes: &[u8]) -> WriteEnd
     while done < bytes.len() {
         match sink.write(&bytes[done..]) {
             WriteAnswer::Took(count) => done += count,
-            WriteAnswer::Failed => return WriteEnd::Failed,
+            WriteAnswer::Failed => return Err(WriteFailed),
         }
     }
-    WriteEnd::Done
+    Ok(())
 }

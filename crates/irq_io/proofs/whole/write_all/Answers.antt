@@ -17,4 +17,4 @@ loop-done-preserved g c =
     }
 
 pub returns-in-Failed-clause-content : goal.returns-in-Failed-clause-content
-returns-in-Failed-clause-content g c = WritesAll-failed _ _ _ _ _ _ c.loop-done.invariant.content c.in-Failed.ensures.content
+returns-in-Failed-clause-content g c = WritesAll-failed _ _ _ _ _ _ _ c.loop-done.invariant.content c.in-Failed.ensures.content
