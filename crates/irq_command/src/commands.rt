@@ -14,7 +14,7 @@ ghost use Rattle.irq_command.specs.Arguments.{FormReadsNothing, IsForm, IsNoForm
 
 use callbacks::{Handler, SharedHandler};
 use irq_io::{Sink, Source};
-use irq_top::{Ending, Outcome, WantedFor, end_early, irq_main};
+use irq_top::{Ending, Outcome, end_early, irq_main};
 use line_makers::MakesDomainLine;
 use notifiers::Notifier;
 use program_io::{ArgumentsRefused, lend, words_of};
@@ -53,7 +53,7 @@ where
     M::Line: Send + Sync,
     ensures form { (asked : Command) → IsForm args asked → result.ending ≡ Ending.Usage → ⊥ }
     ensures usage { IsNoForm args
-        → (result.ending ≡ Ending.Usage) ⊎ (result.ending ≡ Ending.NoMemory WantedFor.Making) }
+        → (result.ending ≡ Ending.Usage) ⊎ (result.ending ≡ Ending.NoMemory) }
     ensures not_text { IsNotText args → result.ending ≡ Ending.Usage }
     ensures unasked { IsNoForm args → result.reports.reports ≡ [] }
     ensures uncalled { IsNoForm args
@@ -94,7 +94,7 @@ where
         ),
         Err(ArgumentsRefused::NotText) => end_early(alloc, Ending::Usage, err),
         Err(ArgumentsRefused::NoMemory) => {
-            end_early(alloc, Ending::NoMemory(WantedFor::Making), err)
+            end_early(alloc, Ending::NoMemory, err)
         }
     }
 }
@@ -126,7 +126,7 @@ where
     ensures form { (asked : Command) → Asks (map string_bytes words.now) asked
         → result.ending ≡ Ending.Usage → ⊥ }
     ensures usage { AsksNothing (map string_bytes words.now)
-        → (result.ending ≡ Ending.Usage) ⊎ (result.ending ≡ Ending.NoMemory WantedFor.Making) }
+        → (result.ending ≡ Ending.Usage) ⊎ (result.ending ≡ Ending.NoMemory) }
     ensures unasked { AsksNothing (map string_bytes words.now) → result.reports.reports ≡ [] }
     ensures uncalled { AsksNothing (map string_bytes words.now)
         → (Heard H.hears [] handlers.old handlers.new) × Told N.tells [] notify.old notify.new }
@@ -163,6 +163,6 @@ where
             maker,
             notify,
         ),
-        Err(_) => end_early(alloc, Ending::NoMemory(WantedFor::Making), err),
+        Err(_) => end_early(alloc, Ending::NoMemory, err),
     }
 }
