@@ -15,7 +15,6 @@ use Rattle.board_core.specs.Pieces.{EndsPiece}
 use Rattle.board_core.specs.Seen.{SystemSeen, board_lines}
 use Rattle.board_core.specs.Turns.{CanMove, lowest_move, move_of}
 use Rattle.board_core.specs.declared.turns.Turn.{Turn}
-use Rattle.board_core.specs.declared.turns.Turn.TheVariants as turns
 
 -- A step of the actor on this line was refused memory. If there was room for one more entry, both
 -- in the line's history, as `room` says, and in the log, which has this many moves, then the line
