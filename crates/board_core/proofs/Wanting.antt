@@ -26,7 +26,8 @@ module _ (may_want : Option Entry → Type 0) where
       → WantsOn may_want s (slice_get (board_lines s.lines) stand.line) a turn → Wants may_want s a turn
   wants_there s a stand turn at wants = subst (λ (o : Option BoardLine). WantsOn may_want s o a turn) at.line.1 wants
 
-  pub lowest_wants : (s : SystemSeen) (a : Actor) (turn : Result Turn StepRefused) → lowest_move s ≡ move_of s a → Wants may_want s a turn → LowestWants may_want s turn
+  pub lowest_wants : (s : SystemSeen) (a : Actor) (turn : Result Turn StepRefused) → lowest_move s ≡ move_of s a
+      → Wants may_want s a turn → LowestWants may_want s turn
   lowest_wants s a (Ok (turns.Moved line e)) lowest wants = tt
   lowest_wants s a (Ok turns.NotYet) lowest wants = tt
   lowest_wants s a (Err (refusals.Full line len)) lowest wants = tt

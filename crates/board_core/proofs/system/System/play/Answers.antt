@@ -29,7 +29,8 @@ loop-pick-preserved g c =
 
 pub returns-in_err-turn-clause-play : goal.returns-in_err-turn-clause-play
 returns-in_err-turn-clause-play g c =
-    pick_stopped (pick_turn _ c.turn.result c.loop-pick-test.true c.loop-pick.invariant.underway c.turn.ensures.turns) c.in_err-turn.was (handed_on c.from_residual.ensures.1)
+    pick_stopped (pick_turn _ c.turn.result c.loop-pick-test.true c.loop-pick.invariant.underway c.turn.ensures.turns)
+    c.in_err-turn.was (handed_on c.from_residual.ensures.1)
 
 pub returns-clause-lines : goal.returns-clause-lines
 returns-clause-lines g c =
@@ -42,7 +43,8 @@ returns-clause-lines g c =
 pub returns-in_err-turn-clause-memory : goal.returns-in_err-turn-clause-memory
 returns-in_err-turn-clause-memory g c =
     pick_ends_play g.L.IrqLine.may_want
-    (pick_turn _ c.turn.result c.loop-pick-test.true c.loop-pick.invariant.underway c.turn.ensures.turns) c.in_err-turn.was (handed_on c.from_residual.ensures.1) c.turn.ensures.memory
+    (pick_turn _ c.turn.result c.loop-pick-test.true c.loop-pick.invariant.underway c.turn.ensures.turns)
+    c.in_err-turn.was (handed_on c.from_residual.ensures.1) c.turn.ensures.memory
 
 pub returns-clause-memory : goal.returns-clause-memory
 returns-clause-memory g c =

@@ -40,7 +40,8 @@ returns-in-NotYet-clause-play g c = λ picks u.
 
 pub returns-in_err-turn_lowest-clause-play : goal.returns-in_err-turn_lowest-clause-play
 returns-in_err-turn_lowest-clause-play g c = λ picks u.
-    lowest_stopped (lowest_turn c.turn_lowest.result c.turn_lowest.ensures.turns) (c.loop.invariant.underway picks u) c.in_err-turn_lowest.was (handed_on c.from_residual.ensures.1)
+    lowest_stopped (lowest_turn c.turn_lowest.result c.turn_lowest.ensures.turns) (c.loop.invariant.underway picks u)
+    c.in_err-turn_lowest.was (handed_on c.from_residual.ensures.1)
 
 pub returns-in_err-turn_lowest-clause-end : goal.returns-in_err-turn_lowest-clause-end
 returns-in_err-turn_lowest-clause-end g c =
@@ -48,7 +49,8 @@ returns-in_err-turn_lowest-clause-end g c =
 
 pub returns-in-NotYet-clause-lines : goal.returns-in-NotYet-clause-lines
 returns-in-NotYet-clause-lines g c = λ picks u.
-    as_left (answered (lowest_turn c.turn_lowest.result c.turn_lowest.ensures.turns) _ (c.in_ok-turn_lowest.was ∙ ap Ok c.in-NotYet.is)).1 (c.loop.invariant.underway picks u)
+    as_left (answered (lowest_turn c.turn_lowest.result c.turn_lowest.ensures.turns) _
+    (c.in_ok-turn_lowest.was ∙ ap Ok c.in-NotYet.is)).1 (c.loop.invariant.underway picks u)
 
 pub returns-in_err-turn_lowest-clause-lines : goal.returns-in_err-turn_lowest-clause-lines
 returns-in_err-turn_lowest-clause-lines g c = λ picks u.
@@ -56,7 +58,8 @@ returns-in_err-turn_lowest-clause-lines g c = λ picks u.
 
 pub returns-in-NotYet-clause-moves : goal.returns-in-NotYet-clause-moves
 returns-in-NotYet-clause-moves g c =
-    settles_same (answered (lowest_turn c.turn_lowest.result c.turn_lowest.ensures.turns) _ (c.in_ok-turn_lowest.was ∙ ap Ok c.in-NotYet.is)).1 c.loop.invariant.moves
+    settles_same (answered (lowest_turn c.turn_lowest.result c.turn_lowest.ensures.turns) _
+    (c.in_ok-turn_lowest.was ∙ ap Ok c.in-NotYet.is)).1 c.loop.invariant.moves
 
 pub returns-in_err-turn_lowest-clause-moves : goal.returns-in_err-turn_lowest-clause-moves
 returns-in_err-turn_lowest-clause-moves g c =
@@ -64,7 +67,8 @@ returns-in_err-turn_lowest-clause-moves g c =
 
 pub returns-in_err-turn_lowest-clause-memory : goal.returns-in_err-turn_lowest-clause-memory
 returns-in_err-turn_lowest-clause-memory g c =
-    lowest_ends g.L.IrqLine.may_want (lowest_turn c.turn_lowest.result c.turn_lowest.ensures.turns) c.in_err-turn_lowest.was (handed_on c.from_residual.ensures.1) c.turn_lowest.ensures.memory
+    lowest_ends g.L.IrqLine.may_want (lowest_turn c.turn_lowest.result c.turn_lowest.ensures.turns)
+    c.in_err-turn_lowest.was (handed_on c.from_residual.ensures.1) c.turn_lowest.ensures.memory
 
 pub returns-in_err-turn_lowest-clause-wanted : goal.returns-in_err-turn_lowest-clause-wanted
 returns-in_err-turn_lowest-clause-wanted g c = λ picks u.
