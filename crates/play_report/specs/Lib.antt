@@ -1,3 +1,4 @@
+pub mod Failing
 pub mod Ordered
 pub mod Answers
 pub mod Rows

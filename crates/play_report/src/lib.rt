@@ -7,7 +7,9 @@
 #![tactic(auto)]
 
 pub mod ended;
+mod failing;
 pub mod printing;
 
 pub use ended::{EndedPlay, report};
+pub use failing::PlayFailed;
 pub use printing::{RowRoom, StepRows, print_rows};
