@@ -1,7 +1,6 @@
-use Rattle.std.proofs.Common.{◌∙◌, ap, length, subst, List, ℕ, arith}
+use Rattle.std.proofs.Common.{◌∙◌, ap, length, subst, List, ℕ, arith, Ok}
 use Rattle.std.specs.List.{flat_map, range_with_len}
 use Rattle.irq_io.specs.Whole.{WritesAll}
-use Rattle.irq_io.specs.declared.whole.WriteEnd.TheVariants as ends
 use Rattle.log_text.specs.LayoutRows.{layout_row_text}
 use Rattle.board_report.proofs.Writing.{items_done, items_failed, number_at, numbers_all}
 use Rattle.board_report.proofs.printing.print_layout.Goals as goal
@@ -28,6 +27,6 @@ loop-i-preserved g c = record {
 
 pub returns-clause-content : goal.returns-clause-content
 returns-clause-content g c =
-    subst (λ (text : List ℕ). WritesAll (g.O.Sink.written c.args.out.now) (g.O.Sink.written c.loop-i.out) text ends.Done)
+    subst (λ (text : List ℕ). WritesAll (g.O.Sink.written c.args.out.now) (g.O.Sink.written c.loop-i.out) text (Ok tt))
     (ap (flat_map (layout_row_text c.args.board.now)) (numbers_all (length c.args.board.now.lines) c.loop-i.i
     (omega (arith, c.lines_len-i-end.ensures, c.loop-i-test.false)))) c.loop-i.invariant.content
