@@ -1,5 +1,5 @@
 -- Rows on an error sink.
-use Rattle.std.specs.Prelude.{◌≡◌, ℕ, Option, Result, List, ◌++◌, codes, decimal}
+use Rattle.std.specs.Prelude.{ℕ, Option, Result, List, ◌++◌, codes, decimal}
 use Rattle.irq_base.specs.declared.numbers.LineNo.{LineNo}
 use Rattle.irq_io.specs.Faults.{Counts}
 use Rattle.irq_io.specs.Whole.{KeepsNone, WritesAll, writing_failed}

@@ -36,7 +36,7 @@ pub fn tell_row<E: Sink>(err: &mut E, row: &[u8])
     ensures { Tells row.now (E.written err.old) (E.written err.new) (E.kept err.new)
         (E.faults err.old) (E.faults err.new) }
 {
-    if write_all(err, row).is_ok() {
+    if let Ok(()) = write_all(err, row) {
         let _ = err.flush();
     }
 }
