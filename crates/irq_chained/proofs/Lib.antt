@@ -1,3 +1,4 @@
+pub mod Handing
 pub mod FitsLaws
 pub mod Merging
 pub mod StatusBits

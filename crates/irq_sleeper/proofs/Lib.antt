@@ -1,3 +1,4 @@
+pub mod Handing
 pub mod Marking
 pub mod Underway
 pub mod Phased
