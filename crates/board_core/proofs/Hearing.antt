@@ -134,7 +134,8 @@ module _ {H : Type 0} (hears : H → Run → H → Type 0) where
   pub since_begun : (s : SystemSeen) (h : H) → Heard hears (runs_since s s) h h
   since_begun s h = heard_none h (runs_since s s) (since_same s s refl)
 
-  pub since_more : (first old new : SystemSeen) (due : Option Move) (turn : Result Turn StepRefused) → StepsBy old due turn new → Settles first old → (h k m : H)
+  pub since_more : (first old new : SystemSeen) (due : Option Move) (turn : Result Turn StepRefused)
+      → StepsBy old due turn new → Settles first old → (h k m : H)
       → Heard hears (runs_since first old) h k → Heard hears (runs_by_turn old turn) k m → Heard hears (runs_since first new) h m
   since_more first old new due turn t s h k m before now =
       subst (λ (runs : List Run). Heard hears runs h m) (sym (since_turned first old new due turn t s))

@@ -180,7 +180,8 @@ module _ {L : Type 0} {view : SystemSeen} (system : KeptSystem view) {a : Actor}
   pub steps_so : (turn : Result Turn StepRefused) → turn ≡ turn_of step.number step.answer
       → StepsBy view (due_on (slice_get (board_lines view.lines) stand.line) a) turn (seen_of board layout step.lines step.order)
   steps_so turn same =
-      subst (λ (t : Result Turn StepRefused). StepsBy view (due_on (slice_get (board_lines view.lines) stand.line) a) t (seen_of board layout step.lines step.order))
+      subst (λ (t : Result Turn StepRefused). StepsBy view (due_on (slice_get (board_lines view.lines) stand.line) a) t
+      (seen_of board layout step.lines step.order))
       (sym same) (turned L system can step)
 
   -- a refusal of the place is one of the system
@@ -188,7 +189,8 @@ module _ {L : Type 0} {view : SystemSeen} (system : KeptSystem view) {a : Actor}
       → StepWants may_want lines (length system.order) stand.line a step.answer
       → WantsOn may_want view (slice_get (board_lines view.lines) stand.line) a turn
   wants_so may_want turn same wants =
-      subst (λ (t : Result Turn StepRefused). WantsOn may_want view (slice_get (board_lines view.lines) stand.line) a t) (sym same) (by_answer step.answer wants)
+      subst (λ (t : Result Turn StepRefused). WantsOn may_want view (slice_get (board_lines view.lines) stand.line) a t)
+      (sym same) (by_answer step.answer wants)
     where
       by_answer : (r : Result (Stepped L) StepRefused) → StepWants may_want lines (length system.order) stand.line a r
           → WantsOn may_want view (slice_get (board_lines view.lines) stand.line) a (turn_of step.number r)

@@ -28,6 +28,7 @@ pub mod LowestTurns
 pub mod Wanting
 pub mod Hearing
 pub mod Given
+pub mod Handing
 pub mod OwnScripts
 pub mod CutCounts
 pub mod Placed

@@ -12,7 +12,7 @@ use Rattle.board_play.specs.Lines.{BoardLine, Move, lines_after}
 use Rattle.board_play.specs.Play.{with_picks, choice}
 use Rattle.board_core.specs.Playing.{IsUnderway, IsPlay, Ends, IsLowestMove, Settles}
 use Rattle.board_core.specs.Seen.{SystemSeen, board_lines}
-use Rattle.board_core.specs.Turns.{Moves, IsFullFor, TurnsBy, lowest_move}
+use Rattle.board_core.specs.Turns.{Moves, IsFullFor, IsRefused, TurnsBy, lowest_move}
 use Rattle.board_core.specs.declared.turns.Turn.{Turn}
 use Rattle.board_core.specs.declared.turns.Turn.TheVariants as turns
 use Rattle.board_core.proofs.Room.{room_of, room_of_moved}
@@ -78,12 +78,24 @@ module _ {old new : SystemSeen} (t : LowestTurn old new) where
       let wanted : IsSome (lowest_move old) × (new ≡ old) = answered (Err refusals.NoMemory) same in
       subst (λ (s : SystemSeen). IsPlay s picks (Err refusals.NoMemory)) (sym wanted.1) (refused old picks [] u wanted.0)
 
+  -- the play ended at that refusal
+  stopped_by : {picks : List Actor} (by : StepRefused) → IsUnderway old picks [] → t.turn ≡ Err by → IsPlay new picks (Err by)
+  stopped_by (refusals.Full line len) u same = lowest_full u same
+  stopped_by refusals.NoMemory u same = lowest_refused u same
+
+  pub lowest_stopped : {picks : List Actor} {by : StepRefused} {end : Result Unit StepRefused} → IsUnderway old picks [] → t.turn ≡ Err by
+      → end ≡ Err by → IsPlay new picks end
+  lowest_stopped {picks} {by} u same is = subst (λ (e : Result Unit StepRefused). IsPlay new picks e) (sym is) (stopped_by by u same)
+
   -- ---- of the lowest actors alone
 
-  pub ends_refused : t.turn ≡ Err refusals.NoMemory → Ends new (Err refusals.NoMemory)
-  ends_refused same =
-      let wanted : IsSome (lowest_move old) × (new ≡ old) = answered (Err refusals.NoMemory) same in
-      subst (λ (s : SystemSeen). Ends s (Err refusals.NoMemory)) (sym wanted.1) wanted.0
+  pub ends_stopped : {by : StepRefused} {end : Result Unit StepRefused} → t.turn ≡ Err by → end ≡ Err by → Ends new end
+  ends_stopped {by} same is =
+      let refused : IsRefused old (lowest_move old) by × (new ≡ old) = answered (Err by) same in
+      subst (λ (e : Result Unit StepRefused). Ends new e) (sym is) (subst (λ (s : SystemSeen). Ends s (Err by)) (sym refused.1) refused.0)
+
+  pub same_stopped : {by : StepRefused} → t.turn ≡ Err by → new ≡ old
+  same_stopped {by} same = (answered (Err by) same).1
 
   pub settles_moved : {first : SystemSeen} {line : LineNo} {e : Entry} → old.board ≡ first.board → t.turn ≡ Ok (turns.Moved line e)
       → Settles first old → Settles first new

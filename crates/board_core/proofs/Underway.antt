@@ -189,21 +189,24 @@ module _ {old new : SystemSeen} {picks : List Actor} {i : ℕ} (t : PickTurn old
       subst (λ (s : SystemSeen). IsPlay s picks (Err refusals.NoMemory)) (sym wanted.1)
       (refused old picks (pick ∷ after) pick_next wanted.0.somebody)
 
+  -- the play ended at that refusal
+  stopped_by : (by : StepRefused) → t.turn ≡ Err by → IsPlay new picks (Err by)
+  stopped_by (refusals.Full line len) same = pick_full same
+  stopped_by refusals.NoMemory same = pick_refused same
+
+  pub pick_stopped : {by : StepRefused} {end : Result Unit StepRefused} → t.turn ≡ Err by → end ≡ Err by → IsPlay new picks end
+  pick_stopped {by} same is = subst (λ (e : Result Unit StepRefused). IsPlay new picks e) (sym is) (stopped_by by same)
+
   -- the play goes on with the picks after it
-  pub pick_done : ((line : LineNo) (len : ℕ) → t.turn ≡ Err (refusals.Full line len) → ⊥) → (t.turn ≡ Err refusals.NoMemory → ⊥) → IsUnderway new picks after
-  pick_done full none = by_turn t.turn refl
-    where
-      by_turn : (turn : Result Turn StepRefused) → t.turn ≡ turn → IsUnderway new picks after
-      by_turn (Ok (turns.Moved line e)) same =
-          let moves : Moves old (move_of old pick) (line, e) new = answered (Ok (turns.Moved line e)) same in
-          more old new (move_of old pick) (line, e) picks (pick ∷ after) after pick_next moves (with_move old pick after (line, e) moves.is)
-      by_turn (Ok turns.NotYet) same =
-          let rests : (move_of old pick ≡ None) × (new ≡ old) = answered (Ok turns.NotYet) same in
-          let u = pick_next in
-          subst (λ (s : SystemSeen). IsUnderway s picks after) (sym rests.1)
-          (record { lines = u.lines; left = u.left; chosen = u.chosen; next = u.next ∙ passed_over old pick after rests.0 })
-      by_turn (Err (refusals.Full line len)) same = absurd (full line len same)
-      by_turn (Err refusals.NoMemory) same = absurd (none same)
+  pub pick_done : (did : Turn) → t.turn ≡ Ok did → IsUnderway new picks after
+  pick_done (turns.Moved line e) same =
+      let moves : Moves old (move_of old pick) (line, e) new = answered (Ok (turns.Moved line e)) same in
+      more old new (move_of old pick) (line, e) picks (pick ∷ after) after pick_next moves (with_move old pick after (line, e) moves.is)
+  pick_done turns.NotYet same =
+      let rests : (move_of old pick ≡ None) × (new ≡ old) = answered (Ok turns.NotYet) same in
+      let u = pick_next in
+      subst (λ (s : SystemSeen). IsUnderway s picks after) (sym rests.1)
+      (record { lines = u.lines; left = u.left; chosen = u.chosen; next = u.next ∙ passed_over old pick after rests.0 })
 
   pub pick_keeps_board : new.board ≡ old.board
   pick_keeps_board = turn_same_board old new pick t.turn t.turns

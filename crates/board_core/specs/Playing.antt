@@ -1,5 +1,6 @@
 -- What a play of a system comes to.
-use Rattle.std.specs.Prelude.{◌≡◌, ◌<◌, IsSome, IsSomeAnd, Some, None, List, [], ◌∷◌, ◌++◌, Result, Ok, Err}
+use Rattle.std.specs.Prelude.{◌≡◌, ◌<◌, IsSome, IsSomeAnd, Some, None, List, [], ◌∷◌, ◌++◌}
+use Rattle.std.specs.Prelude.{Result, Ok, Err}
 use Rattle.std.specs.Prelude.{length, reverse}
 use Rattle.irq_line.specs.declared.answers.StepRefused.TheVariants as refusals
 use Rattle.irq_line.specs.declared.answers.StepRefused.{StepRefused}
@@ -30,7 +31,8 @@ abbrev pub IsPlay : SystemSeen → List Actor → Result Unit StepRefused → Ty
 IsPlay s picks (Ok _) = Plays s.board picks (reverse s.log) Done
 IsPlay s picks (Err (refusals.Full line len)) =
     Plays s.board picks (reverse s.log) (Full line) × (length (part line (reverse s.log)) ≡ len)
-IsPlay s picks (Err refusals.NoMemory) = (left : List Actor) × IsChosen s.board picks (reverse s.log) left
+IsPlay s picks (Err refusals.NoMemory) = (left : List Actor)
+    × IsChosen s.board picks (reverse s.log) left
     × IsSome (choice s.board (lines_of s.board (reverse s.log)) left)
 
 -- no actor can move, or the move of the lowest actor that can was refused

@@ -41,7 +41,8 @@ scripts_after (Some j) (Ok (stepped.Added e)) scripts
     = script_after (slice_get scripts j) j e scripts
 scripts_after _ _ scripts = scripts
 
-abbrev pub turn_of : {L : Type 0} → LineNo → Result (Stepped L) StepRefused → Result Turn StepRefused
+abbrev pub turn_of : {L : Type 0} → LineNo → Result (Stepped L) StepRefused
+    → Result Turn StepRefused
 turn_of line (Ok (stepped.Added entry)) = Ok (turns.Moved line entry)
 turn_of line (Ok _) = Ok turns.NotYet
 turn_of line (Err refused) = Err refused

@@ -1,5 +1,6 @@
 -- What a turn of an actor comes to.
-use Rattle.std.specs.Prelude.{◌≡◌, ◌<◌, ◌≤◌, IsSome, IsSomeAnd, ℕ, Option, Some, None, List, [], Result, Ok, Err}
+use Rattle.std.specs.Prelude.{◌≡◌, ◌<◌, ◌≤◌, IsSome, IsSomeAnd, ℕ, Option, Some, None, List, []}
+use Rattle.std.specs.Prelude.{Result, Ok, Err}
 use Rattle.std.specs.Prelude.{◌∷◌, ◌++◌, length}
 use Rattle.irq_line.specs.declared.answers.StepRefused.TheVariants as refusals
 use Rattle.irq_line.specs.declared.answers.StepRefused.{StepRefused}
@@ -40,7 +41,8 @@ pub record IsFullFor (s : SystemSeen) (due : Option Move) (line : LineNo) (len :
   pub length : HasLength (find_line (board_lines s.lines) line) len
   pub log : len ≡ s.board.log
 
--- the move that is due wasn't made: its line has no room, or memory was needed, which is needed only
+-- the move that is due wasn't made: its line has no room, or memory was needed, which is needed
+-- only
 -- for a move
 abbrev pub IsRefused : SystemSeen → Option Move → StepRefused → Type 0
 IsRefused s due (refusals.Full line len) = IsFullFor s due line len

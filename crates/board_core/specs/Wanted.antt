@@ -1,5 +1,6 @@
 -- For which step of a system memory was refused.
-use Rattle.std.specs.Prelude.{◌≡◌, ◌≤◌, ℕ, IsSome, Option, Some, List, length, reverse, slice_get, Result, Err}
+use Rattle.std.specs.Prelude.{◌≡◌, ◌≤◌, ℕ, IsSome, Option, Some, List, length, reverse, slice_get}
+use Rattle.std.specs.Prelude.{Result, Err}
 use Rattle.irq_line.specs.declared.answers.StepRefused.TheVariants as refusals
 use Rattle.irq_line.specs.declared.answers.StepRefused.{StepRefused}
 use Rattle.irq_base.specs.declared.entries.Actor.{Actor}
@@ -15,7 +16,6 @@ use Rattle.board_core.specs.Pieces.{EndsPiece}
 use Rattle.board_core.specs.Seen.{SystemSeen, board_lines}
 use Rattle.board_core.specs.Turns.{CanMove, lowest_move, move_of}
 use Rattle.board_core.specs.declared.turns.Turn.{Turn}
-use Rattle.board_core.specs.declared.turns.Turn.TheVariants as turns
 
 -- A step of the actor on this line was refused memory. If there was room for one more entry, both
 -- in the line's history, as `room` says, and in the log, which has this many moves, then the line
@@ -33,7 +33,8 @@ HasSpare lines number =
     (k : ℕ) (x : LineSeen) → slice_get lines k ≡ Some x → x.def.line ≡ number → 1 ≤ x.spare
 
 -- a turn's step on this line was refused memory
-abbrev pub WantsOn : (Option Entry → Type 0) → SystemSeen → Option BoardLine → Actor → Result Turn StepRefused
+abbrev pub WantsOn : (Option Entry → Type 0) → SystemSeen → Option BoardLine → Actor
+    → Result Turn StepRefused
     → Type 0
 WantsOn may_want s on a (Err refusals.NoMemory) =
     WantedMemory may_want (HasSpare s.lines) (length s.log) on a
@@ -73,7 +74,8 @@ pub record WantsNext (may_want : Option Entry → Type 0) (room : LineNo → Typ
   pub step : WantedMemory may_want room (length g) (line_for b (lines_of b (reverse g)) actor)
       actor
 
-abbrev pub PlayWants : (Option Entry → Type 0) → SystemSeen → List Actor → Result Unit StepRefused → Type 0
+abbrev pub PlayWants : (Option Entry → Type 0) → SystemSeen → List Actor → Result Unit StepRefused
+    → Type 0
 PlayWants may_want s picks (Err refusals.NoMemory) =
     WantsNext may_want (HasSpare s.lines) s.board picks s.log
 PlayWants may_want s picks end = Unit {0}

@@ -16,7 +16,7 @@ use crate::commands::command;
 use callbacks::{Handler, SharedHandler};
 use irq_base::NoMemory;
 use irq_io::{StdSink, StdSource};
-use irq_top::{Ending, Outcome, WantedFor, end_early};
+use irq_top::{Ending, Outcome, end_early};
 use line_makers::MakesDomainLine;
 use notifiers::Notifier;
 use program_io::{with_buffer, without_buffer};
@@ -70,12 +70,12 @@ where
     M::Line: Send + Sync,
     ensures status { result.status ≡ status_of result.outcome.ending }
     ensures buffer { result.output ≡ None
-        → result.outcome.ending ≡ Ending.NoMemory WantedFor.Making }
+        → result.outcome.ending ≡ Ending.NoMemory }
     ensures form { (asked : Command) → IsForm args asked
         → result.outcome.ending ≡ Ending.Usage → ⊥ }
     ensures usage { IsNoForm args
         → (result.outcome.ending ≡ Ending.Usage)
-        ⊎ (result.outcome.ending ≡ Ending.NoMemory WantedFor.Making) }
+        ⊎ (result.outcome.ending ≡ Ending.NoMemory) }
     ensures not_text { IsNotText args → IsSome result.output
         → result.outcome.ending ≡ Ending.Usage }
     ensures unasked { IsNoForm args → result.outcome.reports.reports ≡ [] }
@@ -137,8 +137,8 @@ where
             }
         }
         Err(NoMemory) => Ended {
-            status: Ending::NoMemory(WantedFor::Making).status(),
-            outcome: end_early(alloc, Ending::NoMemory(WantedFor::Making), &mut error),
+            status: Ending::NoMemory.status(),
+            outcome: end_early(alloc, Ending::NoMemory, &mut error),
             input,
             output: None,
             error,

@@ -1,6 +1,6 @@
 -- Contents that a source or a sink may tell, and beginnings of lists. If it doesn't tell its
 -- content, nothing is said of it, not even that it never will: std's traits leave that open.
-use Rattle.std.specs.Prelude.{◌≡◌, ℕ, List, [], ◌++◌, Option, Some, None}
+use Rattle.std.specs.Prelude.{◌≡◌, ℕ, List, ◌++◌, Option, Some, None}
 
 -- the second list begins with the first
 abbrev pub IsBeginning : List ℕ → List ℕ → Type 0

@@ -1,17 +1,14 @@
 -- What a command does that takes a board.
-use Rattle.std.proofs.Common.{◌≡◌, ℕ, Bool, false, inr, Option, Some, None, Ok, List, refl, sym, subst}
-use Rattle.irq_base.specs.declared.devices.Answer.{Answer}
-use Rattle.irq_base.specs.declared.devices.Run.{Run}
+use Rattle.std.proofs.Common.{◌≡◌, ℕ, Bool, false, inr, Option, Some, None, Result, Ok, Err, List, refl, sym, subst}
 use Rattle.irq_base.specs.declared.reporting.LineReport.{LineReport}
 use Rattle.board_words.specs.declared.faults.FaultKind.{FaultKind}
-use Rattle.irq_play.specs.declared.ending.PlayedEnd.{PlayedEnd}
-use Rattle.irq_play.specs.declared.ending.PlayedEnd.TheVariants as plays
+use Rattle.play_report.specs.declared.failing.PlayFailed.{PlayFailed}
+use Rattle.play_report.specs.declared.failing.PlayFailed.TheVariants as plays
 use Rattle.board_def.specs.Rules.{IsBoard}
 use Rattle.board_def.specs.Seen.{BoardSeen}
-use Rattle.irq_play.specs.declared.ending.WantedFor.TheVariants as wants
 use Rattle.irq_top.specs.declared.ending.Ending.{Ending}
 use Rattle.irq_top.specs.declared.ending.Ending.TheVariants as endings
-use Rattle.irq_top.specs.Commands.{EndsAs, EndsIfFit, IsReadToEnd, IsSane, RunsAs, TakesBoard, TakesInput}
+use Rattle.irq_top.specs.Commands.{EndsAs, EndsIfFit, IsReadToEnd, TakesBoard, TakesInput}
 use Rattle.irq_top.specs.Commands.{TellsPlay, TellsTaken}
 use Rattle.irq_top.specs.Ending.{ending_of_play, ending_of_refusal, is_read_fault_end}
 use Rattle.program_io.specs.Reading.{IsStated, ReadsBoard}
@@ -33,69 +30,52 @@ module _ (nobody : Type 0) (OnBoard : BoardSeen → List LineReport → Option (
   pub takes_board : (ending : Ending) → is_read_fault_end ending ≡ false → (b : BoardSeen) → ReadsBoard told left (Ok b) → IsStated told b → IsBoard b
       → OnBoard b reports before now ending → TakesBoard nobody OnBoard told left reports before now ending
   takes_board endings.ReadFault unread b read stated keeps done = cc
-  takes_board (endings.NoMemory wants.Making) unread b read stated keeps done = inr (taken (endings.NoMemory wants.Making) b read stated keeps done)
+  takes_board endings.NoMemory unread b read stated keeps done = inr (taken endings.NoMemory b read stated keeps done)
   takes_board (endings.Board fault) unread b read stated keeps done = inr (taken (endings.Board fault) b read stated keeps done)
   takes_board endings.Done unread b read stated keeps done = taken endings.Done b read stated keeps done
   takes_board (endings.Unlawful line entry) unread b read stated keeps done = taken (endings.Unlawful line entry) b read stated keeps done
   takes_board (endings.Malformed row) unread b read stated keeps done = taken (endings.Malformed row) b read stated keeps done
   takes_board endings.Usage unread b read stated keeps done = taken endings.Usage b read stated keeps done
   takes_board endings.WriteFault unread b read stated keeps done = taken endings.WriteFault b read stated keeps done
-  takes_board (endings.LogFull line len) unread b read stated keeps done = taken (endings.LogFull line len) b read stated keeps done
-  takes_board (endings.NoMemory wants.Step) unread b read stated keeps done = taken (endings.NoMemory wants.Step) b read stated keeps done
+  takes_board (endings.Step refused) unread b read stated keeps done = taken (endings.Step refused) b read stated keeps done
 
--- it came without a read fault
-pub taken_unread : (OnBoard : BoardSeen → List LineReport → Option (List ℕ) → Option (List ℕ) → Ending → Type 0) → IsSane OnBoard
-    → (before now : Option (List ℕ)) (reports : List LineReport) (ending : Ending) (b : BoardSeen) → OnBoard b reports before now ending
-    → is_read_fault_end ending ≡ false
-taken_unread OnBoard sane before now reports endings.ReadFault b done = absurd (sane b reports before now done)
-taken_unread OnBoard sane before now reports _ b done = refl
-
-pub plays_read_nothing : (end : PlayedEnd) → is_read_fault_end (ending_of_play end) ≡ false
-plays_read_nothing plays.Done = refl
-plays_read_nothing plays.WriteFault = refl
-plays_read_nothing (plays.LogFull line len) = refl
-plays_read_nothing (plays.NoMemory wanted) = refl
-
-pub runs_are_sane : (gave : Run → Answer → Type 0) (summary : Bool) → IsSane (RunsAs gave summary)
-runs_are_sane gave summary b reports before now none = none
+pub plays_read_nothing : (end : Result Unit PlayFailed) → is_read_fault_end (ending_of_play end) ≡ false
+plays_read_nothing (Ok _) = refl
+plays_read_nothing (Err plays.NoMemory) = refl
+plays_read_nothing (Err (plays.Step refused)) = refl
+plays_read_nothing (Err (plays.Write failed)) = refl
 
 -- the call ends as the play did
 module _ (IsntFor : BoardSeen → Type 0) (nobody : Type 0) (kind : FaultKind)
-    (Plays : BoardSeen → List LineReport → Option (List ℕ) → Option (List ℕ) → PlayedEnd → Type 0) (b : BoardSeen) (before now : Option (List ℕ)) where
-  by_end : (reports : List LineReport) (end : PlayedEnd) → Plays b reports before now end
+    (Plays : BoardSeen → List LineReport → Option (List ℕ) → Option (List ℕ) → Result Unit PlayFailed → Type 0) (b : BoardSeen)
+    (before now : Option (List ℕ)) where
+  by_end : (reports : List LineReport) (end : Result Unit PlayFailed) → Plays b reports before now end
       → EndsIfFit IsntFor nobody kind Plays b reports before now (ending_of_play end)
-  by_end reports plays.Done played = played
-  by_end reports plays.WriteFault played = played
-  by_end reports (plays.LogFull line len) played = played
-  by_end reports (plays.NoMemory wanted) played = played
+  by_end reports (Ok u) played = (Ok u, refl, played)
+  by_end reports (Err plays.NoMemory) played = (Err plays.NoMemory, refl, played)
+  by_end reports (Err (plays.Step refused)) played = (Err (plays.Step refused), refl, played)
+  by_end reports (Err (plays.Write failed)) played = (Err (plays.Write failed), refl, played)
 
-  pub ends_as_played : (reports told : List LineReport) (end : PlayedEnd) (ending : Ending) → ending ≡ ending_of_play end
+  pub ends_as_played : (reports told : List LineReport) (end : Result Unit PlayFailed) (ending : Ending) → ending ≡ ending_of_play end
       → told ≡ reports → Plays b reports before now end → EndsIfFit IsntFor nobody kind Plays b told before now ending
   ends_as_played reports told end ending is handed played =
       subst (λ (e : Ending). EndsIfFit IsntFor nobody kind Plays b told before now e) (sym is)
       (subst (λ (rs : List LineReport). EndsIfFit IsntFor nobody kind Plays b rs before now (ending_of_play end)) (sym handed)
       (by_end reports end played))
 
--- the same of a play that every board is for
-module _ (Plays : BoardSeen → List LineReport → Option (List ℕ) → Option (List ℕ) → PlayedEnd → Type 0) (b : BoardSeen) (before now : Option (List ℕ)) where
-  as_end : (reports : List LineReport) (end : PlayedEnd) → Plays b reports before now end → EndsAs Plays b reports before now (ending_of_play end)
-  as_end reports plays.Done played = played
-  as_end reports plays.WriteFault played = played
-  as_end reports (plays.LogFull line len) played = played
-  as_end reports (plays.NoMemory wanted) played = played
-
-  pub ends_as_any_play : (reports told : List LineReport) (end : PlayedEnd) (ending : Ending) → ending ≡ ending_of_play end → told ≡ reports
-      → Plays b reports before now end → EndsAs Plays b told before now ending
-  ends_as_any_play reports told end ending is handed played =
-      subst (λ (e : Ending). EndsAs Plays b told before now e) (sym is)
-      (subst (λ (rs : List LineReport). EndsAs Plays b rs before now (ending_of_play end)) (sym handed) (as_end reports end played))
+-- the same of a play that every board is for, and of a run
+pub ends_as_any_play : (Plays : BoardSeen → List LineReport → Option (List ℕ) → Option (List ℕ) → Result Unit PlayFailed → Type 0)
+    (b : BoardSeen) (before now : Option (List ℕ)) (reports told : List LineReport) (end : Result Unit PlayFailed) (ending : Ending)
+    → ending ≡ ending_of_play end → told ≡ reports → Plays b reports before now end → EndsAs Plays b told before now ending
+ends_as_any_play Plays b before now reports told end ending is handed played =
+    (end, is, subst (λ (rs : List LineReport). Plays b rs before now end) (sym handed) played)
 
 -- ---- what is told of a step that was refused memory
 
-module _ (Tells : BoardSeen → List LineReport → PlayedEnd → Type 0) (told : Option (List ℕ)) (reports : List LineReport) where
+module _ (Tells : BoardSeen → List LineReport → Result Unit PlayFailed → Type 0) (told : Option (List ℕ)) (reports : List LineReport) where
   pub taken_tells : (ending : Ending) (b : BoardSeen) → IsStated told b → TellsPlay Tells b reports ending → TellsTaken Tells told reports ending
-  taken_tells (endings.NoMemory wants.Step) b stated tells = (b, stated, tells)
-  taken_tells (endings.NoMemory wants.Making) b stated tells = tt
+  taken_tells (endings.Step refused) b stated tells = (b, stated, tells)
+  taken_tells endings.NoMemory b stated tells = tt
   taken_tells endings.Done b stated tells = tt
   taken_tells (endings.Unlawful line entry) b stated tells = tt
   taken_tells (endings.Malformed row) b stated tells = tt
@@ -103,7 +83,6 @@ module _ (Tells : BoardSeen → List LineReport → PlayedEnd → Type 0) (told 
   taken_tells (endings.Board fault) b stated tells = tt
   taken_tells endings.ReadFault b stated tells = tt
   taken_tells endings.WriteFault b stated tells = tt
-  taken_tells (endings.LogFull line len) b stated tells = tt
 
   by_refusal : (refused : InputRefused) → TellsTaken Tells told reports (ending_of_refusal refused)
   by_refusal (refusals.Fault fault) = tt
@@ -113,14 +92,14 @@ module _ (Tells : BoardSeen → List LineReport → PlayedEnd → Type 0) (told 
   pub refused_tells : (refused : InputRefused) (ending : Ending) → ending ≡ ending_of_refusal refused → TellsTaken Tells told reports ending
   refused_tells refused ending is = subst (λ (e : Ending). TellsTaken Tells told reports e) (sym is) (by_refusal refused)
 
-module _ (Tells : BoardSeen → List LineReport → PlayedEnd → Type 0) (b : BoardSeen) (reports : List LineReport) where
-  by_step : (end : PlayedEnd) → Tells b reports end → TellsPlay Tells b reports (ending_of_play end)
-  by_step plays.Done tells = tt
-  by_step plays.WriteFault tells = tt
-  by_step (plays.LogFull line len) tells = tt
-  by_step (plays.NoMemory wanted) tells = tells
+module _ (Tells : BoardSeen → List LineReport → Result Unit PlayFailed → Type 0) (b : BoardSeen) (reports : List LineReport) where
+  by_step : (end : Result Unit PlayFailed) → Tells b reports end → TellsPlay Tells b reports (ending_of_play end)
+  by_step (Ok _) tells = tt
+  by_step (Err plays.NoMemory) tells = tt
+  by_step (Err (plays.Step refused)) tells = tells
+  by_step (Err (plays.Write failed)) tells = tt
 
-  pub tells_as_played : (told : List LineReport) (end : PlayedEnd) (ending : Ending) → ending ≡ ending_of_play end
+  pub tells_as_played : (told : List LineReport) (end : Result Unit PlayFailed) (ending : Ending) → ending ≡ ending_of_play end
       → told ≡ reports → Tells b reports end → TellsPlay Tells b told ending
   tells_as_played told end ending is handed tells =
       subst (λ (e : Ending). TellsPlay Tells b told e) (sym is)

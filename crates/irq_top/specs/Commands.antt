@@ -4,7 +4,8 @@
 -- each, in this order, and for no other; of a run and an answer `gave` says that the handlers which
 -- threads share gave it in a call; and of placings `placed` says that the notifier was told of
 -- these, in this order, and of no other.
-use Rattle.std.specs.Prelude.{◌≡◌, ◌⊎◌, ℕ, Bool, true, false, Option, Some, None, Err, List, []}
+use Rattle.std.specs.Prelude.{◌≡◌, ◌⊎◌, ℕ, Bool, true, false, Option, Some, None, List, []}
+use Rattle.std.specs.Prelude.{Result, Err}
 use Rattle.irq_base.specs.declared.devices.Answer.{Answer}
 use Rattle.irq_base.specs.declared.devices.Run.{Run}
 use Rattle.irq_base.specs.declared.entries.Entry.{Entry}
@@ -24,27 +25,25 @@ use Rattle.hotplug_play.specs.Played.{HotplugsBoard, planned_after}
 use Rattle.irq_chained.specs.Fits.{is_for_chain}
 use Rattle.irq_hotplug.specs.declared.events.Event.{Event}
 use Rattle.irq_check.specs.Ends.{Reads, SaysOrNot}
-use Rattle.log_check.specs.declared.verdict.Verdict.{Verdict}
-use Rattle.log_check.specs.declared.verdict.Verdict.TheVariants as verdicts
 use Rattle.irq_check.specs.declared.answers.Judgement.{Judgement}
-use Rattle.irq_check.specs.declared.printing.CheckEnd.{CheckEnd}
-use Rattle.irq_check.specs.declared.printing.CheckEnd.TheVariants as checks
+use Rattle.irq_check.specs.declared.failing.CheckFailed.{CheckFailed}
+use Rattle.irq_check.specs.declared.failing.CheckFailed.TheVariants as checks
 use Rattle.irq_play.specs.Played.{PlaysBoard, TellsStep}
 use Rattle.irq_pm.specs.SleptBoard.{is_for_sleep}
 use Rattle.notifiers.specs.Told.{Notice}
 use Rattle.sleep_play.specs.Played as sleeps
 use Rattle.sleep_play.specs.Played.{SleepsBoard}
-use Rattle.irq_play.specs.declared.ending.PlayedEnd.{PlayedEnd}
-use Rattle.irq_play.specs.declared.ending.PlayedEnd.TheVariants as plays
-use Rattle.irq_play.specs.declared.ending.WantedFor.TheVariants as wants
+use Rattle.irq_run.specs.Ran as runs
 use Rattle.irq_run.specs.Ran.{RunsBoard}
-use Rattle.irq_run.specs.declared.ending.RunEnd.TheVariants as runs
+use Rattle.play_report.specs.declared.failing.PlayFailed.{PlayFailed}
+use Rattle.play_report.specs.declared.failing.PlayFailed.TheVariants as plays
 use Rattle.irq_words.specs.Words.{Asks}
 use Rattle.irq_words.specs.declared.Command.{Command}
 use Rattle.irq_words.specs.declared.Command.TheVariants as commands
 use Rattle.program_io.specs.Reading.{IsStated, ReadsBoard}
 use Rattle.program_io.specs.declared.inputs.InputRefused.{InputRefused}
 use Rattle.program_io.specs.declared.inputs.InputRefused.TheVariants as refusals
+use Rattle.irq_top.specs.Ending.{ending_of_check, ending_of_play}
 use Rattle.irq_top.specs.declared.ending.Ending.{Ending}
 use Rattle.irq_top.specs.declared.ending.Ending.TheVariants as endings
 
@@ -63,12 +62,6 @@ pub record RefusesInput (nobody : Type 0) (told left : Option (List ℕ)) (repor
   pub read : ReadsBoard told left (Err refused)
   pub reports_are : reports ≡ []
   pub uncalled : nobody
-
--- what a command does with a board is never a read fault
-abbrev pub IsSane : (BoardSeen → List LineReport → Option (List ℕ) → Option (List ℕ) → Ending
-    → Type 0) → Type 0
-IsSane OnBoard = (b : BoardSeen) (reports : List LineReport) (before now : Option (List ℕ))
-    → OnBoard b reports before now endings.ReadFault → ⊥
 
 -- what a command does with a board: with these reports, with this output before and now, and with
 -- this ending
@@ -91,24 +84,19 @@ module _ (nobody : Type 0) (OnBoard : BoardSeen → List LineReport → Option (
       ⊎ TakesInput told left reports before now (endings.Board fault)
   TakesBoard told left reports before now endings.ReadFault =
       RefusesInput nobody told left reports refusals.ReadFault
-  TakesBoard told left reports before now (endings.NoMemory wants.Making) =
+  TakesBoard told left reports before now endings.NoMemory =
       RefusesInput nobody told left reports refusals.NoMemory
-      ⊎ TakesInput told left reports before now (endings.NoMemory wants.Making)
+      ⊎ TakesInput told left reports before now endings.NoMemory
   TakesBoard told left reports before now ending = TakesInput told left reports before now ending
 
--- a board was played. If all is printed, or after a fault of the output, the play's headline holds;
--- else it was played until a log was full, or until a step was refused memory
-module _ (Plays : BoardSeen → List LineReport → Option (List ℕ) → Option (List ℕ) → PlayedEnd
-    → Type 0) where
+-- a board was played or run, and the call ends as that did
+module _ (Plays : BoardSeen → List LineReport → Option (List ℕ) → Option (List ℕ)
+    → Result Unit PlayFailed → Type 0) where
   abbrev pub EndsAs : BoardSeen → List LineReport → Option (List ℕ) → Option (List ℕ) → Ending
       → Type 0
-  EndsAs b reports before now endings.Done = Plays b reports before now plays.Done
-  EndsAs b reports before now endings.WriteFault = Plays b reports before now plays.WriteFault
-  EndsAs b reports before now (endings.LogFull line len) =
-      Plays b reports before now (plays.LogFull line len)
-  EndsAs b reports before now (endings.NoMemory wanted) =
-      Plays b reports before now (plays.NoMemory wanted)
-  EndsAs b reports before now _ = ⊥
+  EndsAs b reports before now ending =
+      (end : Result Unit PlayFailed) × (ending ≡ ending_of_play end)
+      × Plays b reports before now end
 
 -- the board isn't for what is asked: this fault of the whole text says so, nothing is handed out,
 -- and `nobody` was called
@@ -121,8 +109,8 @@ pub record IsRefused (isnt_for nobody : Type 0) (kind : FaultKind) (reports : Li
 
 -- a board was played, if it is for that; else it is refused
 module _ (IsntFor : BoardSeen → Type 0) (nobody : Type 0) (kind : FaultKind)
-    (Plays : BoardSeen → List LineReport → Option (List ℕ) → Option (List ℕ) → PlayedEnd
-    → Type 0) where
+    (Plays : BoardSeen → List LineReport → Option (List ℕ) → Option (List ℕ)
+    → Result Unit PlayFailed → Type 0) where
   abbrev pub EndsIfFit : BoardSeen → List LineReport → Option (List ℕ) → Option (List ℕ) → Ending
       → Type 0
   EndsIfFit b reports before now (endings.Board fault) =
@@ -155,53 +143,26 @@ module _ (heard : List Run → Type 0) where
   SleepsAs armed = EndsIfFit (λ b. is_for_sleep b armed ≡ false) (heard []) faults.NotForSleep
       (λ b. SleepsBoard b armed heard)
 
--- a board was run by threads. If all is printed, or after a fault of the output, the headline of a
--- run holds; else it was run until a log was full
+-- a board was run by threads; of each run of a handler and its answer holds `gave`
 abbrev pub RunsAs : (gave : Run → Answer → Type 0) → Bool → BoardSeen → List LineReport
     → Option (List ℕ) → Option (List ℕ) → Ending → Type 0
-RunsAs gave summary b reports before now endings.Done =
-    RunsBoard gave b summary reports before now runs.Done
-RunsAs gave summary b reports before now endings.WriteFault =
-    RunsBoard gave b summary reports before now runs.WriteFault
-RunsAs gave summary b reports before now (endings.LogFull line len) =
-    RunsBoard gave b summary reports before now (runs.LogFull line len)
-RunsAs gave summary b reports before now (endings.NoMemory wants.Making) =
-    RunsBoard gave b summary reports before now runs.NoMemory
-RunsAs gave summary b reports before now _ = ⊥
+RunsAs gave summary = EndsAs (λ b. RunsBoard gave b summary)
 
 -- the input was checked, with this end, and no history is handed out; `why`: with the reason of a
 -- log that is unlawful
 pub record ChecksInput (why : Bool) (told left : Option (List ℕ)) (reports : List LineReport)
-    (before now : Option (List ℕ)) (end : CheckEnd) : Type 0 where
+    (before now : Option (List ℕ)) (end : Result Judgement CheckFailed) : Type 0 where
   pub reads : Reads why told left end
   pub says : SaysOrNot why told before now end
   pub reports_are : reports ≡ []
-
--- the log of the input has this verdict
-abbrev pub Answers : (why : Bool) → Option (List ℕ) → Option (List ℕ) → List LineReport
-    → Option (List ℕ) → Option (List ℕ) → Verdict → Type 0
-Answers why told left reports before now verdict =
-    (answer : Judgement) × (answer.verdict ≡ verdict)
-    × ChecksInput why told left reports before now (checks.Answered answer)
 
 -- `check`: the log of the input is lawful; or unlawful, or malformed, as the ending says; or the
 -- input is refused
 abbrev pub Checks : (why : Bool) → Option (List ℕ) → Option (List ℕ) → List LineReport
     → Option (List ℕ) → Option (List ℕ) → Ending → Type 0
-Checks why told left reports before now endings.Done =
-    Answers why told left reports before now verdicts.Lawful
-Checks why told left reports before now (endings.Unlawful line entry) =
-    Answers why told left reports before now (verdicts.Unlawful line entry)
-Checks why told left reports before now (endings.Malformed row) =
-    Answers why told left reports before now (verdicts.Malformed row)
-Checks why told left reports before now endings.WriteFault =
-    ChecksInput why told left reports before now checks.WriteFault
-Checks why told left reports before now (endings.Board fault) =
-    ChecksInput why told left reports before now (checks.Fault fault)
-Checks why told left reports before now endings.ReadFault =
-    ChecksInput why told left reports before now checks.ReadFault
-Checks why told left reports before now (endings.NoMemory wants.Making) = reports ≡ []
-Checks why told left reports before now _ = ⊥
+Checks why told left reports before now ending =
+    (end : Result Judgement CheckFailed) × (ending ≡ ending_of_check end)
+    × ChecksInput why told left reports before now end
 
 -- What each command does. `run`, `play`, `chained`, `hotplug` and `sleep` take a board, and run it,
 -- play it, or play it behind one demultiplexer, with processors that go offline, or with a sleep;
@@ -232,15 +193,15 @@ module _ (heard : List Run → Type 0) (gave : Run → Answer → Type 0) where
 
 -- which step of a play was refused memory; `may_want` says for which entry that is due a line may
 -- want memory, though its history has room
-module _ (Tells : BoardSeen → List LineReport → PlayedEnd → Type 0) where
+module _ (Tells : BoardSeen → List LineReport → Result Unit PlayFailed → Type 0) where
   abbrev pub TellsPlay : BoardSeen → List LineReport → Ending → Type 0
-  TellsPlay b reports (endings.NoMemory wanted) = Tells b reports (plays.NoMemory wanted)
+  TellsPlay b reports (endings.Step refused) = Tells b reports (Err (plays.Step refused))
   TellsPlay b reports ending = Unit {0}
 
   -- the same, of the board that the source told
   abbrev pub TellsTaken : Option (List ℕ) → List LineReport → Ending → Type 0
-  TellsTaken told reports (endings.NoMemory wants.Step) =
-      (b : BoardSeen) × IsStated told b × Tells b reports (plays.NoMemory wants.Step)
+  TellsTaken told reports (endings.Step refused) =
+      (b : BoardSeen) × IsStated told b × Tells b reports (Err (plays.Step refused))
   TellsTaken told reports ending = Unit {0}
 
 -- what each command tells of a step that was refused memory
@@ -256,7 +217,9 @@ TellsWanted may_want (commands.Hotplug vectors events) told reports ending =
     TellsTaken (λ b. TellsStep may_want (planned_after b vectors events)) told reports ending
 TellsWanted may_want (commands.Sleep armed) told reports ending =
     TellsTaken (λ b. sleeps.TellsStep may_want b armed) told reports ending
-TellsWanted may_want asked told reports ending = Unit {0}
+TellsWanted may_want (commands.Run summary) told reports ending =
+    TellsTaken (runs.TellsStep may_want) told reports ending
+TellsWanted may_want (commands.Check why) told reports ending = Unit {0}
 
 -- whether the command reads the source
 abbrev pub reads : Command → Bool

@@ -1,17 +1,17 @@
 -- How the top call ends, by its ending: the exit status, and the row on the error sink.
-use Rattle.std.specs.Prelude.{ℕ, Bool, true, false, List, [], ◌++◌, codes}
+use Rattle.std.specs.Prelude.{ℕ, Bool, true, false, List, [], ◌++◌, codes, Result}
+use Rattle.std.specs.Prelude.{Ok, Err}
 use Rattle.program_io.specs.ErrorRows.{fault_row, full_row}
 use Rattle.program_io.specs.declared.inputs.InputRefused.{InputRefused}
 use Rattle.program_io.specs.declared.inputs.InputRefused.TheVariants as refusals
 use Rattle.log_check.specs.declared.verdict.Verdict.{Verdict}
 use Rattle.log_check.specs.declared.verdict.Verdict.TheVariants as verdicts
-use Rattle.irq_check.specs.declared.printing.CheckEnd.{CheckEnd}
-use Rattle.irq_check.specs.declared.printing.CheckEnd.TheVariants as checks
-use Rattle.irq_play.specs.declared.ending.PlayedEnd.{PlayedEnd}
-use Rattle.irq_play.specs.declared.ending.PlayedEnd.TheVariants as plays
-use Rattle.irq_play.specs.declared.ending.WantedFor.TheVariants as wants
-use Rattle.irq_run.specs.declared.ending.RunEnd.{RunEnd}
-use Rattle.irq_run.specs.declared.ending.RunEnd.TheVariants as runs
+use Rattle.irq_check.specs.declared.answers.Judgement.{Judgement}
+use Rattle.irq_check.specs.declared.failing.CheckFailed.{CheckFailed}
+use Rattle.irq_check.specs.declared.failing.CheckFailed.TheVariants as checks
+use Rattle.irq_line.specs.declared.answers.StepRefused.TheVariants as steps
+use Rattle.play_report.specs.declared.failing.PlayFailed.{PlayFailed}
+use Rattle.play_report.specs.declared.failing.PlayFailed.TheVariants as plays
 use Rattle.irq_top.specs.declared.ending.Ending.{Ending}
 use Rattle.irq_top.specs.declared.ending.Ending.TheVariants as endings
 
@@ -23,8 +23,9 @@ status_of endings.Usage = 2
 status_of (endings.Board fault) = 3
 status_of endings.ReadFault = 4
 status_of endings.WriteFault = 5
-status_of (endings.LogFull line len) = 6
-status_of (endings.NoMemory wanted) = 7
+status_of (endings.Step (steps.Full line len)) = 6
+status_of (endings.Step steps.NoMemory) = 7
+status_of endings.NoMemory = 7
 
 abbrev pub error_text : Ending → List ℕ
 error_text endings.Done = []
@@ -36,37 +37,30 @@ error_text endings.Usage =
 error_text (endings.Board fault) = fault_row fault
 error_text endings.ReadFault = codes "read fault\n"
 error_text endings.WriteFault = codes "write fault\n"
-error_text (endings.LogFull line len) = full_row line len
-error_text (endings.NoMemory wanted) = codes "out of memory\n"
+error_text (endings.Step (steps.Full line len)) = full_row line len
+error_text (endings.Step steps.NoMemory) = codes "out of memory\n"
+error_text endings.NoMemory = codes "out of memory\n"
 
 abbrev pub ending_of_refusal : InputRefused → Ending
 ending_of_refusal (refusals.Fault fault) = endings.Board fault
 ending_of_refusal refusals.ReadFault = endings.ReadFault
-ending_of_refusal refusals.NoMemory = endings.NoMemory wants.Making
+ending_of_refusal refusals.NoMemory = endings.NoMemory
 
-abbrev pub ending_of_play : PlayedEnd → Ending
-ending_of_play plays.Done = endings.Done
-ending_of_play plays.WriteFault = endings.WriteFault
-ending_of_play (plays.LogFull line len) = endings.LogFull line len
-ending_of_play (plays.NoMemory wanted) = endings.NoMemory wanted
-
-abbrev pub ending_of_run : RunEnd → Ending
-ending_of_run runs.Done = endings.Done
-ending_of_run runs.WriteFault = endings.WriteFault
-ending_of_run (runs.LogFull line len) = endings.LogFull line len
-ending_of_run runs.NoMemory = endings.NoMemory wants.Making
+abbrev pub ending_of_play : Result Unit PlayFailed → Ending
+ending_of_play (Ok _) = endings.Done
+ending_of_play (Err plays.NoMemory) = endings.NoMemory
+ending_of_play (Err (plays.Step refused)) = endings.Step refused
+ending_of_play (Err (plays.Write failed)) = endings.WriteFault
 
 abbrev pub ending_of_verdict : Verdict → Ending
 ending_of_verdict verdicts.Lawful = endings.Done
 ending_of_verdict (verdicts.Unlawful line entry) = endings.Unlawful line entry
 ending_of_verdict (verdicts.Malformed row) = endings.Malformed row
 
-abbrev pub ending_of_check : CheckEnd → Ending
-ending_of_check (checks.Answered answer) = ending_of_verdict answer.verdict
-ending_of_check (checks.Fault fault) = endings.Board fault
-ending_of_check checks.ReadFault = endings.ReadFault
-ending_of_check checks.WriteFault = endings.WriteFault
-ending_of_check checks.NoMemory = endings.NoMemory wants.Making
+abbrev pub ending_of_check : Result Judgement CheckFailed → Ending
+ending_of_check (Ok answer) = ending_of_verdict answer.verdict
+ending_of_check (Err (checks.Input refused)) = ending_of_refusal refused
+ending_of_check (Err (checks.Write failed)) = endings.WriteFault
 
 abbrev pub is_read_fault_end : Ending → Bool
 is_read_fault_end endings.ReadFault = true

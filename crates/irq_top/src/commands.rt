@@ -3,6 +3,7 @@ ghost use Rattle.std.specs.Prelude.{◌≡◌, ◌≤◌, [], false, length, tru
 ghost use Rattle.callbacks.specs.Heard.{Heard};
 ghost use Rattle.hotplug_play.specs.Played.{planned_after};
 ghost use Rattle.irq_play.specs.Played.{TellsStep};
+ghost use Rattle.irq_run.specs.Ran.{TellsStep as RunTells};
 ghost use Rattle.notifiers.specs.Told.{Told};
 ghost use Rattle.board_gen.specs.Generated.{generated};
 ghost use Rattle.irq_io.specs.Faults.{Counts};
@@ -25,7 +26,6 @@ use irq_base::NoMemory;
 use irq_check::check_and_print;
 use irq_hotplug::Event;
 use irq_io::{Sink, Source};
-use irq_play::WantedFor;
 use irq_run::run_and_print;
 use irq_words::Command;
 use line_makers::MakesDomainLine;
@@ -122,6 +122,8 @@ where
     ensures emptied { is_printed result.ending ≡ true → O.kept out.new ≡ [] }
     ensures write_fault { Counts (O.faults out.old) (O.faults out.new)
         (is_write_fault_end result.ending) }
+    ensures wanted { TellsTaken (RunTells M.Line.may_want) (S.left src.old) result.reports.reports
+        result.ending }
     ensures silent { is_printing result.ending ≡ false → out.new ≡ out.old }
 {
     match read_input(alloc, src) {
@@ -154,16 +156,17 @@ where
     M::Line: Send + Sync,
     ensures runs { RunsAs (D.gave shared.now) summary board.now result.reports.reports
         (O.written out.old) (O.written out.new) result.ending }
+    ensures wanted { TellsPlay (RunTells M.Line.may_want) board.now result.reports.reports
+        result.ending }
+    ensures unread { is_read_fault_end result.ending ≡ false }
     ensures emptied { is_printed result.ending ≡ true → O.kept out.new ≡ [] }
     ensures write_fault { Counts (O.faults out.old) (O.faults out.new)
         (is_write_fault_end result.ending) }
     ensures silent { is_printing result.ending ≡ false → out.new ≡ out.old }
 {
-    let ran = run_and_print(rt, alloc, board, summary, maker, gate, shared, out);
-    Outcome {
-        ending: Ending::from(ran.end),
-        reports: ran.reports,
-    }
+    Outcome::of_play(run_and_print(
+        rt, alloc, board, summary, maker, gate, shared, out,
+    ))
 }
 
 /// `hotplug`: reads a board, and plays it with processors of 1 to 64 vectors that go offline and
@@ -257,7 +260,7 @@ fn play_generated<O: Sink, H: Handler, M: MakesDomainLine>(
 {
     match generate(alloc, n) {
         Ok(board) => Play { summary: true }.play(alloc, board, handlers, maker, out),
-        Err(NoMemory) => Outcome::without_reports(alloc, Ending::NoMemory(WantedFor::Making)),
+        Err(NoMemory) => Outcome::without_reports(alloc, Ending::NoMemory),
     }
 }
 
@@ -279,5 +282,5 @@ fn check<S: Source, O: Sink, M: MakesDomainLine>(
     ensures silent { is_printing result.ending ≡ false → out.new ≡ out.old }
 {
     let end = check_and_print(alloc, why, src, out, maker);
-    Outcome::without_reports(alloc, Ending::from(end))
+    Outcome::without_reports(alloc, Ending::of_check(end))
 }

@@ -1,12 +1,13 @@
 //! How a call of the program ends, in words and numbers.
 ghost use Rattle.std.specs.Prelude.{◌≡◌};
-ghost use Rattle.irq_top.specs.Ending.{ending_of_verdict, status_of};
+ghost use Rattle.irq_top.specs.Ending.{ending_of_check, ending_of_play, ending_of_verdict};
+ghost use Rattle.irq_top.specs.Ending.{status_of};
 
 use board_text::BoardFault;
 use irq_base::LineNo;
-use irq_check::{CheckEnd, Verdict};
-use irq_play::{PlayedEnd, WantedFor};
-use irq_run::RunEnd;
+use irq_check::{CheckFailed, Judgement, Verdict};
+use irq_line::StepRefused;
+use play_report::PlayFailed;
 use program_io::InputRefused;
 
 /// How the work ended.
@@ -28,10 +29,11 @@ pub enum Ending {
     ReadFault,
     /// A write or a flush of the output failed.
     WriteFault,
-    /// A further entry was due on the line, and the line's history has the greatest length, `len`.
-    LogFull { line: LineNo, len: u32 },
-    /// Memory was needed and refused: for a step of a play, or for anything else.
-    NoMemory(WantedFor),
+    /// The step that was due next was refused: its line's history has the greatest length, or
+    /// memory was needed for it.
+    Step(StepRefused),
+    /// Memory was needed for anything but a step, and refused.
+    NoMemory,
 }
 
 impl Ending {
@@ -46,8 +48,42 @@ impl Ending {
             Ending::Board(_) => 3,
             Ending::ReadFault => 4,
             Ending::WriteFault => 5,
-            Ending::LogFull { .. } => 6,
-            Ending::NoMemory(_) => 7,
+            Ending::Step(StepRefused::Full { .. }) => 6,
+            Ending::Step(StepRefused::NoMemory) | Ending::NoMemory => 7,
+        }
+    }
+
+    /// How the call ends whose play, or run, ended so.
+    pub(crate) fn of_play(end: Result<(), PlayFailed>) -> Ending
+        ensures { result ≡ ending_of_play end }
+    {
+        match end {
+            Ok(()) => Ending::Done,
+            Err(PlayFailed::NoMemory) => Ending::NoMemory,
+            Err(PlayFailed::Step(refused)) => Ending::Step(refused),
+            Err(PlayFailed::Write(_)) => Ending::WriteFault,
+        }
+    }
+
+    /// How the call ends whose check ended so.
+    pub(crate) fn of_check(end: Result<Judgement, CheckFailed>) -> Ending
+        ensures { result ≡ ending_of_check end }
+    {
+        match end {
+            Ok(answer) => Ending::of_verdict(answer.verdict),
+            Err(CheckFailed::Input(refused)) => Ending::from(refused),
+            Err(CheckFailed::Write(_)) => Ending::WriteFault,
+        }
+    }
+
+    /// The ending at which the verdict on a log is printed.
+    fn of_verdict(verdict: Verdict) -> Ending
+        ensures { result ≡ ending_of_verdict verdict }
+    {
+        match verdict {
+            Verdict::Lawful => Ending::Done,
+            Verdict::Unlawful { line, entry } => Ending::Unlawful { line, entry },
+            Verdict::Malformed { row } => Ending::Malformed { row },
         }
     }
 }
@@ -62,69 +98,7 @@ impl From<InputRefused> for Ending {
         match refused {
             InputRefused::Fault(fault) => Ending::Board(fault),
             InputRefused::ReadFault => Ending::ReadFault,
-            InputRefused::NoMemory => Ending::NoMemory(WantedFor::Making),
-        }
-    }
-}
-
-impl From<PlayedEnd> for Ending {
-    ghost use Rattle.std.specs.Prelude.{◌≡◌};
-    ghost use Rattle.irq_top.specs.Ending.{ending_of_play};
-
-    ghost from_gives = { λ end ending. ending ≡ ending_of_play end };
-
-    fn from(end: PlayedEnd) -> Ending {
-        match end {
-            PlayedEnd::Done => Ending::Done,
-            PlayedEnd::WriteFault => Ending::WriteFault,
-            PlayedEnd::LogFull { line, len } => Ending::LogFull { line, len },
-            PlayedEnd::NoMemory(wanted) => Ending::NoMemory(wanted),
-        }
-    }
-}
-
-impl From<RunEnd> for Ending {
-    ghost use Rattle.std.specs.Prelude.{◌≡◌};
-    ghost use Rattle.irq_top.specs.Ending.{ending_of_run};
-
-    ghost from_gives = { λ end ending. ending ≡ ending_of_run end };
-
-    fn from(end: RunEnd) -> Ending {
-        match end {
-            RunEnd::Done => Ending::Done,
-            RunEnd::WriteFault => Ending::WriteFault,
-            RunEnd::LogFull { line, len } => Ending::LogFull { line, len },
-            RunEnd::NoMemory => Ending::NoMemory(WantedFor::Making),
-        }
-    }
-}
-
-impl Ending {
-    /// The ending at which the verdict on a log is printed.
-    fn of_verdict(verdict: Verdict) -> Ending
-        ensures { result ≡ ending_of_verdict verdict }
-    {
-        match verdict {
-            Verdict::Lawful => Ending::Done,
-            Verdict::Unlawful { line, entry } => Ending::Unlawful { line, entry },
-            Verdict::Malformed { row } => Ending::Malformed { row },
-        }
-    }
-}
-
-impl From<CheckEnd> for Ending {
-    ghost use Rattle.std.specs.Prelude.{◌≡◌};
-    ghost use Rattle.irq_top.specs.Ending.{ending_of_check};
-
-    ghost from_gives = { λ end ending. ending ≡ ending_of_check end };
-
-    fn from(end: CheckEnd) -> Ending {
-        match end {
-            CheckEnd::Answered(answer) => Ending::of_verdict(answer.verdict),
-            CheckEnd::Fault(fault) => Ending::Board(fault),
-            CheckEnd::ReadFault => Ending::ReadFault,
-            CheckEnd::WriteFault => Ending::WriteFault,
-            CheckEnd::NoMemory => Ending::NoMemory(WantedFor::Making),
+            InputRefused::NoMemory => Ending::NoMemory,
         }
     }
 }

@@ -3,6 +3,7 @@ ghost use Rattle.std.specs.Prelude.{◌≡◌};
 ghost use Rattle.irq_top.specs.Ending.{error_text};
 
 use crate::ending::Ending;
+use irq_line::StepRefused;
 use program_io::{push_fault, push_full_log};
 use text_row::TextRow;
 
@@ -23,7 +24,9 @@ pub fn error_row(row: &mut TextRow, ending: Ending)
         Ending::Board(fault) => push_fault(row, fault),
         Ending::ReadFault => row.push_bytes(b"read fault\n"),
         Ending::WriteFault => row.push_bytes(b"write fault\n"),
-        Ending::LogFull { line, len } => push_full_log(row, line, len),
-        Ending::NoMemory(_) => row.push_bytes(b"out of memory\n"),
+        Ending::Step(StepRefused::Full { line, len }) => push_full_log(row, line, len),
+        Ending::Step(StepRefused::NoMemory) | Ending::NoMemory => {
+            row.push_bytes(b"out of memory\n")
+        }
     }
 }

@@ -19,7 +19,6 @@ mod taking;
 pub mod top;
 
 pub use ending::Ending;
-pub use irq_play::WantedFor;
 pub use outcome::Outcome;
 pub use program_io::InputRefused;
 pub use top::{end_early, irq_main};

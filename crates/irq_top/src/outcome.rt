@@ -6,12 +6,12 @@ ghost use Rattle.irq_top.specs.Ending.{ending_of_play, is_read_fault_end};
 use crate::ending::Ending;
 use board_words::{BoardFault, FaultKind};
 use irq_base::Reports;
-use irq_play::PlayedBoard;
+use play_report::PlayedBoard;
 use std::alloc::Global;
 
 /// What the top call hands out: how it ended, and the histories that were taken out of the lines.
 /// If a board was played or run there is one report for each line, also if the play or the run only
-/// came to a full log, or a play only to a step that was refused memory. Else there is none.
+/// came to a step that was refused. Else there is none.
 #[derive(Drop)]
 pub struct Outcome {
     /// How the call ended, with its exit status.
@@ -32,14 +32,14 @@ impl Outcome {
         }
     }
 
-    /// What a play hands out.
+    /// What a play or a run hands out.
     pub(crate) fn of_play(played: PlayedBoard) -> Outcome
         ensures ending { result.ending ≡ ending_of_play played.end }
         ensures unread { is_read_fault_end result.ending ≡ false }
         ensures reports { result.reports.reports ≡ played.reports.reports }
     {
         Outcome {
-            ending: Ending::from(played.end),
+            ending: Ending::of_play(played.end),
             reports: played.reports,
         }
     }

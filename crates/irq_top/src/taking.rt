@@ -17,7 +17,7 @@ use std::alloc::Global;
 
 /// A way to play a board and print it.
 pub(crate) trait OnBoard {
-    ghost use Rattle.std.specs.Prelude.{◌≡◌, ℕ, [], false, true, List, Option};
+    ghost use Rattle.std.specs.Prelude.{◌≡◌, ℕ, [], false, true, List, Option, Result};
     ghost use Rattle.irq_base.specs.declared.devices.Run.{Run};
     ghost use Rattle.irq_base.specs.declared.entries.Entry.{Entry};
     ghost use Rattle.irq_base.specs.declared.reporting.LineReport.{LineReport};
@@ -27,7 +27,7 @@ pub(crate) trait OnBoard {
     ghost use Rattle.irq_top.specs.Ending.{is_printed, is_printing, is_read_fault_end};
     ghost use Rattle.irq_top.specs.Ending.{is_write_fault_end};
     ghost use Rattle.callbacks.specs.Heard.{Heard};
-    ghost use Rattle.irq_play.specs.declared.ending.PlayedEnd.{PlayedEnd};
+    ghost use Rattle.play_report.specs.declared.failing.PlayFailed.{PlayFailed};
     ghost use Rattle.irq_top.specs.declared.ending.Ending.{Ending};
 
     /// What it does with a board: what says for which runs handlers were called, with these
@@ -37,8 +37,8 @@ pub(crate) trait OnBoard {
 
     /// What it tells of a step that was refused memory, with lines that may want memory for these
     /// entries that are due.
-    ghost tells: { Self → (Option Entry → Type 0) → BoardSeen → List LineReport → PlayedEnd
-        → Type 0 };
+    ghost tells: { Self → (Option Entry → Type 0) → BoardSeen → List LineReport
+        → Result Unit PlayFailed → Type 0 };
 
     /// Plays the board, and prints its log, or a summary. Nothing is read.
     fn play<O: Sink, H: Handler, M: MakesDomainLine>(

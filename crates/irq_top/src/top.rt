@@ -92,64 +92,16 @@ where
         (E.kept err.new) (E.faults err.old) (E.faults err.new) }
     ensures quiet { is_printed result.ending ≡ true → err.new ≡ err.old }
 {
-    let outcome = work(
-        rt, alloc, words, src, out, gate, handlers, shared, maker, notify,
+    let Some(asked) = read_command(words) else {
+        return end_early(alloc, Ending::Usage, err);
+    };
+    let outcome = act(
+        rt, alloc, asked, src, out, gate, handlers, shared, maker, notify,
     );
     if !is_printed(outcome.ending) {
         tell(err, outcome.ending);
     }
     outcome
-}
-
-/// All but the row on the error sink.
-fn work<
-    R: Threads + Wait + Sync,
-    S: Source,
-    O: Sink,
-    G: Gate + Sync,
-    H: Handler,
-    D: SharedHandler + Sync,
-    M: MakesDomainLine,
-    N: Notifier,
->(
-    rt: &R,
-    alloc: Global,
-    words: &[&str],
-    src: &mut S,
-    out: &mut O,
-    gate: &G,
-    handlers: &mut H,
-    shared: &D,
-    maker: &M,
-    notify: &mut N,
-) -> Outcome
-where
-    M::Line: Send + Sync,
-    ensures usage { (result.ending ≡ Ending.Usage) ↔ AsksNothing (map (λ w. w.now) words.now) }
-    ensures unasked { result.ending ≡ Ending.Usage → result.reports.reports ≡ [] }
-    ensures uncalled { result.ending ≡ Ending.Usage
-        → (Heard H.hears [] handlers.old handlers.new) × Told N.tells [] notify.old notify.new }
-    ensures unread { ReadsNothing (map (λ w. w.now) words.now) → src.new ≡ src.old }
-    ensures does { (asked : Command) → Asks (map (λ w. w.now) words.now) asked
-        → Does (λ runs. Heard H.hears runs handlers.old handlers.new) (D.gave shared.now)
-        (λ placings. Told N.tells placings notify.old notify.new) asked (S.left src.old)
-        (S.left src.new) result.reports.reports (O.written out.old) (O.written out.new)
-        result.ending }
-    ensures wanted { (asked : Command) → Asks (map (λ w. w.now) words.now) asked
-        → TellsWanted M.Line.may_want asked (S.left src.old) result.reports.reports result.ending }
-    ensures read_fault { Counts (S.faults src.old) (S.faults src.new)
-        (is_read_fault_end result.ending) }
-    ensures emptied { is_printed result.ending ≡ true → O.kept out.new ≡ [] }
-    ensures write_fault { Counts (O.faults out.old) (O.faults out.new)
-        (is_write_fault_end result.ending) }
-    ensures silent { is_printing result.ending ≡ false → out.new ≡ out.old }
-{
-    match read_command(words) {
-        Some(asked) => act(
-            rt, alloc, asked, src, out, gate, handlers, shared, maker, notify,
-        ),
-        None => Outcome::without_reports(alloc, Ending::Usage),
-    }
 }
 
 /// Whether the ending has no row on the error sink, since all is printed on the output.

@@ -1,9 +1,10 @@
 use Rattle.std.proofs.Common.{◌∙◌, refl, List, subst, arith}
 use Rattle.irq_base.specs.declared.entries.Actor.{Actor}
 use Rattle.board_core.specs.Playing.{IsUnderway}
+use Rattle.board_core.proofs.Handing.{handed_on}
 use Rattle.board_core.proofs.Hearing.{heard_fresh, heard_settled, heard_turned, step_of_turn}
 use Rattle.board_core.proofs.Searches.{all_dropped}
-use Rattle.board_core.proofs.Underway.{fresh, pick_turn, pick_done, pick_full, pick_refused, pick_keeps_board, pick_keeps_layout}
+use Rattle.board_core.proofs.Underway.{fresh, pick_turn, pick_done, pick_stopped, pick_keeps_board, pick_keeps_layout}
 use Rattle.board_core.proofs.Wanting.{pick_ends_play}
 use Rattle.board_core.proofs.system.System.play.Goals as goal
 
@@ -15,23 +16,21 @@ loop-pick-init g c = record {
   heard = heard_fresh g.H.Handler.hears c.args.self.now c.requires c.args.handlers.now;
 }
 
-pub returns-in-Full-clause-play : goal.returns-in-Full-clause-play
-returns-in-Full-clause-play g c = pick_full (pick_turn _ c.turn.result c.loop-pick-test.true c.loop-pick.invariant.underway c.turn.ensures.turns) c.in-Full.is
-
 pub loop-pick-preserved : goal.loop-pick-preserved
 loop-pick-preserved g c =
     let t = pick_turn _ c.turn.result c.loop-pick-test.true c.loop-pick.invariant.underway c.turn.ensures.turns in
     record {
       board = pick_keeps_board t ∙ c.loop-pick.invariant.board;
       layout = pick_keeps_layout t ∙ c.loop-pick.invariant.layout;
-      underway = pick_done t c.in_default.not-Full c.in_default.not-NoMemory;
+      underway = pick_done t _ c.in_ok-turn.was;
       heard = heard_turned g.H.Handler.hears _ _ _ c.turn.result (step_of_turn _ _ _ c.turn.result c.turn.ensures.turns)
           c.loop-pick.invariant.underway.lines _ _ _ c.loop-pick.invariant.heard c.turn.ensures.heard;
     }
 
-pub returns-in-NoMemory-clause-play : goal.returns-in-NoMemory-clause-play
-returns-in-NoMemory-clause-play g c = pick_refused (pick_turn _ c.turn.result c.loop-pick-test.true
-    c.loop-pick.invariant.underway c.turn.ensures.turns) c.in-NoMemory.is
+pub returns-in_err-turn-clause-play : goal.returns-in_err-turn-clause-play
+returns-in_err-turn-clause-play g c =
+    pick_stopped (pick_turn _ c.turn.result c.loop-pick-test.true c.loop-pick.invariant.underway c.turn.ensures.turns)
+    c.in_err-turn.was (handed_on c.from_residual.ensures.1)
 
 pub returns-clause-lines : goal.returns-clause-lines
 returns-clause-lines g c =
@@ -41,9 +40,11 @@ returns-clause-lines g c =
     (all_dropped picks c.loop-pick.pick-index (omega (arith, c.loop-pick-test.false)))
     c.loop-pick.invariant.underway)
 
-pub returns-in-NoMemory-clause-memory : goal.returns-in-NoMemory-clause-memory
-returns-in-NoMemory-clause-memory g c = pick_ends_play g.L.IrqLine.may_want
-    (pick_turn _ c.turn.result c.loop-pick-test.true c.loop-pick.invariant.underway c.turn.ensures.turns) c.in-NoMemory.is c.turn.ensures.memory
+pub returns-in_err-turn-clause-memory : goal.returns-in_err-turn-clause-memory
+returns-in_err-turn-clause-memory g c =
+    pick_ends_play g.L.IrqLine.may_want
+    (pick_turn _ c.turn.result c.loop-pick-test.true c.loop-pick.invariant.underway c.turn.ensures.turns)
+    c.in_err-turn.was (handed_on c.from_residual.ensures.1) c.turn.ensures.memory
 
 pub returns-clause-memory : goal.returns-clause-memory
 returns-clause-memory g c =
@@ -53,12 +54,8 @@ returns-clause-memory g c =
     (all_dropped picks c.loop-pick.pick-index (omega (arith, c.loop-pick-test.false)))
     c.loop-pick.invariant.underway)
 
-pub returns-in-Full-clause-heard : goal.returns-in-Full-clause-heard
-returns-in-Full-clause-heard g c = heard_turned g.H.Handler.hears _ _ _ c.turn.result (step_of_turn _ _ _ c.turn.result c.turn.ensures.turns)
-    c.loop-pick.invariant.underway.lines _ _ _ c.loop-pick.invariant.heard c.turn.ensures.heard
-
-pub returns-in-NoMemory-clause-heard : goal.returns-in-NoMemory-clause-heard
-returns-in-NoMemory-clause-heard g c = heard_turned g.H.Handler.hears _ _ _ c.turn.result (step_of_turn _ _ _ c.turn.result c.turn.ensures.turns)
+pub returns-in_err-turn-clause-heard : goal.returns-in_err-turn-clause-heard
+returns-in_err-turn-clause-heard g c = heard_turned g.H.Handler.hears _ _ _ c.turn.result (step_of_turn _ _ _ c.turn.result c.turn.ensures.turns)
     c.loop-pick.invariant.underway.lines _ _ _ c.loop-pick.invariant.heard c.turn.ensures.heard
 
 pub returns-clause-heard : goal.returns-clause-heard
