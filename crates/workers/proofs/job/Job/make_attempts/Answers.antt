@@ -12,30 +12,26 @@ loop-steps-init g c = record {
   more = λ some. omega (arith, some);
 }
 
-pub returns-in-NotYet-clause-works : goal.returns-in-NotYet-clause-works
-returns-in-NotYet-clause-works g c =
+pub returns-in-None-clause-works : goal.returns-in-None-clause-works
+returns-in-None-clause-works g c =
     works_more c.args.board.now c.args.lines.now c.args.self.now c.loop-steps.self c.attempt_at_gate.new.self
     c.loop-steps.invariant.works c.attempt_at_gate.ensures.works
 
-pub returns-in-NotYet-2-clause-works : goal.returns-in-NotYet-2-clause-works
-returns-in-NotYet-2-clause-works g c =
+pub returns-in-None-2-clause-works : goal.returns-in-None-2-clause-works
+returns-in-None-2-clause-works g c =
     works_more c.args.board.now c.args.lines.now c.args.self.now c.loop-steps.self c.attempt_at_gate.new.self
     c.loop-steps.invariant.works c.attempt_at_gate.ensures.works
 
-pub returns-in-Full-clause-works : goal.returns-in-Full-clause-works
-returns-in-Full-clause-works g c =
-    works_more c.args.board.now c.args.lines.now c.args.self.now c.loop-steps.self c.attempt_at_gate.new.self
-    c.loop-steps.invariant.works c.attempt_at_gate.ensures.works
-
-pub returns-in-NoMemory-clause-works : goal.returns-in-NoMemory-clause-works
-returns-in-NoMemory-clause-works g c =
+pub returns-in_err-attempt_at_gate-clause-works : goal.returns-in_err-attempt_at_gate-clause-works
+returns-in_err-attempt_at_gate-clause-works g c =
     works_more c.args.board.now c.args.lines.now c.args.self.now c.loop-steps.self c.attempt_at_gate.new.self
     c.loop-steps.invariant.works c.attempt_at_gate.ensures.works
 
 pub loop-steps-preserved : goal.loop-steps-preserved
 loop-steps-preserved g c =
-    let room = c.in-Moved.ensures.room.0 in
-    let made = c.in-Moved.ensures.room.1 in
+    let moved = ? in
+    let room = c.in-Some.ensures.room.0 in
+    let made = c.in-Some.ensures.room.1 in
     let room_before = c.loop-steps.invariant.room in
     let made_before = c.loop-steps.invariant.made in
     record {
