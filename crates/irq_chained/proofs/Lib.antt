@@ -1,4 +1,3 @@
-pub mod Handing
 pub mod FitsLaws
 pub mod Merging
 pub mod StatusBits

@@ -30,7 +30,6 @@ use Rattle.irq_chained.specs.Wanted.{DueWants, PlayWants, Wants, WantsDue, Wants
 use Rattle.irq_chained.specs.Walk.{mark_of}
 use Rattle.irq_chained.specs.declared.chain.ChainEntry.{ChainEntry}
 use Rattle.irq_chained.specs.declared.chain.ChainTurn.{ChainTurn}
-use Rattle.irq_chained.specs.declared.chain.ChainTurn.TheVariants as turns
 use Rattle.irq_chained.specs.declared.marks.Mark.{Mark}
 use Rattle.irq_chained.specs.declared.marks.Marked.{Marked}
 use Rattle.irq_chained.specs.declared.marks.Marked.TheVariants as marks

@@ -19,7 +19,6 @@ use Rattle.irq_chained.specs.Turned.{next_of}
 use Rattle.irq_chained.specs.declared.chain.ChainEntry.{ChainEntry}
 use Rattle.irq_chained.specs.declared.chain.ChainEntry.TheVariants as steps
 use Rattle.irq_chained.specs.declared.chain.ChainTurn.{ChainTurn}
-use Rattle.irq_chained.specs.declared.chain.ChainTurn.TheVariants as turns
 
 -- where processor 0 goes on in an open chain: on the child that has its flow, else on the first
 -- child of the status that is left

@@ -1,4 +1,3 @@
-pub mod Handing
 pub mod Marking
 pub mod Underway
 pub mod Phased

@@ -1,5 +1,5 @@
 use Rattle.std.proofs.Common.{◌∙◌, refl}
-use Rattle.irq_chained.proofs.Handing.{handed_on}
+use Rattle.board_core.proofs.Handing.{handed_on}
 use Rattle.irq_chained.proofs.Playing.{a_turn, fresh, pick_done, pick_stops, keeps_board, keeps_layout}
 use Rattle.irq_chained.proofs.Hearing.{heard_fresh, heard_turned}
 use Rattle.irq_chained.proofs.Wanting.{pick_ends}

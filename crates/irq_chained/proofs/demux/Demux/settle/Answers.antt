@@ -1,5 +1,5 @@
 use Rattle.std.proofs.Common.{◌∙◌, ap, refl, Ok}
-use Rattle.irq_chained.proofs.Handing.{handed_on}
+use Rattle.board_core.proofs.Handing.{handed_on}
 use Rattle.irq_chained.proofs.Playing.{a_turn, lowest_moved, lowest_done, lowest_stops, lowest_falls, keeps_board, keeps_layout}
 use Rattle.irq_chained.proofs.Hearing.{heard_turned}
 use Rattle.irq_chained.proofs.Wanting.{lowest_ends}

@@ -9,7 +9,7 @@ use Rattle.irq_chained.specs.Turned.{TurnsBy, lowest_driver_of, lowest_of, next_
 use Rattle.irq_chained.specs.declared.chain.ChainEntry.{ChainEntry}
 use Rattle.irq_chained.specs.declared.chain.ChainTurn.{ChainTurn}
 use Rattle.irq_chained.specs.declared.chain.ChainTurn.TheVariants as turns
-use Rattle.irq_chained.proofs.Handing.{handed_on}
+use Rattle.board_core.proofs.Handing.{handed_on}
 use Rattle.irq_chained.proofs.Hearing.{heard_after}
 use Rattle.irq_chained.proofs.Lowest.{lowest_turn}
 use Rattle.irq_chained.proofs.Playing.{a_turn, answered}
@@ -20,7 +20,7 @@ use Rattle.irq_chained.proofs.demux.Demux.turn_after_threads.Goals.{After-turn_c
 
 -- processor 0 has no step
 rests : (g : given.Over) (c : In-NotYet g) → (next_of c.args.self.now (actors.Cpu cpu_0) ≡ None) × (c.turn_cpu_0.new.self ≡ c.args.self.now)
-rests g c = answered (a_turn c.turn_cpu_0.result c.turn_cpu_0.ensures.turns) (Ok turns.NotYet) (c.in_ok-turn_cpu_0.was ∙ ap Ok c.in-NotYet.is)
+rests g c = answered (a_turn c.turn_cpu_0.result c.turn_cpu_0.ensures.turns) (Ok turns.NotYet) (c.in_ok-moved.was ∙ ap Ok c.in-NotYet.is)
 
 -- another answer of processor 0 is that of the lowest
 first : (g : given.Over) (c : After-turn_cpu_0 g) (turn : Result ChainTurn StepRefused) → c.turn_cpu_0.result ≡ turn → (turn ≡ Ok turns.NotYet → ⊥)
@@ -42,18 +42,18 @@ returns-in-NotYet-clause-turns g c =
 
 pub returns-in_default-clause-turns : goal.returns-in_default-clause-turns
 returns-in_default-clause-turns g c =
-    first g (goal.at.returns-in_default-clause-turns g c).After-turn_cpu_0 (Ok c.in_ok-turn_cpu_0.field-0) c.in_ok-turn_cpu_0.was
+    first g (goal.at.returns-in_default-clause-turns g c).After-turn_cpu_0 (Ok c.in_ok-moved.moved) c.in_ok-moved.was
     (λ bad. c.in_default.not-NotYet cc)
 
-pub returns-in_err-turn_cpu_0-clause-turns : goal.returns-in_err-turn_cpu_0-clause-turns
-returns-in_err-turn_cpu_0-clause-turns g c = rw (handed_on c.from_residual.ensures.1)
-    (first g (goal.at.returns-in_err-turn_cpu_0-clause-turns g c).After-turn_cpu_0 (Err c.in_err-turn_cpu_0.field-0.0) c.in_err-turn_cpu_0.was (λ bad. cc))
+pub returns-in_err-moved-clause-turns : goal.returns-in_err-moved-clause-turns
+returns-in_err-moved-clause-turns g c = rw (handed_on c.from_residual.ensures.1)
+    (first g (goal.at.returns-in_err-moved-clause-turns g c).After-turn_cpu_0 (Err c.in_err-moved.field-0.0) c.in_err-moved.was (λ bad. cc))
 
 pub returns-in-NotYet-clause-heard : goal.returns-in-NotYet-clause-heard
 returns-in-NotYet-clause-heard g c =
     heard_after g.H.Handler.hears c.turn_lowest_driver.result (rests g (goal.at.returns-in-NotYet-clause-heard g c).In-NotYet).1 _ _ _
     (subst (λ (t : ChainTurn). Heard g.H.Handler.hears (runs_by_turn c.args.self.now (Ok t)) c.args.handlers.now c.turn_cpu_0.new.handlers)
-    c.in-NotYet.is c.in_ok-turn_cpu_0.ensures.heard)
+    c.in-NotYet.is c.in_ok-moved.ensures.heard)
     c.turn_lowest_driver.ensures.heard
 
 pub returns-in-NotYet-clause-memory : goal.returns-in-NotYet-clause-memory
@@ -62,6 +62,6 @@ returns-in-NotYet-clause-memory g c =
     driver_lowest g.L.IrqLine.may_want c.args.self.now c.turn_cpu_0.new.self c.turn_lowest_driver.result
     c.requires none.0 none.1 c.turn_lowest_driver.ensures.memory
 
-pub returns-in_err-turn_cpu_0-clause-memory : goal.returns-in_err-turn_cpu_0-clause-memory
-returns-in_err-turn_cpu_0-clause-memory g c = rw (handed_on c.from_residual.ensures.1)
-    (cpu_0_lowest g.L.IrqLine.may_want c.args.self.now _ c.requires c.in_err-turn_cpu_0.ensures.memory)
+pub returns-in_err-moved-clause-memory : goal.returns-in_err-moved-clause-memory
+returns-in_err-moved-clause-memory g c = rw (handed_on c.from_residual.ensures.1)
+    (cpu_0_lowest g.L.IrqLine.may_want c.args.self.now _ c.requires c.in_err-moved.ensures.memory)

@@ -1,5 +1,5 @@
 use Rattle.irq_pm.specs.Phases.{Going}
-use Rattle.irq_sleeper.proofs.Handing.{handed_on}
+use Rattle.board_core.proofs.Handing.{handed_on}
 use Rattle.irq_sleeper.proofs.Phased.{SleepStep, going_step, ok_is, falls, gone_on, stops, went}
 use Rattle.irq_sleeper.proofs.Hearing.{hears_then}
 use Rattle.irq_sleeper.proofs.Wanting.{stop_wants}

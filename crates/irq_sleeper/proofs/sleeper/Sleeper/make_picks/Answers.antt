@@ -1,4 +1,4 @@
-use Rattle.irq_sleeper.proofs.Handing.{handed_on}
+use Rattle.board_core.proofs.Handing.{handed_on}
 use Rattle.irq_sleeper.proofs.Phased.{first_pick, pick_done, pick_stops}
 use Rattle.irq_sleeper.proofs.Hearing.{hears_none, hears_then}
 use Rattle.irq_sleeper.proofs.Wanting.{pick_wants}

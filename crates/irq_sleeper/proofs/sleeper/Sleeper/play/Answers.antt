@@ -13,7 +13,7 @@ asleep g c = subst (λ (b : Bool). Suspends c.make_picks.new.self c.suspend.new.
     c.if-not-branch.false c.in_ok-suspend.ensures.reaches
 
 pub sleep-requires : goal.sleep-requires
-sleep-requires g c = (asleep g c).1
+sleep-requires g c = (asleep g (goal.at.sleep-requires g c).Else-not-branch).1
 
 -- what was heard up to the end of each phase
 

@@ -1,5 +1,5 @@
 use Rattle.irq_pm.specs.Phases.{Enabling}
-use Rattle.irq_sleeper.proofs.Handing.{handed_on}
+use Rattle.board_core.proofs.Handing.{handed_on}
 use Rattle.irq_sleeper.proofs.Phased.{SleepStep, enabling_step, ok_is, falls, opened, stops, went}
 use Rattle.irq_sleeper.proofs.Hearing.{hears_then}
 use Rattle.irq_sleeper.proofs.Wanting.{stop_wants}

@@ -1,7 +1,7 @@
 use Rattle.std.proofs.Common.{◌≡◌, None, sym, ap, ◌∙◌}
 use Rattle.irq_pm.specs.Phases.{Asleep}
 use Rattle.irq_sleeper.specs.Seen.{SleeperSeen}
-use Rattle.irq_sleeper.proofs.Handing.{handed_on}
+use Rattle.board_core.proofs.Handing.{handed_on}
 use Rattle.irq_sleeper.proofs.Phased.{SleepStep, sleeping_step, ok_is, no_line, falls, stops, went, wakes_by_line, wakes_by_none}
 use Rattle.irq_sleeper.proofs.Hearing.{hears_then, hears_woken}
 use Rattle.irq_sleeper.proofs.Wanting.{stop_wants}

@@ -1,6 +1,6 @@
 use Rattle.std.proofs.Common.{sym, ◌∙◌}
 use Rattle.irq_pm.specs.Phases.{Disabling}
-use Rattle.irq_sleeper.proofs.Handing.{handed_on}
+use Rattle.board_core.proofs.Handing.{handed_on}
 use Rattle.irq_sleeper.proofs.Phased.{SleepStep, disabling_step, ok_is, falls, falls_asleep, stops, stuck_so, went}
 use Rattle.irq_sleeper.proofs.Hearing.{hears_then, hears_asleep}
 use Rattle.irq_sleeper.proofs.Wanting.{stop_wants}
