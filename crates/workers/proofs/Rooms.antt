@@ -138,8 +138,7 @@ room_as tried old mid new same r = by_attempt tried r
     by_attempt (Ok (Some e)) r = let e = ap room_of_posts same in let m = ap made_by same in
         let a = r.0 in let b = r.1 in (omega (arith, e, a), omega (arith, m, b))
     by_attempt (Ok None) r = let e = ap room_of_posts same in let a = r.0 in (omega (arith, e, a), ap made_by same ∙ r.1)
-    by_attempt (Err (refusals.Full line len)) r = let e = ap room_of_posts same in let a = r.0 in (omega (arith, e, a), ap made_by same ∙ r.1)
-    by_attempt (Err refusals.NoMemory) r = let e = ap room_of_posts same in let a = r.0 in (omega (arith, e, a), ap made_by same ∙ r.1)
+    by_attempt (Err refused) r = let e = ap room_of_posts same in let a = r.0 in (omega (arith, e, a), ap made_by same ∙ r.1)
 
 -- ---- a worker's part of a shift
 
@@ -147,9 +146,7 @@ pub room_after_part : (end : Result Work StepRefused) (old now new : JobSeen) �
 room_after_part (Ok works.Idle) old now new same r = let e = ap room_of_posts same in let a = r.0 in (omega (arith, e, a), ap made_by same ∙ r.1)
 room_after_part (Ok works.Busy) old now new same r = let e = ap room_of_posts same in let m = ap made_by same in
     let a = r.0 in let b = r.1 in (omega (arith, e, a), omega (arith, m, b))
-room_after_part (Err (refusals.Full line len)) old now new same r = let e = ap room_of_posts same in let m = ap made_by same in
-    let a = r.0 in let b = r.1 in (omega (arith, e, a), omega (arith, m, b))
-room_after_part (Err refusals.NoMemory) old now new same r = let e = ap room_of_posts same in let m = ap made_by same in
+room_after_part (Err refused) old now new same r = let e = ap room_of_posts same in let m = ap made_by same in
     let a = r.0 in let b = r.1 in (omega (arith, e, a), omega (arith, m, b))
 
 pub no_more_after_part : (end : Result Work StepRefused) (old new : JobSeen) → RoomAfterPart end old new → room_of_posts new.posts ≤ room_of_posts old.posts
