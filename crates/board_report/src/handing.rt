@@ -13,14 +13,14 @@ use crate::reporting::ReportRoom;
 use board_core::System;
 use board_def::Board;
 use irq_base::Reports;
-use irq_io::WriteEnd;
+use irq_io::WriteFailed;
 use irq_line::IrqLine;
 
 /// What was printed, and is handed out.
 #[derive(Drop)]
 pub struct Printed {
     /// How the printing ended.
-    pub end: WriteEnd,
+    pub end: Result<(), WriteFailed>,
     /// One report for each line of the board, in its order.
     pub reports: Reports,
 }

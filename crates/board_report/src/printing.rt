@@ -7,7 +7,7 @@ ghost use Rattle.irq_io.specs.Whole.{KeepsNone, WritesAll, writing_failed};
 ghost use Rattle.log_text.specs.LayoutRows.{layout_rows};
 
 use board_def::{Board, Layout};
-use irq_io::{FlushAnswer, Sink, WriteEnd, write_all};
+use irq_io::{FlushAnswer, Sink, WriteFailed, write_all};
 use log_text::layout_row;
 use text_row::TextRow;
 
@@ -17,7 +17,7 @@ pub fn print_layout<O: Sink>(
     row: &mut TextRow,
     board: &Board,
     layout: &Layout,
-) -> WriteEnd
+) -> Result<(), WriteFailed>
     requires { layout.now ≡ layout_of board.now }
     ensures content { WritesAll (O.written out.old) (O.written out.new)
         (layout_rows board.now) result }
@@ -25,22 +25,19 @@ pub fn print_layout<O: Sink>(
 {
     for i in 0..board.lines_len() {
         layout_row(row, layout, board, i);
-        match write_all(out, row.bytes()) {
-            WriteEnd::Done => {}
-            WriteEnd::Failed => return WriteEnd::Failed,
-        }
+        write_all(out, row.bytes())?;
     }
-    WriteEnd::Done
+    Ok(())
 }
 
 /// Has the sink hand on all that was written to it.
-pub fn hand_on<O: Sink>(out: &mut O) -> WriteEnd
+pub fn hand_on<O: Sink>(out: &mut O) -> Result<(), WriteFailed>
     ensures content { Stays (O.written out.old) (O.written out.new) }
     ensures emptied { KeepsNone (O.kept out.new) result }
     ensures cause { Counts (O.faults out.old) (O.faults out.new) (writing_failed result) }
 {
     match out.flush() {
-        FlushAnswer::Done => WriteEnd::Done,
-        FlushAnswer::Failed => WriteEnd::Failed,
+        FlushAnswer::Done => Ok(()),
+        FlushAnswer::Failed => Err(WriteFailed),
     }
 }

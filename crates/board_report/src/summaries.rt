@@ -7,28 +7,33 @@ ghost use Rattle.board_report.specs.Totals.{count_of_entries, summaries_text, to
 ghost use Rattle.board_report.specs.Summable.{IsSummable};
 
 use irq_base::Reports;
-use irq_io::{Sink, WriteEnd, write_all};
+use irq_io::{Sink, WriteFailed, write_all};
 use log_summary::{summary_row, total_row};
 use text_row::TextRow;
 
 /// Prints a row for each report, in their order, and the total; `row` is lent for the rows.
-pub fn print_totals<O: Sink>(out: &mut O, row: &mut TextRow, reports: &Reports) -> WriteEnd
+pub fn print_totals<O: Sink>(
+    out: &mut O,
+    row: &mut TextRow,
+    reports: &Reports,
+) -> Result<(), WriteFailed>
     requires few { length reports.now.reports ≤ 64 }
     requires summable { All IsSummable reports.now.reports }
     ensures content { WritesAll (O.written out.old) (O.written out.new)
         (totals_text (map told_by reports.now.reports)) result }
     ensures cause { Counts (O.faults out.old) (O.faults out.new) (writing_failed result) }
 {
-    match print_summaries(out, row, reports) {
-        WriteEnd::Done => {}
-        WriteEnd::Failed => return WriteEnd::Failed,
-    }
+    print_summaries(out, row, reports)?;
     total_row(row, count_entries(reports));
     write_all(out, row.bytes())
 }
 
 /// Prints a row for each report.
-fn print_summaries<O: Sink>(out: &mut O, row: &mut TextRow, reports: &Reports) -> WriteEnd
+fn print_summaries<O: Sink>(
+    out: &mut O,
+    row: &mut TextRow,
+    reports: &Reports,
+) -> Result<(), WriteFailed>
     requires { All IsSummable reports.now.reports }
     ensures content { WritesAll (O.written out.old) (O.written out.new)
         (summaries_text (map told_by reports.now.reports)) result }
@@ -39,12 +44,9 @@ fn print_summaries<O: Sink>(out: &mut O, row: &mut TextRow, reports: &Reports) -
             unreachable!();
         };
         summary_row(row, report.line, &report.history);
-        match write_all(out, row.bytes()) {
-            WriteEnd::Done => {}
-            WriteEnd::Failed => return WriteEnd::Failed,
-        }
+        write_all(out, row.bytes())?;
     }
-    WriteEnd::Done
+    Ok(())
 }
 
 /// How many entries the reports have together.

@@ -50,8 +50,8 @@ use Rattle.log_text.specs.EntryWords.{IsPrintable, entry_words}
 use Rattle.log_text.specs.Formed.{HasSmallNumbers, IsSmall, IsWritable}
 use Rattle.log_text.specs.Rows.{entry_text}
 use Rattle.log_text.specs.Spaced.{spaced}
-use Rattle.irq_play.specs.Printing.{HasRow}
-use Rattle.irq_play.specs.Report.{moves_text}
+use Rattle.play_report.specs.Printing.{HasRow}
+use Rattle.play_report.specs.Report.{moves_text}
 use Rattle.explore_picks.proofs.Bytes.{above_feed, digits_plain, not_hash, is_plain, picks_pass}
 use Rattle.explore_picks.proofs.Named.{kept}
 use Rattle.explore_picks.specs.Rows.{pick_text, picks_line, picks_row, picks_text, row_at}

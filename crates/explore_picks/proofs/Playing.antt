@@ -18,13 +18,13 @@ use Rattle.explore_picks.proofs.Printable.{moves_have_rows}
 use Rattle.explore_picks.proofs.Stating.{are_stated}
 use Rattle.irq_base.specs.declared.devices.Run.{Run}
 use Rattle.irq_io.specs.Whole.{WritesAll}
-use Rattle.irq_io.specs.declared.whole.WriteEnd.TheVariants as writes
-use Rattle.irq_play.specs.Printing.{HasRow}
-use Rattle.irq_play.specs.Report.{moves_text}
+use Rattle.irq_io.specs.declared.whole.WriteFailed.{WriteFailed}
+use Rattle.play_report.specs.Printing.{HasRow}
+use Rattle.play_report.specs.Report.{moves_text}
 use Rattle.board_core.specs.Runs.{runs_of}
 use Rattle.board_def.specs.Rules.{IsBoard}
 use Rattle.board_report.proofs.Printable.{turned}
-use Rattle.std.proofs.Common.{ℕ, Option, [], ◌∷◌}
+use Rattle.std.proofs.Common.{ℕ, Option, Result, [], ◌∷◌}
 use Rattle.std.specs.Prelude.{All}
 use Rattle.std.proofs.lemmas.List.Elements.{All-cons, All-head, All-nil, All-tail}
 use Rattle.explore_play.proofs.Beginning.{begins_each}
@@ -65,7 +65,7 @@ module _ (s : SystemSeen) (b : BoardSeen) (board : IsBoard b) (line : LineNo) (e
       (can_write g (All-tail HasRow m g rows) (All-tail HasSmallMove m g small))
 
   -- such a play, as it is printed
-  pub prints : (heard : List Run → Type 0) (old new : Option (List ℕ)) (end : writes.the_data) → length picks ≤ 65536 → All HasSmallMove s.log
+  pub prints : (heard : List Run → Type 0) (old new : Option (List ℕ)) (end : Result Unit WriteFailed) → length picks ≤ 65536 → All HasSmallMove s.log
       → heard (runs_of b (reverse s.log)) → WritesAll old new (moves_text s.log ++ picks_text picks) end → PrintsPlayTo b line es heard old new end
   prints heard old new end few small runs printed = record {
     moves = s.log;

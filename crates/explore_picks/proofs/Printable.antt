@@ -9,7 +9,7 @@ use Rattle.board_play.specs.Lines.{Move, lines_of}
 use Rattle.board_play.proofs.Moves.{moves_on}
 use Rattle.board_play.proofs.Parts.{due_of}
 use Rattle.board_report.proofs.Printable.{printable, turned}
-use Rattle.irq_play.specs.Printing.{HasRow}
+use Rattle.play_report.specs.Printing.{HasRow}
 use Rattle.explore_play.specs.Made.{ArePicked}
 use Rattle.explore_picks.specs.Small.{HasSmallMove}
 use Rattle.std.proofs.Common.{drop, slice_get}

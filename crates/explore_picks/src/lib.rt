@@ -3,9 +3,11 @@
 //! `genirq play` begin with these moves.
 #![tactic(auto)]
 
+pub mod failing;
 mod making;
 mod picks;
 mod small;
 
-pub use making::{PlayToEnd, play_to_and_print};
+pub use failing::ExploreFailed;
+pub use making::play_to_and_print;
 pub use picks::print_picks;

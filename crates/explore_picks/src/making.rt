@@ -1,6 +1,6 @@
 //! The play and its printing.
 ghost use Rattle.std.specs.Prelude.{◌≡◌, ◌≤◌, ◌++◌, [], All, IfOk, IfSome, IsSome, length};
-ghost use Rattle.std.specs.Prelude.{reverse};
+ghost use Rattle.std.specs.Prelude.{reverse, true, false, Ok, IsErrOf};
 ghost use Rattle.board_def.specs.Layout.{layout_of};
 ghost use Rattle.explore_picks.specs.Printed.{HeardSome, PlaysTo, is_write_fault};
 ghost use Rattle.explore_picks.specs.Rows.{picks_text};
@@ -9,9 +9,10 @@ ghost use Rattle.callbacks.specs.Heard.{Heard};
 ghost use Rattle.board_core.specs.Runs.{runs_of};
 ghost use Rattle.irq_io.specs.Faults.{Counts};
 ghost use Rattle.irq_io.specs.Whole.{KeepsNone, WritesAll, writing_failed};
-ghost use Rattle.irq_play.specs.Printing.{HasRow};
-ghost use Rattle.irq_play.specs.Report.{moves_text};
+ghost use Rattle.play_report.specs.Printing.{HasRow};
+ghost use Rattle.play_report.specs.Report.{moves_text};
 
+use crate::failing::ExploreFailed;
 use crate::picks::print_picks;
 use crate::small::are_small;
 use board_core::System;
@@ -21,24 +22,11 @@ use board_report::hand_on;
 use callbacks::Handler;
 use explore_play::play_to;
 use irq_base::{Actor, Entry, LineNo, NoMemory};
-use irq_io::{Sink, WriteEnd};
+use irq_io::{Sink, WriteFailed};
 use irq_line::IrqLine;
-use irq_play::print_moves;
 use line_makers::{MakesDomainLine, OverDomains};
+use play_report::print_moves;
 use std::alloc::Global;
-
-/// How the making of a play to a history, and its printing, ended.
-#[derive(Clone, Copy, PartialEq, Eq)]
-pub enum PlayToEnd {
-    /// It is printed.
-    Done,
-    /// No play was found.
-    NoneFound,
-    /// A write or a flush failed.
-    WriteFault,
-    /// Memory was needed and refused.
-    NoMemory,
-}
 
 /// A play to a history: the system, and the picks that made its moves.
 #[derive(Drop)]
@@ -77,7 +65,10 @@ fn make<'b, M: MakesDomainLine, H: Handler>(
 }
 
 /// Prints the moves and the picks, and has them handed on.
-fn print_made<L: IrqLine, O: Sink>(play: &PlayTo<'_, L>, out: &mut O) -> WriteEnd
+fn print_made<L: IrqLine, O: Sink>(
+    play: &PlayTo<'_, L>,
+    out: &mut O,
+) -> Result<(), WriteFailed>
     requires rows { All HasRow play.now.system.log }
     requires few { length play.now.picks.items ≤ 65536 }
     ensures content { WritesAll (O.written out.old) (O.written out.new)
@@ -85,21 +76,21 @@ fn print_made<L: IrqLine, O: Sink>(play: &PlayTo<'_, L>, out: &mut O) -> WriteEn
     ensures emptied { KeepsNone (O.kept out.new) result }
     ensures cause { Counts (O.faults out.old) (O.faults out.new) (writing_failed result) }
 {
-    match print_moves(out, &mut play.system.moves()) {
-        WriteEnd::Done => {}
-        WriteEnd::Failed => return WriteEnd::Failed,
-    }
-    match print_picks(out, play.picks.as_slice()) {
-        WriteEnd::Done => hand_on(out),
-        WriteEnd::Failed => WriteEnd::Failed,
-    }
+    print_moves(out, &mut play.system.moves())?;
+    print_picks(out, play.picks.as_slice())?;
+    hand_on(out)
 }
 
 /// Makes a play of the board to which the line's history `wanted` comes, and prints its moves and
-/// its picks. One is found if no other line takes part and there is room for the history; else that
-/// isn't promised. What is printed is lawful, and a board's reader takes the rows of picks as these
-/// picks. The handlers are called for the runs that the play ends, and for no other; where none is
-/// found, for those of the play that was tried.
+/// its picks; answers whether one was found. One is found if no other line takes part and there is
+/// room for the history; else that isn't promised. What is printed is lawful, and a board's reader
+/// takes the rows of picks as these picks. The handlers are called for the runs that the play ends,
+/// and for no other; where none is found, for those of the play that was tried.
+///
+/// # Errors
+///
+/// `NoMemory` if memory was refused, and nothing is printed; `Write` if a play was found, and a
+/// write or a flush of `out` failed. Never `NotThere`.
 pub fn play_to_and_print<M: MakesDomainLine, H: Handler, O: Sink>(
     alloc: Global,
     board: &Board,
@@ -108,26 +99,25 @@ pub fn play_to_and_print<M: MakesDomainLine, H: Handler, O: Sink>(
     maker: &M,
     handlers: &mut H,
     out: &mut O,
-) -> PlayToEnd
+) -> Result<bool, ExploreFailed>
     ensures plays { PlaysTo board.now line wanted.now
         (λ runs. Heard H.hears runs handlers.old handlers.new) (O.written out.old)
         (O.written out.new) result }
-    ensures emptied { result ≡ PlayToEnd.Done → O.kept out.new ≡ [] }
+    ensures emptied { result ≡ Ok true → O.kept out.new ≡ [] }
     ensures write_fault { Counts (O.faults out.old) (O.faults out.new) (is_write_fault result) }
-    ensures silent { result ≡ PlayToEnd.NoneFound → out.new ≡ out.old }
-    ensures refused { result ≡ PlayToEnd.NoMemory → out.new ≡ out.old }
-    ensures alone { IsAlone board.now line wanted.now → result ≡ PlayToEnd.NoneFound → ⊥ }
+    ensures silent { result ≡ Ok false → out.new ≡ out.old }
+    ensures refused { IsErrOf result ExploreFailed.NoMemory → out.new ≡ out.old }
+    ensures alone { IsAlone board.now line wanted.now → result ≡ Ok false → ⊥ }
 {
     board.is_board();
-    match make(alloc, board, line, wanted, maker, handlers) {
-        Ok(Some(play)) => {
+    match make(alloc, board, line, wanted, maker, handlers)? {
+        Some(play) => {
             are_small(&mut play.system.moves());
             match print_made(&play, out) {
-                WriteEnd::Done => PlayToEnd::Done,
-                WriteEnd::Failed => PlayToEnd::WriteFault,
+                Ok(()) => Ok(true),
+                Err(failed) => Err(ExploreFailed::Write(failed)),
             }
         }
-        Ok(None) => PlayToEnd::NoneFound,
-        Err(NoMemory) => PlayToEnd::NoMemory,
+        None => Ok(false),
     }
 }

@@ -5,7 +5,7 @@ ghost use Rattle.irq_io.specs.Faults.{Counts};
 ghost use Rattle.irq_io.specs.Whole.{WritesAll, writing_failed};
 
 use irq_base::Actor;
-use irq_io::{Sink, WriteEnd, write_all};
+use irq_io::{Sink, WriteFailed, write_all};
 use text_row::TextRow;
 
 /// How many picks stand in a row.
@@ -61,7 +61,7 @@ fn picks_of(picks: &[Actor], place: usize) -> &[Actor]
 }
 
 /// Prints the picks in rows of at most 24.
-pub fn print_picks<O: Sink>(out: &mut O, picks: &[Actor]) -> WriteEnd
+pub fn print_picks<O: Sink>(out: &mut O, picks: &[Actor]) -> Result<(), WriteFailed>
     requires { length picks.now ≤ 65536 }
     ensures content { WritesAll (O.written out.old) (O.written out.new) (picks_text picks.now)
         result }
@@ -70,10 +70,7 @@ pub fn print_picks<O: Sink>(out: &mut O, picks: &[Actor]) -> WriteEnd
     let mut row = TextRow::new();
     for place in 0..(picks.len() + 23) / PICKS {
         picks_row(&mut row, picks_of(picks, place));
-        match write_all(out, row.bytes()) {
-            WriteEnd::Done => {}
-            WriteEnd::Failed => return WriteEnd::Failed,
-        }
+        write_all(out, row.bytes())?;
     }
-    WriteEnd::Done
+    Ok(())
 }

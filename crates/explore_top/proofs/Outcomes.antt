@@ -1,13 +1,15 @@
 -- What is done with a board that was read.
-use Rattle.std.proofs.Common.{◌≡◌, ◌⊎◌, inl, inr, ℕ, false, Option, Some, None, Ok, List, refl, sym, ap, subst, ◌∙◌}
+use Rattle.std.proofs.Common.{◌≡◌, ◌⊎◌, inl, inr, ℕ, false, Option, Some, None, Result, Ok, Err, List, refl, sym, ap, subst, ◌∙◌}
 use Rattle.board_def.specs.Rules.{IsBoard}
 use Rattle.board_def.specs.Seen.{BoardSeen}
+use Rattle.explore_picks.specs.declared.failing.ExploreFailed.{ExploreFailed}
+use Rattle.explore_picks.specs.declared.failing.ExploreFailed.TheVariants as fails
 use Rattle.explore_words.specs.declared.Asked.{Asked}
 use Rattle.explore_words.specs.declared.What.{What}
 use Rattle.explore_words.specs.declared.What.TheVariants as whats
 use Rattle.irq_base.specs.declared.devices.Run.{Run}
-use Rattle.irq_explore.specs.declared.exploring.ExploreEnd.{ExploreEnd}
-use Rattle.irq_explore.specs.declared.exploring.ExploreEnd.TheVariants as ends
+use Rattle.irq_explore.specs.declared.exploring.Explored.{Explored}
+use Rattle.irq_explore.specs.declared.exploring.Explored.TheVariants as finds
 use Rattle.program_io.specs.Reading.{IsStated, ReadsBoard}
 use Rattle.explore_top.specs.Does.{Does, ExploresAs, ExploresInput, ExploresWhat, HeardBefore, IsReadToEnd}
 use Rattle.explore_top.specs.Ending.{ending_of, is_read_fault_end}
@@ -19,7 +21,7 @@ read_to_end (Some bytes) left b read = read.1
 
 module _ (asked : Asked) (heard : List Run → Type 0) (told left before now : Option (List ℕ)) (b : BoardSeen)
     (read : ReadsBoard told left (Ok b)) (stated : IsStated told b) (keeps : IsBoard b) where
-  input : (end : ExploreEnd) → ExploresWhat asked.states asked.what heard b before now end
+  input : (end : Result Explored ExploreFailed) → ExploresWhat asked.states asked.what heard b before now end
       → ExploresInput asked heard told left before now (ending_of asked.states end)
   input end done = record {
     board = b;
@@ -30,33 +32,33 @@ module _ (asked : Asked) (heard : List Run → Type 0) (told left before now : O
   }
 
   -- what was heard of the board where memory was refused
-  some_heard : (what : What) → ExploresWhat asked.states what heard b before now ends.NoMemory → HeardBefore heard told
+  some_heard : (what : What) → ExploresWhat asked.states what heard b before now (Err fails.NoMemory) → HeardBefore heard told
   some_heard whats.Survey done = inl done.1
   some_heard (whats.Line line) done = inl done.1
   some_heard (whats.Row line wanted) done = inl done.1
   some_heard (whats.Play line wanted) done = inr (b, stated, done)
 
-  by_end : (end : ExploreEnd) → ExploresWhat asked.states asked.what heard b before now end
+  by_end : (end : Result Explored ExploreFailed) → ExploresWhat asked.states asked.what heard b before now end
       → Does asked heard told left before now (ending_of asked.states end)
-  by_end ends.Done done = input ends.Done done
-  by_end ends.Never done = input ends.Never done
-  by_end (ends.Cut line) done = input (ends.Cut line) done
-  by_end ends.NoPlay done = input ends.NoPlay done
-  by_end ends.NotThere done = input ends.NotThere done
-  by_end ends.WriteFault done = input ends.WriteFault done
-  by_end ends.NoMemory done = some_heard asked.what done
+  by_end (Ok finds.Done) done = input (Ok finds.Done) done
+  by_end (Ok finds.Never) done = input (Ok finds.Never) done
+  by_end (Ok (finds.Cut line)) done = input (Ok (finds.Cut line)) done
+  by_end (Ok finds.NoPlay) done = input (Ok finds.NoPlay) done
+  by_end (Err fails.NotThere) done = input (Err fails.NotThere) done
+  by_end (Err fails.NoMemory) done = some_heard asked.what done
+  by_end (Err (fails.Write failed)) done = input (Err (fails.Write failed)) done
 
   pub explored : (ending : Ending) → ExploresAs asked heard b before now ending → Does asked heard told left before now ending
   explored ending (end, is, done) = subst (λ (e : Ending). Does asked heard told left before now e) (sym is) (by_end end done)
 
-no_read_fault : (states : ℕ) (end : ExploreEnd) → is_read_fault_end (ending_of states end) ≡ false
-no_read_fault states ends.Done = refl
-no_read_fault states ends.Never = refl
-no_read_fault states (ends.Cut line) = refl
-no_read_fault states ends.NoPlay = refl
-no_read_fault states ends.NotThere = refl
-no_read_fault states ends.WriteFault = refl
-no_read_fault states ends.NoMemory = refl
+no_read_fault : (states : ℕ) (end : Result Explored ExploreFailed) → is_read_fault_end (ending_of states end) ≡ false
+no_read_fault states (Ok finds.Done) = refl
+no_read_fault states (Ok finds.Never) = refl
+no_read_fault states (Ok (finds.Cut line)) = refl
+no_read_fault states (Ok finds.NoPlay) = refl
+no_read_fault states (Err fails.NotThere) = refl
+no_read_fault states (Err fails.NoMemory) = refl
+no_read_fault states (Err (fails.Write failed)) = refl
 
 -- it came without a read fault
 pub explored_unread : (asked : Asked) (heard : List Run → Type 0) (b : BoardSeen) (before now : Option (List ℕ)) (ending : Ending)

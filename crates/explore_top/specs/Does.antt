@@ -1,17 +1,18 @@
 -- What the program does, ending by ending. `heard` says which runs the handlers were called for;
 -- `told` is what the source told of its bytes, `left` what it has left of them; `before` and `now`
 -- are what the output has.
-use Rattle.std.specs.Prelude.{◌≡◌, ◌⊎◌, ℕ, Option, Some, None, Err, List, []}
+use Rattle.std.specs.Prelude.{◌≡◌, ◌⊎◌, ℕ, Option, Some, None, Result, Err, List, []}
 use Rattle.board_def.specs.Rules.{IsBoard}
 use Rattle.board_def.specs.Seen.{BoardSeen}
 use Rattle.explore_picks.specs.Printed.{HeardSome}
+use Rattle.explore_picks.specs.declared.failing.ExploreFailed.{ExploreFailed}
 use Rattle.explore_words.specs.declared.Asked.{Asked}
 use Rattle.explore_words.specs.declared.What.{What}
 use Rattle.explore_words.specs.declared.What.TheVariants as whats
 use Rattle.irq_base.specs.declared.devices.Run.{Run}
 use Rattle.irq_explore.specs.Explored.{ExploresLines, ExploresRow}
 use Rattle.irq_explore.specs.Played.{ExploresPlay}
-use Rattle.irq_explore.specs.declared.exploring.ExploreEnd.{ExploreEnd}
+use Rattle.irq_explore.specs.declared.exploring.Explored.{Explored}
 use Rattle.program_io.specs.Reading.{IsStated, ReadsBoard}
 use Rattle.program_io.specs.declared.inputs.InputRefused.TheVariants as refusals
 use Rattle.explore_top.specs.Ending.{ending_of}
@@ -27,7 +28,7 @@ IsReadToEnd (Some bytes) left = left ≡ Some []
 -- part were surveyed, or one, or a row was looked for, or a play that comes to it. Only for a play
 -- handlers are called.
 abbrev pub ExploresWhat : ℕ → What → (List Run → Type 0) → BoardSeen → Option (List ℕ)
-    → Option (List ℕ) → ExploreEnd → Type 0
+    → Option (List ℕ) → Result Explored ExploreFailed → Type 0
 ExploresWhat states whats.Survey heard b before now end =
     ExploresLines b states None before now end × heard []
 ExploresWhat states (whats.Line line) heard b before now end =
@@ -41,7 +42,7 @@ ExploresWhat states (whats.Play line wanted) heard b before now end =
 abbrev pub ExploresAs : Asked → (List Run → Type 0) → BoardSeen → Option (List ℕ)
     → Option (List ℕ) → Ending → Type 0
 ExploresAs asked heard b before now ending =
-    (end : ExploreEnd) × (ending ≡ ending_of asked.states end)
+    (end : Result Explored ExploreFailed) × (ending ≡ ending_of asked.states end)
     × ExploresWhat asked.states asked.what heard b before now end
 
 -- it was done with the board that the source told

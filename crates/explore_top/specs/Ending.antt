@@ -1,7 +1,9 @@
 -- How the top call ends, by its ending: the exit status, and the row on the error sink.
-use Rattle.std.specs.Prelude.{ℕ, Bool, true, false, List, [], ◌++◌, codes, decimal}
-use Rattle.irq_explore.specs.declared.exploring.ExploreEnd.{ExploreEnd}
-use Rattle.irq_explore.specs.declared.exploring.ExploreEnd.TheVariants as ends
+use Rattle.std.specs.Prelude.{ℕ, Bool, true, false, Result, Ok, Err, List, [], ◌++◌, codes, decimal}
+use Rattle.explore_picks.specs.declared.failing.ExploreFailed.{ExploreFailed}
+use Rattle.explore_picks.specs.declared.failing.ExploreFailed.TheVariants as fails
+use Rattle.irq_explore.specs.declared.exploring.Explored.{Explored}
+use Rattle.irq_explore.specs.declared.exploring.Explored.TheVariants as finds
 use Rattle.program_io.specs.ErrorRows.{fault_row}
 use Rattle.program_io.specs.declared.inputs.InputRefused.{InputRefused}
 use Rattle.program_io.specs.declared.inputs.InputRefused.TheVariants as refusals
@@ -36,14 +38,14 @@ error_text (endings.Cut line states) =
 error_text endings.NoPlay = codes "play: none was found\n"
 
 -- the ending of an exploring with this limit of states a line
-abbrev pub ending_of : ℕ → ExploreEnd → Ending
-ending_of states ends.Done = endings.Done
-ending_of states ends.Never = endings.Never
-ending_of states (ends.Cut line) = endings.Cut line states
-ending_of states ends.NoPlay = endings.NoPlay
-ending_of states ends.NotThere = endings.NotThere
-ending_of states ends.WriteFault = endings.WriteFault
-ending_of states ends.NoMemory = endings.NoMemory
+abbrev pub ending_of : ℕ → Result Explored ExploreFailed → Ending
+ending_of states (Ok finds.Done) = endings.Done
+ending_of states (Ok finds.Never) = endings.Never
+ending_of states (Ok (finds.Cut line)) = endings.Cut line states
+ending_of states (Ok finds.NoPlay) = endings.NoPlay
+ending_of states (Err fails.NotThere) = endings.NotThere
+ending_of states (Err fails.NoMemory) = endings.NoMemory
+ending_of states (Err (fails.Write failed)) = endings.WriteFault
 
 abbrev pub ending_of_refusal : InputRefused → Ending
 ending_of_refusal (refusals.Fault fault) = endings.Board fault

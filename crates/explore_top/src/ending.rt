@@ -4,7 +4,7 @@ ghost use Rattle.explore_top.specs.Ending.{ending_of, status_of};
 
 use board_words::BoardFault;
 use irq_base::LineNo;
-use irq_explore::ExploreEnd;
+use irq_explore::{ExploreFailed, Explored};
 use program_io::InputRefused;
 
 /// How the work ended.
@@ -51,17 +51,17 @@ impl Ending {
     }
 
     /// The ending of an exploring of at most `states` states a line.
-    pub(crate) fn of(end: ExploreEnd, states: u32) -> Ending
+    pub(crate) fn of(end: Result<Explored, ExploreFailed>, states: u32) -> Ending
         ensures { result ≡ ending_of states end }
     {
         match end {
-            ExploreEnd::Done => Ending::Done,
-            ExploreEnd::Never => Ending::Never,
-            ExploreEnd::Cut(line) => Ending::Cut { line, states },
-            ExploreEnd::NoPlay => Ending::NoPlay,
-            ExploreEnd::NotThere => Ending::NotThere,
-            ExploreEnd::WriteFault => Ending::WriteFault,
-            ExploreEnd::NoMemory => Ending::NoMemory,
+            Ok(Explored::Done) => Ending::Done,
+            Ok(Explored::Never) => Ending::Never,
+            Ok(Explored::Cut(line)) => Ending::Cut { line, states },
+            Ok(Explored::NoPlay) => Ending::NoPlay,
+            Err(ExploreFailed::NotThere) => Ending::NotThere,
+            Err(ExploreFailed::NoMemory) => Ending::NoMemory,
+            Err(ExploreFailed::Write(_)) => Ending::WriteFault,
         }
     }
 }

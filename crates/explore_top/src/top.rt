@@ -16,7 +16,7 @@ use crate::error_rows::error_row;
 use board_def::Board;
 use callbacks::Handler;
 use explore_words::{Asked, What, read_words};
-use irq_explore::{ExploreEnd, explore_play, explore_row, explore_survey};
+use irq_explore::{ExploreFailed, Explored, explore_play, explore_row, explore_survey};
 use irq_io::{Sink, Source};
 use line_makers::MakesDomainLine;
 use program_io::{read_input, tell_row};
@@ -147,7 +147,7 @@ fn explore_what<O: Sink, M: MakesDomainLine, H: Handler>(
     out: &mut O,
     maker: &M,
     handlers: &mut H,
-) -> ExploreEnd
+) -> Result<Explored, ExploreFailed>
     requires { IsCount states }
     ensures does { ExploresWhat states what
         (λ runs. Heard H.hears runs handlers.old handlers.new) board.now (O.written out.old)

@@ -5,15 +5,20 @@ use Rattle.std.proofs.Common.{Err, List, take, length, refl, sym, ap, ◌∙◌,
 use Rattle.std.proofs.lemmas.List.{take_all, drop_all}
 use Rattle.std.proofs.lemmas.Bool.{ltb-true}
 use Rattle.std.proofs.lemmas.Bool.Decides.{nat_tests}
-use Rattle.irq_io.specs.Whole.{TakesUpTo}
+use Rattle.irq_io.specs.Whole.{TakesUpTo, met_fault}
+use Rattle.irq_io.specs.declared.whole.ReadRefused.{ReadRefused}
+use Rattle.irq_io.specs.declared.whole.ReadRefused.TheVariants as reads
 use Rattle.board_def.specs.Seen.{BoardSeen}
 use Rattle.board_stated.specs.TextOf.{whole}
 use Rattle.board_words.specs.declared.faults.BoardFault.{BoardFault}
 use Rattle.board_words.specs.declared.faults.FaultKind.TheVariants as faults
-use Rattle.irq_check.specs.Checked.{IsChecked, board_and_log, checked, longest_input}
-use Rattle.irq_check.specs.Ends.{IsSaid, ReadsInput}
+use Rattle.board_text.specs.declared.reading.BoardRefused.{BoardRefused}
+use Rattle.board_text.specs.declared.reading.BoardRefused.TheVariants as boards
+use Rattle.irq_check.specs.Checked.{Checks, IsChecked, board_and_log, checked, longest_input}
+use Rattle.irq_check.specs.Ends.{IsSaid, ReadsInput, is_read_fault}
 use Rattle.irq_check.specs.Parts.{parts_of}
 use Rattle.irq_check.specs.declared.answers.Judgement.{Judgement}
+use Rattle.program_io.specs.Refusals.{refusal_of_board, refusal_of_read}
 use Rattle.program_io.specs.declared.inputs.InputRefused.TheVariants as refusals
 
 is_longer : (bytes : List ℕ) → longest_input < length bytes → nat_lt longest_input (length bytes) ≡ true
@@ -90,3 +95,28 @@ pub said : (asked : Bool) (before now : Option (List ℕ)) (text : List ℕ) (an
 said asked None now text answer read is = record { input = text; as_told = tt; checked = is }
 said asked (Some bytes) now text answer read is =
     record { input = bytes; as_told = refl; checked = whole_is asked bytes text answer read.0 is }
+
+-- ---- what was refused
+
+-- the bytes were
+pub unread : (asked : Bool) (before now : Option (List ℕ)) (refused : ReadRefused) → ReadsInput asked before now (Err (refusal_of_read refused))
+unread asked None now reads.Fault = tt
+unread asked None now reads.NoMemory = tt
+unread asked (Some bytes) now reads.Fault = tt
+unread asked (Some bytes) now reads.NoMemory = tt
+
+pub unread_fault : (T : Type 0) (refused : ReadRefused) → met_fault {T = T} (Err refused) ≡ is_read_fault (Err (refusal_of_read refused))
+unread_fault T reads.Fault = refl
+unread_fault T reads.NoMemory = refl
+
+-- the judging was
+pub unjudged : (asked : Bool) (before now : Option (List ℕ)) (text : List ℕ) (refusal : BoardRefused)
+    → TakesUpTo (longest_input + 1) before now text → length text ≤ longest_input + 1 → Checks asked text (Err refusal)
+    → ReadsInput asked before now (Err (refusal_of_board refusal))
+unjudged asked before now text (boards.Fault fault) read few checks = refused asked before now text fault read few checks
+unjudged asked None now text boards.NoMemory read few checks = tt
+unjudged asked (Some bytes) now text boards.NoMemory read few checks = tt
+
+pub unjudged_fault : (refusal : BoardRefused) → is_read_fault (Err (refusal_of_board refusal)) ≡ false
+unjudged_fault (boards.Fault fault) = refl
+unjudged_fault boards.NoMemory = refl

@@ -4,11 +4,10 @@ use Rattle.std.specs.Prelude.{drop, length, Result, Ok, Err}
 use Rattle.board_words.specs.declared.faults.BoardFault.{BoardFault}
 use Rattle.irq_io.specs.Told.{IsTold}
 use Rattle.irq_io.specs.Whole.{WritesAll}
-use Rattle.irq_io.specs.declared.whole.WriteEnd.TheVariants as writes
 use Rattle.program_io.specs.declared.inputs.InputRefused.{InputRefused}
 use Rattle.program_io.specs.declared.inputs.InputRefused.TheVariants as refusals
-use Rattle.irq_check.specs.declared.printing.CheckEnd.{CheckEnd}
-use Rattle.irq_check.specs.declared.printing.CheckEnd.TheVariants as ends
+use Rattle.irq_check.specs.declared.failing.CheckFailed.{CheckFailed}
+use Rattle.irq_check.specs.declared.failing.CheckFailed.TheVariants as fails
 use Rattle.irq_check.specs.declared.answers.Judgement.{Judgement}
 use Rattle.irq_check.specs.AnswerText.{answer_text}
 use Rattle.irq_check.specs.Checked.{IsChecked, checked, longest_input}
@@ -46,42 +45,34 @@ ReadsInput asked (Some bytes) now (Err (refusals.Fault fault)) =
 ReadsInput asked None now (Err (refusals.Fault fault)) = HasFault fault
 ReadsInput asked _ _ _ = Unit {0}
 
--- what the whole call read, by how it ended
-abbrev pub Reads : (asked : Bool) → Option (List ℕ) → Option (List ℕ) → CheckEnd → Type 0
-Reads asked (Some bytes) now (ends.Answered answer) =
-    IsChecked asked bytes answer × (now ≡ Some [])
-Reads asked (Some bytes) now ends.WriteFault =
-    ((answer : Judgement) × IsChecked asked bytes answer) × (now ≡ Some [])
-Reads asked (Some bytes) now (ends.Fault fault) =
-    (checked bytes ≡ Err fault) × (now ≡ Some (left_after bytes))
-Reads asked None now (ends.Fault fault) = HasFault fault
-Reads asked _ _ _ = Unit {0}
+-- what the whole call read, by how it ended: an output that fails comes after a judgement
+abbrev pub Reads : (asked : Bool) → Option (List ℕ) → Option (List ℕ)
+    → Result Judgement CheckFailed → Type 0
+Reads asked before now (Ok answer) = ReadsInput asked before now (Ok answer)
+Reads asked before now (Err (fails.Input refused)) = ReadsInput asked before now (Err refused)
+Reads asked before now (Err (fails.Write failed)) =
+    (answer : Judgement) × ReadsInput asked before now (Ok answer)
 
 -- the output gained the rows with the judgement of the input; after a fault of the output a
 -- beginning of them
 abbrev pub SaysOrNot : (asked : Bool) → Option (List ℕ) → Option (List ℕ) → Option (List ℕ)
-    → CheckEnd → Type 0
-SaysOrNot asked told before now (ends.Answered answer) =
-    IsSaid asked told answer × WritesAll before now (answer_text answer) writes.Done
-SaysOrNot asked told before now ends.WriteFault =
+    → Result Judgement CheckFailed → Type 0
+SaysOrNot asked told before now (Ok answer) =
+    IsSaid asked told answer × WritesAll before now (answer_text answer) (Ok tt)
+SaysOrNot asked told before now (Err (fails.Write failed)) =
     (answer : Judgement) × IsSaid asked told answer
-    × WritesAll before now (answer_text answer) writes.Failed
-SaysOrNot asked told before now _ = Unit {0}
+    × WritesAll before now (answer_text answer) (Err failed)
+SaysOrNot asked told before now (Err (fails.Input refused)) = Unit {0}
 
-abbrev pub is_answered : CheckEnd → Bool
-is_answered (ends.Answered answer) = true
-is_answered _ = false
-
-abbrev pub is_read_fault_end : CheckEnd → Bool
-is_read_fault_end ends.ReadFault = true
+abbrev pub is_read_fault_end : Result Judgement CheckFailed → Bool
+is_read_fault_end (Err (fails.Input refusals.ReadFault)) = true
 is_read_fault_end _ = false
 
-abbrev pub is_write_fault_end : CheckEnd → Bool
-is_write_fault_end ends.WriteFault = true
-is_write_fault_end _ = false
+abbrev pub is_write_fault : Result Judgement CheckFailed → Bool
+is_write_fault (Err (fails.Write failed)) = true
+is_write_fault _ = false
 
--- the ending at which something may have been printed
-abbrev pub is_printing : CheckEnd → Bool
-is_printing (ends.Answered answer) = true
-is_printing ends.WriteFault = true
-is_printing _ = false
+-- something may have been printed
+abbrev pub is_printing : Result Judgement CheckFailed → Bool
+is_printing (Err (fails.Input refused)) = false
+is_printing _ = true

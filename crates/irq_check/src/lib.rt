@@ -10,6 +10,7 @@
 
 pub mod answers;
 pub mod checking;
+pub mod failing;
 pub mod inputs;
 mod laws;
 pub mod parts;
@@ -17,8 +18,9 @@ pub mod printing;
 
 pub use answers::{Judgement, answer_row};
 pub use checking::{LONGEST_INPUT, check_bytes};
+pub use failing::CheckFailed;
 pub use inputs::check_input;
 pub use laws::answer_is_one;
 pub use log_check::Verdict;
 pub use parts::cut_input;
-pub use printing::{CheckEnd, check_and_print};
+pub use printing::check_and_print;

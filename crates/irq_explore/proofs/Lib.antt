@@ -6,4 +6,3 @@ pub mod Rows
 pub mod Said
 pub mod Taken
 pub mod Rowed
-pub mod Spoken

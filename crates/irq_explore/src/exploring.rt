@@ -3,7 +3,7 @@ ghost use Rattle.std.specs.Prelude.{◌≡◌, [], All, false, true};
 ghost use Rattle.board_def.specs.Layout.{layout_of};
 ghost use Rattle.explore_words.specs.Words.{IsCount};
 ghost use Rattle.irq_explore.specs.Answered.{Answered};
-ghost use Rattle.irq_explore.specs.Explored.{ExploresLines, ExploresRow, end_by, end_of};
+ghost use Rattle.irq_explore.specs.Explored.{ExploresLines, ExploresRow, found_by, found_in};
 ghost use Rattle.irq_explore.specs.Explored.{is_printed, is_printing, is_write_fault};
 ghost use Rattle.irq_explore.specs.Present.{has_all};
 ghost use Rattle.irq_explore.specs.Printing.{IsPrintableAnswer};
@@ -18,17 +18,18 @@ use crate::survey_printing::print_surveys;
 use crate::surveying::{LineSurvey, survey_lines};
 use board_def::{Board, Layout};
 use board_layout::lay;
-use irq_base::{LineNo, NoMemory};
-use irq_io::{Sink, WriteEnd};
+use explore_picks::ExploreFailed;
+use irq_base::LineNo;
+use irq_io::Sink;
 use line_survey::Answer;
 use line_wanted::Wanted;
 use log_read::place_of;
 use std::alloc::Global;
 
-/// How the exploring of a board ended.
+/// What the exploring of a board found.
 #[derive(Clone, Copy, PartialEq, Eq)]
-pub enum ExploreEnd {
-    /// What was asked is printed: a shortest log, or the surveys.
+pub enum Explored {
+    /// What was asked is printed: a shortest log, a play that comes to it, or the surveys.
     Done,
     /// No lawful log is as wanted, and that is printed.
     Never,
@@ -38,16 +39,15 @@ pub enum ExploreEnd {
     /// There is a log as wanted, but no play of the board that comes to it was found. Nothing is
     /// printed.
     NoPlay,
-    /// The board lacks the line, or someone or something that the row names.
-    NotThere,
-    /// A write or a flush of the output failed.
-    WriteFault,
-    /// Memory was needed and refused.
-    NoMemory,
 }
 
 /// Looks for a shortest log of the board's line that is as wanted, through at most `states` states
 /// of the line, and prints it; or prints that there is none, or none up to a length.
+///
+/// # Errors
+///
+/// `NotThere` if the board lacks the line or what is wanted names; `NoMemory` if memory was
+/// refused; nothing is printed then. `Write` if a write or a flush of `out` failed.
 pub fn explore_row<O: Sink>(
     alloc: Global,
     board: &Board,
@@ -55,7 +55,7 @@ pub fn explore_row<O: Sink>(
     line: LineNo,
     wanted: Wanted,
     out: &mut O,
-) -> ExploreEnd
+) -> Result<Explored, ExploreFailed>
     requires { IsCount states }
     ensures explores { ExploresRow states board.now line wanted (O.written out.old)
         (O.written out.new) result }
@@ -64,16 +64,14 @@ pub fn explore_row<O: Sink>(
     ensures silent { is_printing result ≡ false → out.new ≡ out.old }
 {
     let Some(place) = place_of(board, line) else {
-        return ExploreEnd::NotThere;
+        return Err(ExploreFailed::NotThere);
     };
     if !has_named(board, line, wanted) {
-        return ExploreEnd::NotThere;
+        return Err(ExploreFailed::NotThere);
     }
     board.is_board();
-    match answer_at(alloc, board, place, wanted, states) {
-        Ok(answer) => say(board, states, line, wanted, &answer, out),
-        Err(NoMemory) => ExploreEnd::NoMemory,
-    }
+    let answer = answer_at(alloc, board, place, wanted, states)?;
+    say(board, states, line, wanted, &answer, out)
 }
 
 /// Prints the answer of a search through at most `states` states of the line.
@@ -84,7 +82,7 @@ fn say<O: Sink>(
     wanted: Wanted,
     answer: &Answer,
     out: &mut O,
-) -> ExploreEnd
+) -> Result<Explored, ExploreFailed>
     requires there { has_all board.now line wanted ≡ true }
     requires answered { Answered states board.now line wanted answer.now }
     requires rows { IsPrintableAnswer answer.now }
@@ -95,33 +93,36 @@ fn say<O: Sink>(
     ensures printing { is_printing result ≡ true }
 {
     answer_is_small(line, answer);
-    match print_answer(out, line, answer) {
-        WriteEnd::Done => end_of(line, answer),
-        WriteEnd::Failed => ExploreEnd::WriteFault,
-    }
+    print_answer(out, line, answer)?;
+    Ok(found_by(line, answer))
 }
 
-/// How the exploring ended whose answer is printed.
-pub(crate) fn end_of(line: LineNo, answer: &Answer) -> ExploreEnd
-    ensures { result ≡ end_of line answer.now }
+/// What was found with this answer.
+pub(crate) fn found_by(line: LineNo, answer: &Answer) -> Explored
+    ensures { result ≡ found_by line answer.now }
 {
     match answer {
-        Answer::Found(_) => ExploreEnd::Done,
-        Answer::Never => ExploreEnd::Never,
-        Answer::NotWithin(_) => ExploreEnd::Cut(line),
+        Answer::Found(_) => Explored::Done,
+        Answer::Never => Explored::Never,
+        Answer::NotWithin(_) => Explored::Cut(line),
     }
 }
 
 /// Surveys the board's lines that take part, or the one that is asked for, each through at most
 /// `states` of its states. Prints the layout, and behind it for each line its totals, each way in
 /// which it can be left, and each row that can come.
+///
+/// # Errors
+///
+/// `NotThere` if the board lacks the line that is asked for; `NoMemory` if memory was refused;
+/// nothing is printed then. `Write` if a write or a flush of `out` failed.
 pub fn explore_survey<O: Sink>(
     alloc: Global,
     board: &Board,
     states: u32,
     asked: Option<LineNo>,
     out: &mut O,
-) -> ExploreEnd
+) -> Result<Explored, ExploreFailed>
     requires { IsCount states }
     ensures explores { ExploresLines board.now states asked (O.written out.old)
         (O.written out.new) result }
@@ -130,15 +131,11 @@ pub fn explore_survey<O: Sink>(
     ensures silent { is_printing result ≡ false → out.new ≡ out.old }
 {
     if !has_asked(board, asked) {
-        return ExploreEnd::NotThere;
+        return Err(ExploreFailed::NotThere);
     }
-    let Ok((_, layout)) = lay(alloc, board) else {
-        return ExploreEnd::NoMemory;
-    };
-    match survey_lines(alloc, board, &layout, asked, states) {
-        Ok(surveys) => say_surveys(board, states, asked, &layout, surveys.as_slice(), out),
-        Err(NoMemory) => ExploreEnd::NoMemory,
-    }
+    let (_, layout) = lay(alloc, board)?;
+    let surveys = survey_lines(alloc, board, &layout, asked, states)?;
+    say_surveys(board, states, asked, &layout, surveys.as_slice(), out)
 }
 
 /// Whether the board has the line that is asked for.
@@ -159,7 +156,7 @@ fn say_surveys<O: Sink>(
     layout: &Layout,
     surveys: &[LineSurvey],
     out: &mut O,
-) -> ExploreEnd
+) -> Result<Explored, ExploreFailed>
     requires there { has_asked board.now asked ≡ true }
     requires layout { layout.now ≡ layout_of board.now }
     requires surveys { AreSurveys board.now states asked surveys.now }
@@ -170,20 +167,18 @@ fn say_surveys<O: Sink>(
     ensures write_fault { Counts (O.faults out.old) (O.faults out.new) (is_write_fault result) }
     ensures printing { is_printing result ≡ true }
 {
-    match print_surveys(out, board, layout, surveys) {
-        WriteEnd::Done => end_of_surveys(surveys),
-        WriteEnd::Failed => ExploreEnd::WriteFault,
-    }
+    print_surveys(out, board, layout, surveys)?;
+    Ok(found_in(surveys))
 }
 
-/// How the surveying ended whose surveys are printed.
-fn end_of_surveys(surveys: &[LineSurvey]) -> ExploreEnd
-    ensures { result ≡ end_by (first_cut surveys.now) }
+/// What was found with these surveys.
+fn found_in(surveys: &[LineSurvey]) -> Explored
+    ensures { result ≡ found_in (first_cut surveys.now) }
 {
     for survey in surveys {
         if survey.survey.cut.is_some() {
-            return ExploreEnd::Cut(survey.line);
+            return Explored::Cut(survey.line);
         }
     }
-    ExploreEnd::Done
+    Explored::Done
 }

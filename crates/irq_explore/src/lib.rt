@@ -15,5 +15,6 @@ mod small;
 mod survey_printing;
 pub mod surveying;
 
-pub use exploring::{ExploreEnd, explore_row, explore_survey};
+pub use explore_picks::ExploreFailed;
+pub use exploring::{Explored, explore_row, explore_survey};
 pub use playing::explore_play;

@@ -4,20 +4,20 @@ ghost use Rattle.callbacks.specs.Heard.{Heard};
 ghost use Rattle.explore_words.specs.Words.{IsCount};
 ghost use Rattle.irq_explore.specs.Answered.{Answered};
 ghost use Rattle.irq_explore.specs.Explored.{is_printed, is_printing, is_write_fault};
-ghost use Rattle.irq_explore.specs.Played.{ExploresPlay, end_of_play};
+ghost use Rattle.irq_explore.specs.Played.{ExploresPlay, found_by_play};
 ghost use Rattle.irq_explore.specs.Present.{has_all};
 ghost use Rattle.irq_explore.specs.Printing.{IsPrintableAnswer};
 ghost use Rattle.irq_io.specs.Faults.{Counts};
 
 use crate::answering::answer_at;
-use crate::exploring::{ExploreEnd, end_of};
+use crate::exploring::{Explored, found_by};
 use crate::present::has_named;
 use crate::printing::print_answer;
 use board_def::Board;
 use callbacks::Handler;
-use explore_picks::{PlayToEnd, play_to_and_print};
-use irq_base::{LineNo, NoMemory};
-use irq_io::{Sink, WriteEnd};
+use explore_picks::{ExploreFailed, play_to_and_print};
+use irq_base::LineNo;
+use irq_io::Sink;
 use line_makers::MakesDomainLine;
 use line_survey::Answer;
 use line_wanted::Wanted;
@@ -28,6 +28,11 @@ use std::alloc::Global;
 /// prints a play of the board whose part on the line it is, and the picks that make the play. The
 /// maker makes the lines that are played; these handlers are called for the runs that the play
 /// ends.
+///
+/// # Errors
+///
+/// `NotThere` if the board lacks the line or what is wanted names; `NoMemory` if memory was
+/// refused; nothing is printed then. `Write` if a write or a flush of `out` failed.
 pub fn explore_play<M: MakesDomainLine, H: Handler, O: Sink>(
     alloc: Global,
     board: &Board,
@@ -37,7 +42,7 @@ pub fn explore_play<M: MakesDomainLine, H: Handler, O: Sink>(
     maker: &M,
     handlers: &mut H,
     out: &mut O,
-) -> ExploreEnd
+) -> Result<Explored, ExploreFailed>
     requires { IsCount states }
     ensures explores { ExploresPlay states board.now line wanted
         (λ runs. Heard H.hears runs handlers.old handlers.new) (O.written out.old)
@@ -47,18 +52,16 @@ pub fn explore_play<M: MakesDomainLine, H: Handler, O: Sink>(
     ensures silent { is_printing result ≡ false → out.new ≡ out.old }
 {
     let Some(place) = place_of(board, line) else {
-        return ExploreEnd::NotThere;
+        return Err(ExploreFailed::NotThere);
     };
     if !has_named(board, line, wanted) {
-        return ExploreEnd::NotThere;
+        return Err(ExploreFailed::NotThere);
     }
     board.is_board();
-    match answer_at(alloc, board, place, wanted, states) {
-        Ok(answer) => say_play(
-            alloc, board, states, line, wanted, &answer, maker, handlers, out,
-        ),
-        Err(NoMemory) => ExploreEnd::NoMemory,
-    }
+    let answer = answer_at(alloc, board, place, wanted, states)?;
+    say_play(
+        alloc, board, states, line, wanted, &answer, maker, handlers, out,
+    )
 }
 
 /// Prints a play that comes to the log that was found; or that there is none. The search went
@@ -73,7 +76,7 @@ fn say_play<M: MakesDomainLine, H: Handler, O: Sink>(
     maker: &M,
     handlers: &mut H,
     out: &mut O,
-) -> ExploreEnd
+) -> Result<Explored, ExploreFailed>
     requires there { has_all board.now line wanted ≡ true }
     requires answered { Answered states board.now line wanted answer.now }
     requires rows { IsPrintableAnswer answer.now }
@@ -88,23 +91,19 @@ fn say_play<M: MakesDomainLine, H: Handler, O: Sink>(
     match answer {
         Answer::Found(log) => {
             let log = log.as_slice();
-            end_of_play(play_to_and_print(alloc, board, line, log, maker, handlers, out))
+            let found = play_to_and_print(alloc, board, line, log, maker, handlers, out)?;
+            Ok(found_by_play(found))
         }
-        Answer::Never | Answer::NotWithin(_) => match print_answer(out, line, answer) {
-            WriteEnd::Done => end_of(line, answer),
-            WriteEnd::Failed => ExploreEnd::WriteFault,
-        },
+        Answer::Never | Answer::NotWithin(_) => {
+            print_answer(out, line, answer)?;
+            Ok(found_by(line, answer))
+        }
     }
 }
 
-/// How the exploring ended, by how the play and its printing did.
-fn end_of_play(end: PlayToEnd) -> ExploreEnd
-    ensures { result ≡ end_of_play end }
+/// What was found of a log, by whether a play was.
+fn found_by_play(found: bool) -> Explored
+    ensures { result ≡ found_by_play found }
 {
-    match end {
-        PlayToEnd::Done => ExploreEnd::Done,
-        PlayToEnd::NoneFound => ExploreEnd::NoPlay,
-        PlayToEnd::WriteFault => ExploreEnd::WriteFault,
-        PlayToEnd::NoMemory => ExploreEnd::NoMemory,
-    }
+    if found { Explored::Done } else { Explored::NoPlay }
 }

@@ -9,13 +9,13 @@ ghost use Rattle.log_text.specs.Rows.{history_text};
 
 use board_report::hand_on;
 use irq_base::{Entry, LineNo};
-use irq_io::{Sink, WriteEnd, write_all};
+use irq_io::{Sink, WriteFailed, write_all};
 use kept_rows::KeptRows;
 use line_survey::Answer;
 use text_row::TextRow;
 
 /// Prints the rows of the line's entries, the oldest first.
-fn print_log<O: Sink>(out: &mut O, line: LineNo, entries: &[Entry]) -> WriteEnd
+fn print_log<O: Sink>(out: &mut O, line: LineNo, entries: &[Entry]) -> Result<(), WriteFailed>
     requires { All IsPrintable entries.now }
     ensures content { WritesAll (O.written out.old) (O.written out.new)
         (history_text line entries.now) result }
@@ -24,16 +24,13 @@ fn print_log<O: Sink>(out: &mut O, line: LineNo, entries: &[Entry]) -> WriteEnd
     let mut rows = KeptRows::new();
     for i in 0..entries.len() {
         let entry = entries[i];
-        match write_all(out, rows.row_of(line, &entry)) {
-            WriteEnd::Done => {}
-            WriteEnd::Failed => return WriteEnd::Failed,
-        }
+        write_all(out, rows.row_of(line, &entry))?;
     }
-    WriteEnd::Done
+    Ok(())
 }
 
 /// Prints that no log of at most `n` entries is as wanted.
-fn print_not_within<O: Sink>(out: &mut O, n: u32) -> WriteEnd
+fn print_not_within<O: Sink>(out: &mut O, n: u32) -> Result<(), WriteFailed>
     ensures content { WritesAll (O.written out.old) (O.written out.new)
         (codes "not within " ++ decimal n ++ codes "\n") result }
     ensures cause { Counts (O.faults out.old) (O.faults out.new) (writing_failed result) }
@@ -46,7 +43,7 @@ fn print_not_within<O: Sink>(out: &mut O, n: u32) -> WriteEnd
 }
 
 /// Prints the answer.
-fn print_rows<O: Sink>(out: &mut O, line: LineNo, answer: &Answer) -> WriteEnd
+fn print_rows<O: Sink>(out: &mut O, line: LineNo, answer: &Answer) -> Result<(), WriteFailed>
     requires { IsPrintableAnswer answer.now }
     ensures content { WritesAll (O.written out.old) (O.written out.new)
         (answer_text line answer.now) result }
@@ -60,15 +57,17 @@ fn print_rows<O: Sink>(out: &mut O, line: LineNo, answer: &Answer) -> WriteEnd
 }
 
 /// Prints the answer, and hands it on.
-pub(crate) fn print_answer<O: Sink>(out: &mut O, line: LineNo, answer: &Answer) -> WriteEnd
+pub(crate) fn print_answer<O: Sink>(
+    out: &mut O,
+    line: LineNo,
+    answer: &Answer,
+) -> Result<(), WriteFailed>
     requires { IsPrintableAnswer answer.now }
     ensures content { WritesAll (O.written out.old) (O.written out.new)
         (answer_text line answer.now) result }
     ensures emptied { KeepsNone (O.kept out.new) result }
     ensures cause { Counts (O.faults out.old) (O.faults out.new) (writing_failed result) }
 {
-    match print_rows(out, line, answer) {
-        WriteEnd::Done => hand_on(out),
-        WriteEnd::Failed => WriteEnd::Failed,
-    }
+    print_rows(out, line, answer)?;
+    hand_on(out)
 }

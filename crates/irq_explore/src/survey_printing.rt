@@ -9,12 +9,16 @@ ghost use Rattle.irq_io.specs.Whole.{KeepsNone, WritesAll, writing_failed};
 use crate::surveying::LineSurvey;
 use board_def::{Board, Layout};
 use board_report::{hand_on, print_layout};
-use irq_io::{Sink, WriteEnd};
+use irq_io::{Sink, WriteFailed};
 use survey_rows::print_survey;
 use text_row::TextRow;
 
 /// Prints the survey.
-fn print_line<O: Sink>(out: &mut O, row: &mut TextRow, survey: &LineSurvey) -> WriteEnd
+fn print_line<O: Sink>(
+    out: &mut O,
+    row: &mut TextRow,
+    survey: &LineSurvey,
+) -> Result<(), WriteFailed>
     requires { HasRows survey.now }
     ensures content { WritesAll (O.written out.old) (O.written out.new) (line_text survey.now)
         result }
@@ -24,19 +28,20 @@ fn print_line<O: Sink>(out: &mut O, row: &mut TextRow, survey: &LineSurvey) -> W
 }
 
 /// Prints the surveys.
-fn print_lines<O: Sink>(out: &mut O, row: &mut TextRow, surveys: &[LineSurvey]) -> WriteEnd
+fn print_lines<O: Sink>(
+    out: &mut O,
+    row: &mut TextRow,
+    surveys: &[LineSurvey],
+) -> Result<(), WriteFailed>
     requires { All HasRows surveys.now }
     ensures content { WritesAll (O.written out.old) (O.written out.new)
         (flat_map line_text surveys.now) result }
     ensures cause { Counts (O.faults out.old) (O.faults out.new) (writing_failed result) }
 {
     for i in 0..surveys.len() {
-        match print_line(out, row, &surveys[i]) {
-            WriteEnd::Done => {}
-            WriteEnd::Failed => return WriteEnd::Failed,
-        }
+        print_line(out, row, &surveys[i])?;
     }
-    WriteEnd::Done
+    Ok(())
 }
 
 /// Prints the layout, and the surveys behind it.
@@ -45,7 +50,7 @@ fn print_all<O: Sink>(
     board: &Board,
     layout: &Layout,
     surveys: &[LineSurvey],
-) -> WriteEnd
+) -> Result<(), WriteFailed>
     requires layout { layout.now ≡ layout_of board.now }
     requires rows { All HasRows surveys.now }
     ensures content { WritesAll (O.written out.old) (O.written out.new)
@@ -53,10 +58,8 @@ fn print_all<O: Sink>(
     ensures cause { Counts (O.faults out.old) (O.faults out.new) (writing_failed result) }
 {
     let mut row = TextRow::new();
-    match print_layout(out, &mut row, board, layout) {
-        WriteEnd::Done => print_lines(out, &mut row, surveys),
-        WriteEnd::Failed => WriteEnd::Failed,
-    }
+    print_layout(out, &mut row, board, layout)?;
+    print_lines(out, &mut row, surveys)
 }
 
 /// Prints the layout, and the surveys behind it, and hands them on.
@@ -65,7 +68,7 @@ pub(crate) fn print_surveys<O: Sink>(
     board: &Board,
     layout: &Layout,
     surveys: &[LineSurvey],
-) -> WriteEnd
+) -> Result<(), WriteFailed>
     requires layout { layout.now ≡ layout_of board.now }
     requires rows { All HasRows surveys.now }
     ensures content { WritesAll (O.written out.old) (O.written out.new)
@@ -73,8 +76,6 @@ pub(crate) fn print_surveys<O: Sink>(
     ensures emptied { KeepsNone (O.kept out.new) result }
     ensures cause { Counts (O.faults out.old) (O.faults out.new) (writing_failed result) }
 {
-    match print_all(out, board, layout, surveys) {
-        WriteEnd::Done => hand_on(out),
-        WriteEnd::Failed => WriteEnd::Failed,
-    }
+    print_all(out, board, layout, surveys)?;
+    hand_on(out)
 }

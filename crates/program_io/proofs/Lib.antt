@@ -1,1 +1,2 @@
 mod Stated
+mod Telling

@@ -5,14 +5,20 @@ use Rattle.std.proofs.Common.{Err, List, [], take, length, refl, sym, ap, ◌∙
 use Rattle.std.proofs.lemmas.List.{take_all, drop_all}
 use Rattle.std.proofs.lemmas.Bool.{ltb-true}
 use Rattle.std.proofs.lemmas.Bool.Decides.{nat_tests}
-use Rattle.irq_io.specs.Whole.{TakesUpTo}
+use Rattle.irq_io.specs.Whole.{TakesUpTo, met_fault}
+use Rattle.irq_io.specs.declared.whole.ReadRefused.{ReadRefused}
+use Rattle.irq_io.specs.declared.whole.ReadRefused.TheVariants as reads
 use Rattle.board_def.specs.Seen.{BoardSeen}
 use Rattle.board_words.specs.declared.faults.FaultKind.TheVariants as faults
 use Rattle.board_words.specs.TextLines.{text_lines}
 use Rattle.board_stated.specs.TextOf.{board_of_text, board_unless, fault_of_lines, with_lines, whole, longest_text}
 use Rattle.board_words.specs.declared.faults.BoardFault.{BoardFault}
 use Rattle.program_io.specs.declared.inputs.InputRefused.TheVariants as refusals
-use Rattle.program_io.specs.Reading.{IsStated, ReadsBoard}
+use Rattle.board_text.specs.Given.{Gives}
+use Rattle.board_text.specs.declared.reading.BoardRefused.{BoardRefused}
+use Rattle.board_text.specs.declared.reading.BoardRefused.TheVariants as boards
+use Rattle.program_io.specs.Reading.{IsStated, ReadsBoard, is_read_fault}
+use Rattle.program_io.specs.Refusals.{refusal_of_board, refusal_of_read}
 
 first_of : {A : Type 0} (b : Bool) (x y : A) → b ≡ true → cond b x y ≡ x
 first_of true x y h = refl
@@ -75,3 +81,28 @@ pub stated : (before now : Option (List ℕ)) (text : List ℕ) (b : BoardSeen)
     → TakesUpTo (longest_text + 1) before now text → board_of_text text ≡ Ok b → IsStated before b
 stated None now text b read states = record { text = text; as_told = tt; states = states }
 stated (Some bytes) now text b read states = record { text = bytes; as_told = refl; states = sym (cut_states bytes) ∙ (ap board_of_text (sym read.0) ∙ states) }
+
+-- ---- what was refused
+
+-- the bytes were
+pub unread : (before now : Option (List ℕ)) (refused : ReadRefused) → ReadsBoard before now (Err (refusal_of_read refused))
+unread None now reads.Fault = tt
+unread None now reads.NoMemory = tt
+unread (Some bytes) now reads.Fault = tt
+unread (Some bytes) now reads.NoMemory = tt
+
+pub unread_fault : (T : Type 0) (refused : ReadRefused) → met_fault {T = T} (Err refused) ≡ is_read_fault (Err (refusal_of_read refused))
+unread_fault T reads.Fault = refl
+unread_fault T reads.NoMemory = refl
+
+-- the board was
+pub unstated : (before now : Option (List ℕ)) (text : List ℕ) (refusal : BoardRefused)
+    → TakesUpTo (longest_text + 1) before now text → length text ≤ longest_text + 1 → Gives (board_of_text text) (Err refusal)
+    → ReadsBoard before now (Err (refusal_of_board refusal))
+unstated before now text (boards.Fault fault) read within gives = refused before now text fault read within gives
+unstated None now text boards.NoMemory read within gives = tt
+unstated (Some bytes) now text boards.NoMemory read within gives = tt
+
+pub unstated_fault : (refusal : BoardRefused) → is_read_fault (Err (refusal_of_board refusal)) ≡ false
+unstated_fault (boards.Fault fault) = refl
+unstated_fault boards.NoMemory = refl

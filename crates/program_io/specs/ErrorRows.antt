@@ -1,9 +1,9 @@
 -- Rows on an error sink.
-use Rattle.std.specs.Prelude.{◌≡◌, ℕ, Option, List, ◌++◌, codes, decimal}
+use Rattle.std.specs.Prelude.{ℕ, Option, Result, List, ◌++◌, codes, decimal}
 use Rattle.irq_base.specs.declared.numbers.LineNo.{LineNo}
 use Rattle.irq_io.specs.Faults.{Counts}
 use Rattle.irq_io.specs.Whole.{KeepsNone, WritesAll, writing_failed}
-use Rattle.irq_io.specs.declared.whole.WriteEnd.{WriteEnd}
+use Rattle.irq_io.specs.declared.whole.WriteFailed.{WriteFailed}
 use Rattle.board_words.specs.FaultTexts.{fault_text}
 use Rattle.board_words.specs.declared.faults.BoardFault.{BoardFault}
 
@@ -21,7 +21,7 @@ full_row line len =
 -- a beginning of the row.
 pub record Tells (row : List ℕ) (written_before written_now : Option (List ℕ)) (kept_now : List ℕ)
     (faults_before faults_now : ℕ) : Type 0 where
-  pub end : WriteEnd
+  pub end : Result Unit WriteFailed
   pub content : WritesAll written_before written_now row end
   pub emptied : KeepsNone kept_now end
   pub cause : Counts faults_before faults_now (writing_failed end)

@@ -4,7 +4,7 @@ ghost use Rattle.program_io.specs.ErrorRows.{Tells, fault_row, full_row};
 
 use board_text::BoardFault;
 use irq_base::LineNo;
-use irq_io::{Sink, WriteEnd, write_all};
+use irq_io::{Sink, write_all};
 use text_row::TextRow;
 
 /// Adds a fault of an input.
@@ -36,7 +36,7 @@ pub fn tell_row<E: Sink>(err: &mut E, row: &[u8])
     ensures { Tells row.now (E.written err.old) (E.written err.new) (E.kept err.new)
         (E.faults err.old) (E.faults err.new) }
 {
-    if let WriteEnd::Done = write_all(err, row) {
+    if let Ok(()) = write_all(err, row) {
         let _ = err.flush();
     }
 }

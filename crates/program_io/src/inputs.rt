@@ -23,6 +23,34 @@ pub enum InputRefused {
     NoMemory,
 }
 
+impl From<ReadRefused> for InputRefused {
+    ghost use Rattle.std.specs.Prelude.{◌≡◌};
+    ghost use Rattle.program_io.specs.Refusals.{refusal_of_read};
+
+    ghost from_gives = { λ refused refusal. refusal ≡ refusal_of_read refused };
+
+    fn from(refused: ReadRefused) -> InputRefused {
+        match refused {
+            ReadRefused::Fault => InputRefused::ReadFault,
+            ReadRefused::NoMemory => InputRefused::NoMemory,
+        }
+    }
+}
+
+impl From<BoardRefused> for InputRefused {
+    ghost use Rattle.std.specs.Prelude.{◌≡◌};
+    ghost use Rattle.program_io.specs.Refusals.{refusal_of_board};
+
+    ghost from_gives = { λ refused refusal. refusal ≡ refusal_of_board refused };
+
+    fn from(refused: BoardRefused) -> InputRefused {
+        match refused {
+            BoardRefused::Fault(fault) => InputRefused::Fault(fault),
+            BoardRefused::NoMemory => InputRefused::NoMemory,
+        }
+    }
+}
+
 /// Reads the source to its end, or one byte past the longest text, and gives the board that the
 /// bytes state.
 ///
@@ -35,14 +63,7 @@ pub fn read_input<S: Source>(alloc: Global, src: &mut S) -> Result<Board, InputR
     ensures stated { IfOk result (λ board. IsStated (S.left src.old) board) }
     ensures cause { Counts (S.faults src.old) (S.faults src.new) (is_read_fault result) }
 {
-    let bytes = match read_up_to(alloc, src, LONGEST_TEXT + 1) {
-        Ok(bytes) => bytes,
-        Err(ReadRefused::Fault) => return Err(InputRefused::ReadFault),
-        Err(ReadRefused::NoMemory) => return Err(InputRefused::NoMemory),
-    };
-    match read_board(alloc, bytes.as_slice()) {
-        Ok(board) => Ok(board),
-        Err(BoardRefused::Fault(fault)) => Err(InputRefused::Fault(fault)),
-        Err(BoardRefused::NoMemory) => Err(InputRefused::NoMemory),
-    }
+    let bytes = read_up_to(alloc, src, LONGEST_TEXT + 1)?;
+    let board = read_board(alloc, bytes.as_slice())?;
+    Ok(board)
 }

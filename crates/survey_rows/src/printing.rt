@@ -8,29 +8,36 @@ ghost use Rattle.survey_rows.specs.Texts.{HasRow, came_text, rest_text, survey_t
 
 use crate::rows::{rest_row, totals_row};
 use irq_base::LineNo;
-use irq_io::{Sink, WriteEnd, write_all};
+use irq_io::{Sink, WriteFailed, write_all};
 use line_survey::{EntryRow, RestRow, Survey};
 use log_text::entry_row;
 use text_row::TextRow;
 
 /// Prints the rows of the ways in which the line can be left.
-fn print_rests<O: Sink>(out: &mut O, row: &mut TextRow, line: LineNo, rests: &[RestRow]) -> WriteEnd
+fn print_rests<O: Sink>(
+    out: &mut O,
+    row: &mut TextRow,
+    line: LineNo,
+    rests: &[RestRow],
+) -> Result<(), WriteFailed>
     ensures content { WritesAll (O.written out.old) (O.written out.new)
         (flat_map (rest_text line) rests.now) result }
     ensures cause { Counts (O.faults out.old) (O.faults out.new) (writing_failed result) }
 {
     for i in 0..rests.len() {
         rest_row(row, line, rests[i]);
-        match write_all(out, row.bytes()) {
-            WriteEnd::Done => {}
-            WriteEnd::Failed => return WriteEnd::Failed,
-        }
+        write_all(out, row.bytes())?;
     }
-    WriteEnd::Done
+    Ok(())
 }
 
 /// Prints a row that can come, with the length of a shortest log in front.
-fn print_came<O: Sink>(out: &mut O, row: &mut TextRow, line: LineNo, came: EntryRow) -> WriteEnd
+fn print_came<O: Sink>(
+    out: &mut O,
+    row: &mut TextRow,
+    line: LineNo,
+    came: EntryRow,
+) -> Result<(), WriteFailed>
     requires { HasRow came }
     ensures content { WritesAll (O.written out.old) (O.written out.new) (came_text line came)
         result }
@@ -39,28 +46,27 @@ fn print_came<O: Sink>(out: &mut O, row: &mut TextRow, line: LineNo, came: Entry
     row.clear();
     row.push_number(came.len);
     row.push(b' ');
-    match write_all(out, row.bytes()) {
-        WriteEnd::Done => {}
-        WriteEnd::Failed => return WriteEnd::Failed,
-    }
+    write_all(out, row.bytes())?;
     entry_row(row, line, &came.entry);
     write_all(out, row.bytes())
 }
 
 /// Prints the rows that can come.
-fn print_rows<O: Sink>(out: &mut O, row: &mut TextRow, line: LineNo, rows: &[EntryRow]) -> WriteEnd
+fn print_rows<O: Sink>(
+    out: &mut O,
+    row: &mut TextRow,
+    line: LineNo,
+    rows: &[EntryRow],
+) -> Result<(), WriteFailed>
     requires { All HasRow rows.now }
     ensures content { WritesAll (O.written out.old) (O.written out.new)
         (flat_map (came_text line) rows.now) result }
     ensures cause { Counts (O.faults out.old) (O.faults out.new) (writing_failed result) }
 {
     for i in 0..rows.len() {
-        match print_came(out, row, line, rows[i]) {
-            WriteEnd::Done => {}
-            WriteEnd::Failed => return WriteEnd::Failed,
-        }
+        print_came(out, row, line, rows[i])?;
     }
-    WriteEnd::Done
+    Ok(())
 }
 
 /// Prints a line's survey; `row` is lent for the rows.
@@ -69,19 +75,14 @@ pub fn print_survey<O: Sink>(
     row: &mut TextRow,
     line: LineNo,
     survey: &Survey,
-) -> WriteEnd
+) -> Result<(), WriteFailed>
     requires { All HasRow survey.now.rows.items }
     ensures content { WritesAll (O.written out.old) (O.written out.new)
         (survey_text line survey.now) result }
     ensures cause { Counts (O.faults out.old) (O.faults out.new) (writing_failed result) }
 {
     totals_row(row, line, survey);
-    match write_all(out, row.bytes()) {
-        WriteEnd::Done => {}
-        WriteEnd::Failed => return WriteEnd::Failed,
-    }
-    match print_rests(out, row, line, survey.rests.as_slice()) {
-        WriteEnd::Done => print_rows(out, row, line, survey.rows.as_slice()),
-        WriteEnd::Failed => WriteEnd::Failed,
-    }
+    write_all(out, row.bytes())?;
+    print_rests(out, row, line, survey.rests.as_slice())?;
+    print_rows(out, row, line, survey.rows.as_slice())
 }

@@ -1,7 +1,6 @@
-use Rattle.std.proofs.Common.{◌≡◌, ◌≤◌, List, length, reverse, subst}
+use Rattle.std.proofs.Common.{◌≡◌, ◌≤◌, List, length, reverse, subst, Ok, Err}
 use Rattle.std.specs.Prelude.{All}
 use Rattle.irq_base.specs.declared.devices.Run.{Run}
-use Rattle.irq_io.specs.declared.whole.WriteEnd.TheVariants as writes
 use Rattle.board_core.specs.Runs.{runs_of}
 use Rattle.board_play.specs.Lines.{Move}
 use Rattle.callbacks.specs.Heard.{Heard}
@@ -28,7 +27,7 @@ returns-in-Done-clause-plays g c =
     prints p.system b c.is_board.ensures.board c.args.line c.args.wanted.now p.picks.items
     (some_is (λ p. p.system.board ≡ b) c.in-Ok-Some.field-0 p is e.board)
     (some_is (λ p. IsMade p.system p.picks.items c.args.line c.args.wanted.now) c.in-Ok-Some.field-0 p is e.made)
-    heard (g.O.Sink.written c.args.out.now) (g.O.Sink.written c.print_made.new.out) writes.Done
+    heard (g.O.Sink.written c.args.out.now) (g.O.Sink.written c.print_made.new.out) (Ok tt)
     (some_is (λ p. length p.picks.items ≤ 65536) c.in-Ok-Some.field-0 p is e.few)
     (subst (λ (h : List Move). All HasSmallMove h) c.moves.ensures c.are_small.ensures)
     (some_is (λ p. heard (runs_of b (reverse p.system.log))) c.in-Ok-Some.field-0 p is e.heard)
@@ -44,7 +43,7 @@ returns-in-Ok-Some-clause-plays g c =
     prints p.system b c.is_board.ensures.board c.args.line c.args.wanted.now p.picks.items
     (some_is (λ p. p.system.board ≡ b) c.in-Ok-Some.field-0 p is e.board)
     (some_is (λ p. IsMade p.system p.picks.items c.args.line c.args.wanted.now) c.in-Ok-Some.field-0 p is e.made)
-    heard (g.O.Sink.written c.args.out.now) (g.O.Sink.written c.print_made.new.out) writes.Failed
+    heard (g.O.Sink.written c.args.out.now) (g.O.Sink.written c.print_made.new.out) (Err failed)
     (some_is (λ p. length p.picks.items ≤ 65536) c.in-Ok-Some.field-0 p is e.few)
     (subst (λ (h : List Move). All HasSmallMove h) c.moves.ensures c.are_small.ensures)
     (some_is (λ p. heard (runs_of b (reverse p.system.log))) c.in-Ok-Some.field-0 p is e.heard)

@@ -1,7 +1,7 @@
 use Rattle.std.proofs.Common.{Option, ap, sym, ◌∙◌}
 use Rattle.irq_base.specs.declared.numbers.LineNo.{LineNo}
 use Rattle.irq_explore.specs.Surveyed.{has_asked}
-use Rattle.irq_explore.proofs.Spoken.{is_there}
+use Rattle.irq_explore.proofs.Said.{is_there}
 use Rattle.irq_explore.proofs.exploring.has_asked.Goals as goal
 
 pub returns-in-Some : goal.returns-in-Some

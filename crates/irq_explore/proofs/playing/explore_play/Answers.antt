@@ -9,4 +9,4 @@ say_play-requires-clause-there g c =
 pub say_play-requires-clause-answered : goal.say_play-requires-clause-answered
 say_play-requires-clause-answered g c =
     answered_line c.args.board.now c.is_board.ensures.board c.args.line c.in-Some.place c.in-Some.ensures c.args.states c.args.wanted
-    c.in-Ok.answer c.in-Ok.ensures.answered
+    c.in_ok-answer.answer c.in_ok-answer.ensures.answered

@@ -1,12 +1,11 @@
-use Rattle.std.proofs.Common.{◌≡◌, take}
+use Rattle.std.proofs.Common.{◌≡◌, take, Ok}
 use Rattle.std.specs.List.{flat_map}
 use Rattle.irq_io.specs.Whole.{WritesAll}
-use Rattle.irq_io.specs.declared.whole.WriteEnd.TheVariants as ends
 use Rattle.irq_explore.specs.Surveyed.{line_text}
 use Rattle.irq_explore.proofs.survey_printing.print_lines.Given as goal
 
 abbrev pub invariant-loop-i : goal.invariant-loop-i
 invariant-loop-i g l = record {
-  content : WritesAll (g.O.Sink.written l.fn.out) (g.O.Sink.written l.out) (flat_map line_text (take l.i l.surveys)) ends.Done;
+  content : WritesAll (g.O.Sink.written l.fn.out) (g.O.Sink.written l.out) (flat_map line_text (take l.i l.surveys)) (Ok tt);
   faults : g.O.Sink.faults l.out ≡ g.O.Sink.faults l.fn.out;
 }

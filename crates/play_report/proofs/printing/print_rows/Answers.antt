@@ -1,8 +1,8 @@
 use Rattle.std.proofs.Common.{All, ◌∙◌, subst, sym}
 use Rattle.std.specs.List.{flat_map}
 use Rattle.std.proofs.lemmas.List.Elements.{All-drop}
-use Rattle.play_report.specs.Rows.{HasRow}
-use Rattle.irq_play.proofs.RowByRow.{first_text, row_failed, row_printed}
+use Rattle.play_report.specs.Printing.{StepHasRow}
+use Rattle.play_report.proofs.RowByRow.{first_text, row_failed, row_printed}
 use Rattle.play_report.proofs.printing.print_rows.Goals as goal
 
 pub loop-step-preserved : goal.loop-step-preserved
@@ -18,7 +18,7 @@ loop-step-preserved g c =
           (flat_map rows.text (rows.left c.args.steps.now)) (flat_map rows.text left) row (flat_map rows.text after)
           (first_text rows.text left after c.in-Some.step row (sym c.in-Some.ensures.first) c.in-Some.ensures.rest c.row_of.ensures)
           c.loop-step.invariant.printing c.in-Done.ensures.content;
-      rows = subst (All (HasRow rows.told)) (sym c.in-Some.ensures.rest) (All-drop (HasRow rows.told) 1 left c.loop-step.invariant.rows);
+      rows = subst (All (StepHasRow rows.told)) (sym c.in-Some.ensures.rest) (All-drop (StepHasRow rows.told) 1 left c.loop-step.invariant.rows);
       faults = c.in-Done.ensures.cause ∙ c.loop-step.invariant.faults;
     }
 

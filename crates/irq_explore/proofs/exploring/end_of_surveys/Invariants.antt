@@ -1,6 +1,0 @@
-use Rattle.std.proofs.Common.{◌≡◌, drop}
-use Rattle.irq_explore.specs.Surveyed.{first_cut}
-use Rattle.irq_explore.proofs.exploring.end_of_surveys.Given as goal
-
-abbrev pub invariant-loop-survey : goal.invariant-loop-survey
-invariant-loop-survey l = first_cut l.surveys ≡ first_cut (drop l.survey-index l.surveys)

@@ -1,0 +1,1 @@
+use Rattle.irq_play.proofs.summary.report_summary.Goals as goal
