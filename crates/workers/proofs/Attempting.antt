@@ -6,7 +6,6 @@ use Rattle.irq_base.specs.declared.entries.Entry.{Entry}
 use Rattle.irq_base.specs.declared.lines.LineDef.{LineDef}
 use Rattle.irq_laws.proofs.Chosen.{the_same}
 use Rattle.irq_line.specs.declared.answers.StepRefused.{StepRefused}
-use Rattle.irq_line.specs.declared.answers.StepRefused.TheVariants as refusals
 use Rattle.line_lock.specs.Passes.{LockSeen, IsPassOf}
 use Rattle.line_lock.specs.declared.view.Known.{Known}
 use Rattle.workers.specs.Fit.{IsPost, ArePosted}

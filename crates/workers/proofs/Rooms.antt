@@ -1,6 +1,6 @@
 -- How much more the passes of jobs can see, and how many steps were made, after a try, an attempt and a shift.
 use Rattle.std.proofs.Common.{◌≡◌, ℕ, zero, suc, ◌<◌, ◌≤◌, IsSomeAnd, Option, Some, None, Result, Ok, Err, List, []}
-use Rattle.std.proofs.Common.{◌∷◌, length, get_or, set, slice_get, sym, ap, ◌∙◌, subst, arith, length-append}
+use Rattle.std.proofs.Common.{◌∷◌, length, get_or, set, slice_get, ap, ◌∙◌, subst, arith, length-append}
 use Rattle.workers.specs.declared.job.Work.{Work}
 use Rattle.workers.specs.declared.job.Work.TheVariants as works
 use Rattle.irq_base.specs.declared.entries.Entry.{Entry}
@@ -51,9 +51,9 @@ made_same (z ∷ zs) (suc k) y x at same = let l = made_same zs k y x at same in
 
 -- ---- one try
 
-pub room_after : (terms : Terms) (lines : List LockSeen) (place : ℕ) (attempt : Result (Option Entry) StepRefused)
-    (old new : JobSeen) → ArePosted lines old → StepsPost terms lines place attempt old new → RoomAfter attempt old new
-room_after terms lines place attempt old new posted s = by_tried attempt s.tries
+pub room_after : (terms : Terms) (lines : List LockSeen) (place : ℕ) (tried : Result (Option Entry) StepRefused)
+    (old new : JobSeen) → ArePosted lines old → StepsPost terms lines place tried old new → RoomAfter tried old new
+room_after terms lines place tried old new posted s = by_tried tried s.tries
   where
     posts_are : new.posts ≡ set old.posts place s.after
     posts_are = ap (λ (j : JobSeen). j.posts) s.is
@@ -112,34 +112,33 @@ pub stays : (old new : JobSeen) → new.posts ≡ old.posts → StaysSo old new
 stays old new same = (let e = ap room_of_posts same in omega (arith, e), ap made_by same)
 
 -- an attempt leaves no more room
-pub no_more_room : (attempt : Result (Option Entry) StepRefused) (old new : JobSeen) → RoomAfter attempt old new → room_of_posts new.posts ≤ room_of_posts old.posts
+pub no_more_room : (tried : Result (Option Entry) StepRefused) (old new : JobSeen) → RoomAfter tried old new → room_of_posts new.posts ≤ room_of_posts old.posts
 no_more_room (Ok (Some e)) old new r = let s = r.0 in omega (arith, s)
 no_more_room (Ok None) old new r = r.0
 no_more_room (Err refused) old new r = r.0
 
 -- after others that left no more room, and made no step
-pub room_from : (attempt : Result (Option Entry) StepRefused) (a b c : JobSeen) → StaysSo a b → RoomAfter attempt b c → RoomAfter attempt a c
+pub room_from : (tried : Result (Option Entry) StepRefused) (a b c : JobSeen) → StaysSo a b → RoomAfter tried b c → RoomAfter tried a c
 room_from (Ok (Some e)) a b c first r =
     let f = first.0 in let g = first.1 in let s = r.0 in let t = r.1 in (omega (arith, f, s), omega (arith, g, t))
 room_from (Ok None) a b c first r = let f = first.0 in let s = r.0 in (omega (arith, f, s), r.1 ∙ first.1)
 room_from (Err refused) a b c first r = let f = first.0 in let s = r.0 in (omega (arith, f, s), r.1 ∙ first.1)
 
-pub stays_first : (attempt : Result (Option Entry) StepRefused) (a b : JobSeen) → attempt ≡ Ok None → RoomAfter attempt a b → StaysSo a b
-stays_first attempt a b not r = subst (λ (t : Result (Option Entry) StepRefused). RoomAfter t a b) not r
+pub stays_first : (tried : Result (Option Entry) StepRefused) (a b : JobSeen) → tried ≡ Ok None → RoomAfter tried a b → StaysSo a b
+stays_first tried a b not r = subst (λ (t : Result (Option Entry) StepRefused). RoomAfter t a b) not r
 
-pub stays_on : (attempt : Result (Option Entry) StepRefused) (a b c : JobSeen) → attempt ≡ Ok None → StaysSo a b → RoomAfter attempt b c → StaysSo a c
-stays_on attempt a b c not first r = room_from (Ok None) a b c first (subst (λ (t : Result (Option Entry) StepRefused). RoomAfter t b c) not r)
+pub stays_on : (tried : Result (Option Entry) StepRefused) (a b c : JobSeen) → tried ≡ Ok None → StaysSo a b → RoomAfter tried b c → StaysSo a c
+stays_on tried a b c not first r = room_from (Ok None) a b c first (subst (λ (t : Result (Option Entry) StepRefused). RoomAfter t b c) not r)
 
 -- with the same passes there is the same room
-pub room_as : (attempt : Result (Option Entry) StepRefused) (old mid new : JobSeen) → new.posts ≡ mid.posts → RoomAfter attempt old mid → RoomAfter attempt old new
-room_as attempt old mid new same r = by_attempt attempt r
+pub room_as : (tried : Result (Option Entry) StepRefused) (old mid new : JobSeen) → new.posts ≡ mid.posts → RoomAfter tried old mid → RoomAfter tried old new
+room_as tried old mid new same r = by_attempt tried r
   where
     by_attempt : (t : Result (Option Entry) StepRefused) → RoomAfter t old mid → RoomAfter t old new
     by_attempt (Ok (Some e)) r = let e = ap room_of_posts same in let m = ap made_by same in
         let a = r.0 in let b = r.1 in (omega (arith, e, a), omega (arith, m, b))
     by_attempt (Ok None) r = let e = ap room_of_posts same in let a = r.0 in (omega (arith, e, a), ap made_by same ∙ r.1)
-    by_attempt (Err (refusals.Full line len)) r = let e = ap room_of_posts same in let a = r.0 in (omega (arith, e, a), ap made_by same ∙ r.1)
-    by_attempt (Err refusals.NoMemory) r = let e = ap room_of_posts same in let a = r.0 in (omega (arith, e, a), ap made_by same ∙ r.1)
+    by_attempt (Err refused) r = let e = ap room_of_posts same in let a = r.0 in (omega (arith, e, a), ap made_by same ∙ r.1)
 
 -- ---- a worker's part of a shift
 
@@ -147,9 +146,7 @@ pub room_after_part : (end : Result Work StepRefused) (old now new : JobSeen) �
 room_after_part (Ok works.Idle) old now new same r = let e = ap room_of_posts same in let a = r.0 in (omega (arith, e, a), ap made_by same ∙ r.1)
 room_after_part (Ok works.Busy) old now new same r = let e = ap room_of_posts same in let m = ap made_by same in
     let a = r.0 in let b = r.1 in (omega (arith, e, a), omega (arith, m, b))
-room_after_part (Err (refusals.Full line len)) old now new same r = let e = ap room_of_posts same in let m = ap made_by same in
-    let a = r.0 in let b = r.1 in (omega (arith, e, a), omega (arith, m, b))
-room_after_part (Err refusals.NoMemory) old now new same r = let e = ap room_of_posts same in let m = ap made_by same in
+room_after_part (Err refused) old now new same r = let e = ap room_of_posts same in let m = ap made_by same in
     let a = r.0 in let b = r.1 in (omega (arith, e, a), omega (arith, m, b))
 
 pub no_more_after_part : (end : Result Work StepRefused) (old new : JobSeen) → RoomAfterPart end old new → room_of_posts new.posts ≤ room_of_posts old.posts

@@ -33,8 +33,8 @@ use Rattle.workers.proofs.Lists.{within, there_or, two}
 use Rattle.workers.proofs.Rooms.{room_after, room_after_part, all_no_more, some_less}
 use Rattle.workers.specs.Terms.{Terms}
 
-comes : (terms : Terms) (board : BoardSeen) (j : JobSeen) (attempt : Result (Option Entry) StepRefused)
-    → (attempt ≡ Ok None → IsAtRest board j j.actor) → IfErr attempt (IsRefusedOn terms j) → ComesTo terms board j attempt
+comes : (terms : Terms) (board : BoardSeen) (j : JobSeen) (tried : Result (Option Entry) StepRefused)
+    → (tried ≡ Ok None → IsAtRest board j j.actor) → IfErr tried (IsRefusedOn terms j) → ComesTo terms board j tried
 comes terms board j (Ok (Some e)) rest refused = tt
 comes terms board j (Ok None) rest refused = rest refl
 comes terms board j (Err why) rest refused = refused
@@ -49,7 +49,7 @@ idle_of lines j posted i s at rests = by_line (slice_get lines (j.first + i)) (p
     by_line (Some l) is = subst (λ (d : LineDef). IsIdle d j.actor s.pass.knows) (sym is.of_line.1) (is.rests rests)
 
 module _ (terms : Terms) (board : BoardSeen) (lines : List LockSeen)
-    (attempt : Result (Option Entry) StepRefused) (old new : JobSeen) (job : IsJob board lines old) where
+    (tried : Result (Option Entry) StepRefused) (old new : JobSeen) (job : IsJob board lines old) where
   manned_as : (a : Actor) → old.actor ≡ a → IsManned board lines old a
   manned_as a is = subst (λ (b : Actor). IsManned board lines old b) is job.manned
 
@@ -68,7 +68,7 @@ module _ (terms : Terms) (board : BoardSeen) (lines : List LockSeen)
   }
 
   pub thread_attempted : (dev : DevNo) → old.actor ≡ actors.Thread dev
-      → StepsPost terms lines 0 attempt old new → AttemptsJob terms board lines attempt old new
+      → StepsPost terms lines 0 tried old new → AttemptsJob terms board lines tried old new
   thread_attempted dev is s =
       record {
         works = worked k (actors.Thread dev) is (
@@ -76,21 +76,21 @@ module _ (terms : Terms) (board : BoardSeen) (lines : List LockSeen)
               omega (arith, l, o),
           subst (λ (n : ℕ). IsPlaceOfDevice board lines dev n) (sym k.first) m.1,
         );
-        came = comes terms board new attempt rest (refused_is_so terms lines 0 attempt old new s);
-        room = room_after terms lines 0 attempt old new job.posted s;
+        came = comes terms board new tried rest (refused_is_so terms lines 0 tried old new s);
+        room = room_after terms lines 0 tried old new job.posted s;
       }
     where
       k : KeepsPosts terms lines old new
-      k = keeps_posts terms lines 0 attempt old new job.posted s
+      k = keeps_posts terms lines 0 tried old new job.posted s
 
       m : IsManned board lines old (actors.Thread dev)
       m = manned_as (actors.Thread dev) is
 
-      rest : attempt ≡ Ok None → IsAtRest board new new.actor
+      rest : tried ≡ Ok None → IsAtRest board new new.actor
       rest not = subst (λ (a : Actor). IsAtRest board new a) (sym (k.actor ∙ is)) each
         where
           each : (i : ℕ) (t : PostSeen) → slice_get new.posts i ≡ Some t → IsIdle t.pass.def (actors.Thread dev) t.pass.knows
-          each i t at = elim (post_now terms lines 0 attempt old new s i t at) [
+          each i t at = elim (post_now terms lines 0 tried old new s i t at) [
             | inl here ↦
                 subst (λ (a : Actor). IsIdle t.pass.def a t.pass.knows) (k.actor ∙ is)
                 (idle_of lines new k.posted i t at (ap (λ (x : PostSeen). x.rests) here.1
@@ -98,19 +98,19 @@ module _ (terms : Terms) (board : BoardSeen) (lines : List LockSeen)
             | inr other ↦ absurd (other.0 (let w = within new.posts i t at in let l = k.as_many in let o = m.0 in omega (arith, w, l, o)))
           ]
 
-  pub cpu_attempted : (c : CpuNo) → old.actor ≡ actors.Cpu c → AttemptsCpu terms lines attempt old new
-      → AttemptsJob terms board lines attempt old new
+  pub cpu_attempted : (c : CpuNo) → old.actor ≡ actors.Cpu c → AttemptsCpu terms lines tried old new
+      → AttemptsJob terms board lines tried old new
   cpu_attempted c is t =
       record {
         works = worked t.keeps (actors.Cpu c) is (t.keeps.first ∙ m.0, t.keeps.as_many ∙ m.1, t.flow, t.its);
-        came = comes terms board new attempt rest t.refused;
+        came = comes terms board new tried rest t.refused;
         room = t.room;
       }
     where
       m : IsManned board lines old (actors.Cpu c)
       m = manned_as (actors.Cpu c) is
 
-      rest : attempt ≡ Ok None → IsAtRest board new new.actor
+      rest : tried ≡ Ok None → IsAtRest board new new.actor
       rest not = subst (λ (a : Actor). IsAtRest board new a) (sym (t.keeps.actor ∙ is)) each
         where
           each : (i : ℕ) (s : PostSeen) → slice_get new.posts i ≡ Some s → IsIdle s.pass.def (actors.Cpu c) s.pass.knows
@@ -122,13 +122,13 @@ module _ (terms : Terms) (board : BoardSeen) (lines : List LockSeen)
       let m = manned_as (actors.Driver r) is in
       record { actor = is; posted = job.posted; first = m.0; as_many = m.1; up_to = m.2; within = m.3 }
 
-  pub job_driven : (r : DriverNo) → old.actor ≡ actors.Driver r → AttemptsDriver terms board lines r attempt old new
-      → AttemptsJob terms board lines attempt old new
+  pub job_driven : (r : DriverNo) → old.actor ≡ actors.Driver r → AttemptsDriver terms board lines r tried old new
+      → AttemptsJob terms board lines tried old new
   job_driven r is t =
       let m = manned_as (actors.Driver r) is in
       record {
         works = worked t.keeps (actors.Driver r) is (t.keeps.first ∙ m.0, t.keeps.as_many ∙ m.1, t.up_to, t.within);
-        came = comes terms board new attempt (λ not. subst (λ (a : Actor). IsAtRest board new a) (sym (t.keeps.actor ∙ is)) (t.rests not)) t.refused;
+        came = comes terms board new tried (λ not. subst (λ (a : Actor). IsAtRest board new a) (sym (t.keeps.actor ∙ is)) (t.rests not)) t.refused;
         room = t.room;
       }
 

@@ -199,10 +199,11 @@ pub(crate) fn worse(
 fn worse_refusal(first: StepRefused, second: StepRefused) -> StepRefused
     ensures { result ≡ worse_refusal first second }
 {
-    match (first, second) {
-        (StepRefused::Full { line: a, .. }, StepRefused::Full { line: b, .. }) if b.0 < a.0 =>
-            second,
-        (StepRefused::Full { .. }, _) => first,
-        (StepRefused::NoMemory, _) => second,
+    let StepRefused::Full { line: a, .. } = first else {
+        return second;
+    };
+    match second {
+        StepRefused::Full { line: b, .. } if b.0 < a.0 => second,
+        StepRefused::Full { .. } | StepRefused::NoMemory => first,
     }
 }

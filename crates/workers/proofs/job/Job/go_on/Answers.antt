@@ -1,7 +1,6 @@
 use Rattle.std.proofs.Common.{sym, ap, ◌∙◌, Result}
 use Rattle.irq_line.specs.declared.answers.StepRefused.{StepRefused}
 use Rattle.workers.specs.declared.job.Work.{Work}
-use Rattle.workers.specs.Shifts.{with_earlier}
 use Rattle.workers.specs.Seen.{JobSeen}
 use Rattle.workers.specs.Terms.{terms_of}
 use Rattle.workers.proofs.Sweeping.{goes_on}

@@ -1,4 +1,6 @@
-use Rattle.std.proofs.Common.{refl, arith}
+use Rattle.std.proofs.Common.{Option, Ok, refl, subst, arith}
+use Rattle.irq_base.specs.declared.entries.Entry.{Entry}
+use Rattle.workers.specs.Room.{RoomAfter}
 use Rattle.workers.proofs.Shifting.{works_first, works_more}
 use Rattle.workers.proofs.job.Job.make_attempts.Goals as goal
 
@@ -29,9 +31,10 @@ returns-in_err-attempt_at_gate-clause-works g c =
 
 pub loop-steps-preserved : goal.loop-steps-preserved
 loop-steps-preserved g c =
-    let moved = ? in
-    let room = c.in-Some.ensures.room.0 in
-    let made = c.in-Some.ensures.room.1 in
+    let moved = subst (λ (o : Option Entry). RoomAfter (Ok o) c.loop-steps.self c.attempt_at_gate.new.self) c.in-Some.is
+    c.in_ok-attempt_at_gate.ensures.room in
+    let room = moved.0 in
+    let made = moved.1 in
     let room_before = c.loop-steps.invariant.room in
     let made_before = c.loop-steps.invariant.made in
     record {

@@ -5,7 +5,7 @@ use Rattle.workers.specs.Seen.{JobSeen}
 use Rattle.workers.specs.Attempts.{StepsPost, StepsCpu, flow_after}
 use Rattle.workers.specs.Terms.{terms_of}
 use Rattle.workers.proofs.Flowing.{cpu_rests, cpu_moved}
-use Rattle.workers.proofs.Lists.{handed_on}
+use Rattle.workers.proofs.Handing.{handed_on}
 use Rattle.workers.proofs.job.Job.step_cpu.Goals as goal
 
 pub returns-in-Some : goal.returns-in-Some
