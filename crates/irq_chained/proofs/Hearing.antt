@@ -1,8 +1,8 @@
 -- The handlers were called for the runs that the steps of a demultiplexer ended.
 use Rattle.std.proofs.Common.{◌≡◌, Option, List, [], ◌∷◌, ◌++◌, reverse, refl, sym, ap, ◌∙◌, subst, Result, Ok, Err}
-use Rattle.irq_line.specs.declared.answers.StepRefused.{StepRefused}
 use Rattle.irq_base.specs.Cell.{Cell}
 use Rattle.irq_base.specs.declared.devices.Run.{Run}
+use Rattle.irq_line.specs.declared.answers.StepRefused.{StepRefused}
 use Rattle.callbacks.specs.Heard.{Heard}
 use Rattle.callbacks.proofs.Calls.{heard_more}
 use Rattle.board_def.specs.Seen.{BoardSeen}

@@ -4,13 +4,13 @@ use Rattle.std.proofs.Common.{Some, None, List, [], ◌∷◌, length, reverse, 
 use Rattle.std.proofs.Common.{arith, add-one}
 use Rattle.std.proofs.Math.Seq.{drop-cons}
 use Rattle.std.proofs.lemmas.List.{reverse-append}
-use Rattle.irq_line.specs.declared.answers.StepRefused.TheVariants as refusals
-use Rattle.irq_line.specs.declared.answers.StepRefused.{StepRefused}
 use Rattle.irq_base.specs.declared.entries.Actor.{Actor}
 use Rattle.irq_base.specs.declared.entries.Actor.TheVariants as actors
 use Rattle.irq_base.specs.declared.entries.Entry.{Entry}
 use Rattle.irq_base.specs.declared.numbers.CpuNo.{CpuNo}
 use Rattle.irq_base.specs.declared.numbers.LineNo.{LineNo}
+use Rattle.irq_line.specs.declared.answers.StepRefused.{StepRefused}
+use Rattle.irq_line.specs.declared.answers.StepRefused.TheVariants as refusals
 use Rattle.irq_laws.proofs.Chosen.{the_same}
 use Rattle.board_def.specs.Seen.{BoardSeen}
 use Rattle.board_play.specs.Lines.{BoardLine, Move, defs_of, find_line, lines_after, part}

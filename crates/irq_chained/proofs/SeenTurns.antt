@@ -2,11 +2,11 @@
 use Rattle.std.proofs.Common.{reverse, Result}
 use Rattle.std.proofs.Common.{◌≡◌, ℕ, ◌<◌, ◌≤◌, IsSome, IsTrue, Option, Some}
 use Rattle.std.proofs.Common.{None, List, length, slice_get, sym, subst}
-use Rattle.irq_line.specs.declared.answers.StepRefused.{StepRefused}
 use Rattle.irq_base.specs.Cell.{Cell, after_high}
 use Rattle.irq_base.specs.declared.entries.Actor.{Actor}
 use Rattle.irq_base.specs.declared.entries.Actor.TheVariants as actors
 use Rattle.irq_base.specs.declared.numbers.LineNo.{LineNo}
+use Rattle.irq_line.specs.declared.answers.StepRefused.{StepRefused}
 use Rattle.board_def.specs.Rules.{IsBoard}
 use Rattle.board_play.specs.Kept.{AreKept}
 use Rattle.board_play.specs.Lines.{find_line}
@@ -42,7 +42,8 @@ module _ {s : SystemSeen} (t : SystemSeen) {ms : List Mark} {walk : Option Walk}
 
   -- what the actor's turn keeps, and what it says if this is its answer
   abbrev pub Turned : Option Walk → Actor → Result Turn StepRefused → Type 0
-  Turned after a turn = IsDemux t ms after now × ((answer : Result ChainTurn StepRefused) → answer ≡ turn_of turn → TurnsBy view (next_of view a) answer (seen_of t ms now))
+  Turned after a turn = IsDemux t ms after now × ((answer : Result ChainTurn StepRefused) → answer ≡ turn_of turn
+      → TurnsBy view (next_of view a) answer (seen_of t ms now))
 
   turned : (after : Option Walk) (a : Actor) (turn : Result Turn StepRefused) → IsDemux t ms after now
       × TurnsBy (seen_of s ms parent) (next_of (seen_of s ms parent) a) (turn_of turn) (seen_of t ms now)

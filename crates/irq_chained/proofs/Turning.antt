@@ -5,14 +5,14 @@ use Rattle.std.proofs.Common.{eqb-true}
 use Rattle.std.proofs.lemmas.Nat.Bits.{bit_at-zero}
 use Rattle.std.proofs.lemmas.List.{length-map}
 use Rattle.std.proofs.lemmas.Option.{slice_get_within}
-use Rattle.irq_line.specs.declared.answers.StepRefused.TheVariants as refusals
-use Rattle.irq_line.specs.declared.answers.StepRefused.{StepRefused}
 use Rattle.irq_base.specs.Cell.{Cell, after_ack, after_high, after_mask, after_unmask, is_edge_cell}
 use Rattle.irq_base.specs.declared.entries.Actor.{Actor}
 use Rattle.irq_base.specs.declared.entries.Actor.TheVariants as actors
 use Rattle.irq_base.specs.declared.entries.Entry.{Entry}
 use Rattle.irq_base.specs.declared.lines.LineDef.{LineDef}
 use Rattle.irq_base.specs.declared.numbers.LineNo.{LineNo}
+use Rattle.irq_line.specs.declared.answers.StepRefused.{StepRefused}
+use Rattle.irq_line.specs.declared.answers.StepRefused.TheVariants as refusals
 use Rattle.irq_line.specs.Seen.{LineSeen}
 use Rattle.irq_model.specs.Kinds.{is_take}
 use Rattle.irq_model.specs.Next.{next_past}

@@ -1,14 +1,15 @@
 -- For which step of a demultiplexer memory was refused.
-use Rattle.std.proofs.Common.{◌≡◌, ℕ, ◌<◌, IsSome, IsTrue, is_some, Option, Some, None, List, [], ◌∷◌, length, reverse, slice_get, drop, get_or, Result, Ok, Err}
+use Rattle.std.proofs.Common.{◌≡◌, ℕ, ◌<◌, IsSome, IsTrue, is_some, Option, Some, None, List, [], ◌∷◌, length, reverse}
+use Rattle.std.proofs.Common.{slice_get, drop, get_or, Result, Ok, Err}
 use Rattle.std.proofs.Common.{refl, sym, ap, ◌∙◌, subst, ◌+◌}
 use Rattle.std.proofs.lemmas.List.{length-reverse}
-use Rattle.irq_line.specs.declared.answers.StepRefused.TheVariants as refusals
-use Rattle.irq_line.specs.declared.answers.StepRefused.{StepRefused}
 use Rattle.irq_base.specs.Cell.{Cell}
 use Rattle.irq_base.specs.declared.entries.Actor.{Actor}
 use Rattle.irq_base.specs.declared.entries.Actor.TheVariants as actors
 use Rattle.irq_base.specs.declared.entries.Entry.{Entry}
 use Rattle.irq_base.specs.declared.numbers.LineNo.{LineNo}
+use Rattle.irq_line.specs.declared.answers.StepRefused.{StepRefused}
+use Rattle.irq_line.specs.declared.answers.StepRefused.TheVariants as refusals
 use Rattle.irq_laws.proofs.Chosen.{the_same}
 use Rattle.board_def.specs.Rules.{IsBoard}
 use Rattle.board_play.specs.Kept.{AreKept}
@@ -75,7 +76,8 @@ module _ (may_want : Option Entry → Type 0) where
     as_moves on a wanted = subst (λ (n : ℕ). WantedMemory may_want (HasSpare s.lines) n on a)
         (sym (ap (λ (l : List Move). length l) d.moves ∙ length-reverse s.log)) wanted
 
-    told : (a : Actor) (turn : Result Turn StepRefused) (answer : Result ChainTurn StepRefused) → answer ≡ turn_of turn → Wants may_want (seen_of s ms parent) a (turn_of turn)
+    told : (a : Actor) (turn : Result Turn StepRefused) (answer : Result ChainTurn StepRefused) → answer ≡ turn_of turn
+        → Wants may_want (seen_of s ms parent) a (turn_of turn)
         → Wants may_want view a answer
     told a turn answer same wants = subst (λ (x : DemuxSeen). Wants may_want x a answer) v
         (subst (λ (t : Result ChainTurn StepRefused). Wants may_want (seen_of s ms parent) a t) (sym same) wants)
@@ -103,7 +105,8 @@ module _ (may_want : Option Entry → Type 0) where
 
     -- processor 0, on a child
     cpu_0_wants : (on : Option BoardLine) → chain_next s.board g (actors.Cpu cpu_0) ≡ child (due_on on (actors.Cpu cpu_0))
-        → IsSome (due_on on (actors.Cpu cpu_0)) → child_for s.board g (actors.Cpu cpu_0) ≡ on → (turn : Result Turn StepRefused) (answer : Result ChainTurn StepRefused)
+        → IsSome (due_on on (actors.Cpu cpu_0)) → child_for s.board g (actors.Cpu cpu_0) ≡ on
+        → (turn : Result Turn StepRefused) (answer : Result ChainTurn StepRefused)
         → answer ≡ turn_of turn → WantsOn may_want s on (actors.Cpu cpu_0) turn → Wants may_want view (actors.Cpu cpu_0) answer
     cpu_0_wants on next some its turn answer same wants = told (actors.Cpu cpu_0) turn answer same (by_turn turn wants)
       where
@@ -206,7 +209,8 @@ module _ (may_want : Option Entry → Type 0) where
       }
 
   -- that of the lowest driver, where nobody before it has one
-  pub driver_lowest : (old same : DemuxSeen) (turn : Result ChainTurn StepRefused) → lowest_of old ≡ or_step (next_of old (actors.Cpu cpu_0)) (lowest_driver_of old)
+  pub driver_lowest : (old same : DemuxSeen) (turn : Result ChainTurn StepRefused)
+      → lowest_of old ≡ or_step (next_of old (actors.Cpu cpu_0)) (lowest_driver_of old)
       → next_of old (actors.Cpu cpu_0) ≡ None → same ≡ old → DueWants may_want same (lowest_driver_of same) turn
       → DueWants may_want old (lowest_of old) turn
   driver_lowest old same turn is none still wants =

@@ -1,7 +1,7 @@
 -- The runs of handlers that the steps of a demultiplexer ended. Only a child's entry ends one.
 use Rattle.std.specs.Prelude.{List, [], reverse, Result, Ok}
-use Rattle.irq_line.specs.declared.answers.StepRefused.{StepRefused}
 use Rattle.irq_base.specs.declared.devices.Run.{Run}
+use Rattle.irq_line.specs.declared.answers.StepRefused.{StepRefused}
 use Rattle.board_core.specs.Runs.{runs_by_move, runs_of}
 use Rattle.irq_chained.specs.Chain.{children}
 use Rattle.irq_chained.specs.Seen.{DemuxSeen}

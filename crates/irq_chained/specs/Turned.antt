@@ -1,11 +1,11 @@
 -- What a turn of a demultiplexer comes to, and a play.
 use Rattle.std.specs.Prelude.{◌≡◌, ◌<◌, ℕ, IfSome, IsSome, IsSomeAnd, Option, Some, None, List}
 use Rattle.std.specs.Prelude.{[], ◌∷◌, ◌++◌, length, reverse, Result, Ok, Err}
-use Rattle.irq_line.specs.declared.answers.StepRefused.TheVariants as refusals
-use Rattle.irq_line.specs.declared.answers.StepRefused.{StepRefused}
 use Rattle.irq_base.specs.declared.entries.Actor.{Actor}
 use Rattle.irq_base.specs.declared.entries.Actor.TheVariants as actors
 use Rattle.irq_base.specs.declared.numbers.LineNo.{LineNo}
+use Rattle.irq_line.specs.declared.answers.StepRefused.{StepRefused}
+use Rattle.irq_line.specs.declared.answers.StepRefused.TheVariants as refusals
 use Rattle.board_play.specs.Lines.{BoardLine, Move, find_line, part}
 use Rattle.board_play.specs.Order.{actors_of, drivers_of}
 use Rattle.board_play.specs.Play.{Done, Full}
@@ -60,8 +60,8 @@ lowest_of d = first_step (chain_next d.board (reverse d.log)) (actors_of d.board
 abbrev pub lowest_driver_of : DemuxSeen → Option ChainEntry
 lowest_driver_of d = first_step (chain_next d.board (reverse d.log)) (drivers_of d.board)
 
--- the step that is due wasn't made: its child's history is full, or memory was needed, which is
--- needed only while somebody has a step
+-- the step that is due wasn't made: its child's history is full, or memory was needed, which it is
+-- only while somebody has a step
 abbrev pub IsRefused : DemuxSeen → Option ChainEntry → StepRefused → Type 0
 IsRefused d due (refusals.Full line len) = IsFullFor d due line len
 IsRefused d due refusals.NoMemory = IsSome (lowest_of d)

@@ -1,5 +1,5 @@
 -- The handlers were called for the runs of the moves of a sleep.
-use Rattle.std.proofs.Common.{◌≡◌, Bool, true, false, Option, None, Result, Ok, Err, List, sym, ap, subst}
+use Rattle.std.proofs.Common.{◌≡◌, Bool, Option, Result, List, sym, ap, subst}
 use Rattle.irq_base.specs.declared.devices.Run.{Run}
 use Rattle.irq_base.specs.declared.entries.Actor.{Actor}
 use Rattle.irq_base.specs.declared.numbers.LineNo.{LineNo}
@@ -12,11 +12,10 @@ use Rattle.board_core.specs.Turned.{StepsBy as SystemSteps}
 use Rattle.board_core.specs.declared.turns.Turn.{Turn}
 use Rattle.board_core.specs.declared.turns.Turn.TheVariants as turns
 use Rattle.board_core.proofs.Hearing.{heard_fresh, heard_turned}
-use Rattle.irq_pm.specs.Phases.{Phase}
 use Rattle.irq_sleeper.specs.Hearing.{HearsOn}
 use Rattle.irq_sleeper.specs.Seen.{SleeperSeen}
-use Rattle.irq_sleeper.specs.Steps.{GoesTo, Heeds, IsAsleep, IsFresh, IsTold, IsWoken, StepsBy}
-use Rattle.irq_sleeper.proofs.Underway.{fresh, turned}
+use Rattle.irq_sleeper.specs.Steps.{Heeds, IsAsleep, IsFresh, IsTold, IsWoken}
+use Rattle.irq_sleeper.proofs.Underway.{fresh}
 
 -- what is noted of a turn leaves the system as the turn left it
 pub heeded_system : (old : SleeperSeen) (turn : Turn) (made : Bool) (new : SleeperSeen) → Heeds old turn made new → new.system ≡ old.system

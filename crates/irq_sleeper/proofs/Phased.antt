@@ -1,5 +1,5 @@
 -- A sleep, phase by phase.
-use Rattle.std.proofs.Common.{◌≡◌, ℕ, ◌+◌, ◌<◌, ◌≤◌, Bool, true, false, cond, Option, Some, None}
+use Rattle.std.proofs.Common.{◌≡◌, ℕ, ◌+◌, ◌<◌, Bool, true, false, cond, Option, Some, None}
 use Rattle.std.proofs.Common.{Result, Ok, Err, List, [], ◌∷◌, ◌++◌, length, reverse, get_or, drop, refl, sym, ap, ◌∙◌}
 use Rattle.std.proofs.Common.{subst, arith, add-one}
 use Rattle.std.proofs.Math.Seq.{drop-cons}
@@ -14,7 +14,6 @@ use Rattle.board_play.specs.Lines.{BoardLine, Move}
 use Rattle.board_play.specs.Play.{or_move}
 use Rattle.board_core.specs.Seen.{board_lines}
 use Rattle.board_core.specs.Turns.{move_of, lowest_move}
-use Rattle.board_core.proofs.Searches.{all_dropped}
 use Rattle.play_orders.specs.Orders.{IsMade}
 use Rattle.irq_pm.specs.Phases.{Phase, Picking, Disabling, Asleep, Enabling, Going, is_disable_due, due_of, disabling}
 use Rattle.irq_pm.specs.Phases.{sleeping, going, last_move, or_next, picked, step_in, sleep_next}
@@ -22,7 +21,7 @@ use Rattle.irq_pm.specs.Phases.{sleep_order}
 use Rattle.irq_sleeper.specs.Seen.{SleeperSeen, log_of, marked}
 use Rattle.irq_pm.specs.SleepLog.{moves_of}
 use Rattle.irq_sleeper.specs.Steps.{IsFresh, Watched, StepsBy, IsTold, AreMarked, IsUnderway, IsAsleep}
-use Rattle.irq_sleeper.specs.Steps.{IsWoken, Stays, GoesTo, EndsIn, last_of, inner_of, ask_of}
+use Rattle.irq_sleeper.specs.Steps.{IsWoken, GoesTo, EndsIn, last_of, inner_of, ask_of}
 use Rattle.irq_pm.specs.Waking.{woken_by}
 use Rattle.irq_pm.specs.declared.entries.SleepEntry.{SleepEntry}
 use Rattle.irq_pm.specs.declared.entries.SleepEntry.TheVariants as sleeps
@@ -343,12 +342,6 @@ module _ {first old new : SleeperSeen} {picks : List Actor} {i : ℕ} (d : Actor
   pub pick_stops : {refused : StepRefused} → r ≡ Err refused → EndsIn first new picks (Err refused)
   pick_stops is = stops picked_step is
 
-pub picks_made : (first s : SleeperSeen) (picks : List Actor) (i : ℕ) → length picks ≤ i
-    → GoesTo first s picks (Picking (drop i picks)) → GoesTo first s picks Disabling
-picks_made first s picks i done u =
-    let v : GoesTo first s picks (Picking []) = subst (λ (rest : List Actor). GoesTo first s picks (Picking rest)) (all_dropped picks i done) u in
-    (v.0, at_other s picks (Picking []) Disabling v.1 (λ m. m) refl)
-
 -- ---- what a loop finds
 
 pub ok_is : {r : Result Bool StepRefused} {moved t : Bool} → r ≡ Ok moved → moved ≡ t → r ≡ Ok t
@@ -357,9 +350,3 @@ ok_is {r} {moved} {t} is same = subst (λ (b : Bool). r ≡ Ok b) same is
 pub no_line : {o : Option LineNo} → ((line : LineNo) → o ≡ Some line → ⊥) → o ≡ None
 no_line {o = None} none = refl
 no_line {o = Some line} none = absurd (none line refl)
-
-pub goes_on : (a b c : SleeperSeen) (picks : List Actor) (at : Phase) → Stays a b → GoesTo b c picks at → GoesTo a c picks at
-goes_on a b c picks at stay u = (stays_on a b c stay u.0, u.1)
-
-pub ends_on : (a b c : SleeperSeen) (picks : List Actor) (end : Result Unit StepRefused) → Stays a b → EndsIn b c picks end → EndsIn a c picks end
-ends_on a b c picks end stay u = (stays_on a b c stay u.0, u.1)

@@ -1,6 +1,6 @@
 -- For which step of a sleep memory was refused.
-use Rattle.std.proofs.Common.{◌≡◌, ℕ, ◌<◌, Bool, false, IsSome, Option, Some, None, Result, Ok, Err, List, ◌++◌, length}
-use Rattle.std.proofs.Common.{drop, get_or, reverse, refl, sym, ap, ◌∙◌, subst}
+use Rattle.std.proofs.Common.{◌≡◌, ℕ, ◌<◌, Bool, IsSome, Option, Some, Result, Ok, Err, List, ◌++◌, length}
+use Rattle.std.proofs.Common.{drop, get_or, reverse, sym, ap, ◌∙◌, subst}
 use Rattle.std.proofs.lemmas.List.{length-reverse}
 use Rattle.irq_base.specs.declared.entries.Actor.{Actor}
 use Rattle.irq_base.specs.declared.entries.Entry.{Entry}
@@ -8,20 +8,20 @@ use Rattle.irq_line.specs.declared.answers.StepRefused.{StepRefused}
 use Rattle.irq_line.specs.declared.answers.StepRefused.TheVariants as refusals
 use Rattle.board_play.specs.Lines.{BoardLine, Move, lines_of}
 use Rattle.board_play.specs.Order.{actors_of, cpus_of, due_move, line_for, threads_of}
-use Rattle.board_play.specs.Play.{first_move, or_move}
+use Rattle.board_play.specs.Play.{first_move}
 use Rattle.board_core.specs.Firsts.{IsFirstOf}
 use Rattle.board_core.specs.Seen.{SystemSeen, board_lines}
-use Rattle.board_core.specs.Turns.{CanMove, MayWant, Turns, TurnsBy, lowest_move, move_of}
-use Rattle.board_core.specs.Wanted.{HasSpare, LowestWants, WantedMemory, Wants, WantsLowest}
+use Rattle.board_core.specs.Turns.{CanMove, Turns, TurnsBy, lowest_move, move_of}
+use Rattle.board_core.specs.Wanted.{HasSpare, LowestWants, WantedMemory, Wants}
 use Rattle.board_core.proofs.Wanting.{may_move}
 use Rattle.irq_pm.specs.Phases.{Phase, Picking, sleep_next}
 use Rattle.irq_pm.specs.SleepLog.{moves_of}
 use Rattle.irq_pm.proofs.Order.{step_of}
 use Rattle.irq_sleeper.specs.Seen.{SleeperSeen, log_of}
-use Rattle.irq_sleeper.specs.Steps.{GoesTo, Heeds, IsUnderway, StepsBy, inner_of}
+use Rattle.irq_sleeper.specs.Steps.{GoesTo, IsUnderway, StepsBy, inner_of}
 use Rattle.irq_sleeper.specs.Wanted.{PlayWants, StepWants, WantsDue}
 use Rattle.irq_sleeper.proofs.Phased.{SleepStep, picked_step}
-use Rattle.irq_sleeper.proofs.Underway.{inner_some, turned}
+use Rattle.irq_sleeper.proofs.Underway.{inner_some}
 
 module _ (may_want : Option Entry → Type 0) where
   -- ---- a turn that was refused
@@ -50,18 +50,6 @@ module _ (may_want : Option Entry → Type 0) where
   by_due s due more (Err (refusals.Full line len)) same wants = tt
   by_due s due more (Err refusals.NoMemory) same wants =
       record { actor = wants.actor; can = wants.can; its = λ m is. same m (wants.its m is); step = wants.step }
-
-  -- of the one that comes first
-  pub first_wants : (s : SystemSeen) (a b : Option Move) (r : Result Bool StepRefused) → StepWants may_want s a r → StepWants may_want s (or_move a b) r
-  first_wants s a b r wants = by_due s a (or_move a b) r (λ m is. ap (λ (o : Option Move). or_move o b) is) wants
-
-  -- of the other, where the first has none
-  pub second_wants : (old new : SleeperSeen) (a b : Option Move) (c : Option Move) (r first : Result Bool StepRefused) → StepsBy old a first new
-      → first ≡ Ok false → c ≡ b → StepWants may_want new.system c r → StepWants may_want old.system (or_move a b) r
-  second_wants old new a b c r first steps is same wants =
-      let rest : (a ≡ None) × (new ≡ old) = subst (λ (x : Result Bool StepRefused). StepsBy old a x new) is steps in
-      by_due old.system c (or_move a b) r (λ m due. ap (λ (o : Option Move). or_move o b) rest.0 ∙ (sym same ∙ due))
-      (subst (λ (s : SleeperSeen). StepWants may_want s.system c r) rest.1 wants)
 
   -- of the lowest thread or processor
   pub inner_wants : (s : SystemSeen) (a : Actor) (r : Result Bool StepRefused) → IsFirstOf s (threads_of s.board ++ cpus_of s.board) (Some a)

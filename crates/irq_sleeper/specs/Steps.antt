@@ -67,7 +67,7 @@ Heeds old (turns.Moved line e) made new = (made ≡ true) × Heeded old new
     × ((g : List Move) → Watches old.watch g → Watches new.watch ((line, e) ∷ g))
 Heeds old turns.NotYet made new = (made ≡ false) × (new ≡ old)
 
--- the move that is due wasn't made: its line has no room, or memory was needed, which is needed only
+-- the move that is due wasn't made: its line has no room, or memory was needed, which it is only
 -- while somebody can move
 abbrev pub IsRefused : SystemSeen → Option Move → StepRefused → Type 0
 IsRefused s due (refusals.Full line len) = IsFullFor s due line len

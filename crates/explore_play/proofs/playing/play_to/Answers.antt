@@ -2,10 +2,10 @@ use Rattle.std.proofs.Common.{◌≡◌, ◌+◌, true, false, true≢false, Som
 use Rattle.std.proofs.lemmas.Bool.{false≢true}
 use Rattle.std.proofs.lemmas.Option.{slice_get-get_or}
 use Rattle.std.proofs.lemmas.List.{length_push}
-use Rattle.irq_line.specs.declared.answers.StepRefused.{StepRefused}
 use Rattle.irq_base.specs.declared.devices.Run.{Run}
 use Rattle.irq_base.specs.declared.entries.Actor.{Actor}
 use Rattle.irq_base.specs.declared.numbers.LineNo.{LineNo}
+use Rattle.irq_line.specs.declared.answers.StepRefused.{StepRefused}
 use Rattle.irq_model.specs.Kinds.{same_line}
 use Rattle.irq_steps.proofs.Same.{same_self_line}
 use Rattle.board_def.specs.Rules.{IsBoard}
@@ -112,7 +112,9 @@ returns-in-Ok-NotYet-clause-alone g c = λ alone.
     (subst (λ (b : BoardSeen). IsAlone b c.args.line c.args.wanted.now) (sym c.loop-made.invariant.board) alone)
     _ (slice_get-get_or c.args.wanted.now c.loop-made.made _ c.loop-made-test.true) c.actor-actor.result mover
     c.actor-actor.ensures c.turn_of-mover.ensures.first (Ok turns.NotYet) new
-    (subst (λ (x : Result Turn StepRefused). Turns old mover x new) (c.in-Ok-NotYet.is ∙ ap Ok (rw c.in-Ok-NotYet.is at c.in-Ok-NotYet.field-0-is)) c.turn_of-mover.ensures.turns) in
+    (subst (λ (x : Result Turn StepRefused). Turns old mover x new)
+    (c.in-Ok-NotYet.is ∙ ap Ok (rw c.in-Ok-NotYet.is at c.in-Ok-NotYet.field-0-is)) c.turn_of-mover.ensures.turns)
+    in
     absurd next
 
 pub returns-then-len-ge-PICKS-clause-heard : goal.returns-then-len-ge-PICKS-clause-heard

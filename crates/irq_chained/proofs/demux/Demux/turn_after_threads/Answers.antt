@@ -1,6 +1,6 @@
 use Rattle.std.proofs.Common.{◌≡◌, ◌∙◌, ap, subst, sym, None, Option, Ok, Err, Result}
-use Rattle.irq_line.specs.declared.answers.StepRefused.{StepRefused}
 use Rattle.irq_base.specs.declared.entries.Actor.TheVariants as actors
+use Rattle.irq_line.specs.declared.answers.StepRefused.{StepRefused}
 use Rattle.callbacks.specs.Heard.{Heard}
 use Rattle.irq_chained.specs.Chain.{cpu_0, or_step}
 use Rattle.irq_chained.specs.Runs.{runs_by_turn}

@@ -19,7 +19,8 @@ sleep-requires g c = (asleep g (goal.at.sleep-requires g c).Else-not-branch).1
 
 suspended : (g : given.Over) (c : After-suspend g)
     → HearsOn g.H.Handler.hears c.args.self.now c.args.handlers.now c.suspend.new.self c.suspend.new.handlers
-suspended g c = hears_then g.H.Handler.hears c.args.self.now c.make_picks.new.self c.suspend.new.self c.args.handlers.now c.make_picks.new.handlers c.suspend.new.handlers
+suspended g c = hears_then g.H.Handler.hears c.args.self.now c.make_picks.new.self c.suspend.new.self
+    c.args.handlers.now c.make_picks.new.handlers c.suspend.new.handlers
     c.make_picks.ensures.heard c.in_ok-make_picks.ensures.reaches.1.told c.suspend.ensures.heard
 
 slept : (g : given.Over) (c : After-sleep g)

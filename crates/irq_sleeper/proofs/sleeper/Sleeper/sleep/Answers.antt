@@ -2,6 +2,7 @@ use Rattle.std.proofs.Common.{◌≡◌, None, sym, ap, ◌∙◌}
 use Rattle.irq_pm.specs.Phases.{Asleep}
 use Rattle.irq_sleeper.specs.Seen.{SleeperSeen}
 use Rattle.board_core.proofs.Handing.{handed_on}
+use Rattle.irq_sleeper.specs.Hearing.{HearsOn}
 use Rattle.irq_sleeper.proofs.Phased.{SleepStep, sleeping_step, ok_is, no_line, falls, stops, went, wakes_by_line, wakes_by_none}
 use Rattle.irq_sleeper.proofs.Hearing.{hears_then, hears_woken}
 use Rattle.irq_sleeper.proofs.Wanting.{stop_wants}
@@ -18,6 +19,12 @@ abbrev step : (g : given.Over) (c : After-step_asleep g)
     → SleepStep c.args.self.now c.loop-line.self c.step_asleep.new.self c.args.picks.now Asleep Asleep c.step_asleep.result
 step g c = sleeping_step c.loop-line.invariant.goes (not_woken g c) c.step_asleep.ensures.steps
 
+-- what was heard so far, with the loop's step
+heard : (g : given.Over) (c : After-step_asleep g)
+    → HearsOn g.H.Handler.hears c.args.self.now c.args.handlers.now c.step_asleep.new.self c.step_asleep.new.handlers
+heard g c = hears_then g.H.Handler.hears c.args.self.now c.loop-line.self c.step_asleep.new.self c.args.handlers.now
+    c.loop-line.handlers c.step_asleep.new.handlers c.loop-line.invariant.heard c.loop-line.invariant.goes.1.told c.step_asleep.ensures.heard
+
 pub returns-in-Some-clause-reaches : goal.returns-in-Some-clause-reaches
 returns-in-Some-clause-reaches g c =
     wakes_by_line c.loop-line.invariant.goes (sym (ap (λ (s : SleeperSeen). s.watch.woken) c.self.view_is)
@@ -29,8 +36,7 @@ loop-line-smaller g c = falls (step g (goal.at.loop-line-smaller g c).After-step
 pub loop-line-preserved : goal.loop-line-preserved
 loop-line-preserved g c = record {
   goes = went (step g (goal.at.loop-line-preserved g c).After-step_asleep) (ok_is c.in_ok-step_asleep.was c.if-not-branch.false);
-  heard = hears_then g.H.Handler.hears c.args.self.now c.loop-line.self c.step_asleep.new.self c.args.handlers.now c.loop-line.handlers c.step_asleep.new.handlers
-      c.loop-line.invariant.heard c.loop-line.invariant.goes.1.told c.step_asleep.ensures.heard;
+  heard = heard g (goal.at.loop-line-preserved g c).After-step_asleep;
 }
 
 pub returns-then-not-branch-clause-reaches : goal.returns-then-not-branch-clause-reaches
@@ -43,9 +49,7 @@ returns-in_err-step_asleep-clause-reaches g c = rw (handed_on c.from_residual.en
     (stops (step g (goal.at.returns-in_err-step_asleep-clause-reaches g c).After-step_asleep) c.in_err-step_asleep.was)
 
 pub returns-in_err-step_asleep-clause-heard : goal.returns-in_err-step_asleep-clause-heard
-returns-in_err-step_asleep-clause-heard g c =
-    hears_then g.H.Handler.hears c.args.self.now c.loop-line.self c.step_asleep.new.self c.args.handlers.now c.loop-line.handlers c.step_asleep.new.handlers
-    c.loop-line.invariant.heard c.loop-line.invariant.goes.1.told c.step_asleep.ensures.heard
+returns-in_err-step_asleep-clause-heard g c = heard g (goal.at.returns-in_err-step_asleep-clause-heard g c).After-step_asleep
 
 pub returns-in_err-step_asleep-clause-memory : goal.returns-in_err-step_asleep-clause-memory
 returns-in_err-step_asleep-clause-memory g c = rw (handed_on c.from_residual.ensures.1)
@@ -59,6 +63,5 @@ returns-in-Some-clause-heard g c = hears_woken g.H.Handler.hears c.args.self.now
 pub returns-then-not-branch-clause-heard : goal.returns-then-not-branch-clause-heard
 returns-then-not-branch-clause-heard g c = hears_woken g.H.Handler.hears c.args.self.now c.step_asleep.new.self c.wake_by-then-not-branch.new.self _
     c.args.handlers.now c.step_asleep.new.handlers
-    (hears_then g.H.Handler.hears c.args.self.now c.loop-line.self c.step_asleep.new.self c.args.handlers.now c.loop-line.handlers c.step_asleep.new.handlers
-    c.loop-line.invariant.heard c.loop-line.invariant.goes.1.told c.step_asleep.ensures.heard)
+    (heard g (goal.at.returns-then-not-branch-clause-heard g c).After-step_asleep)
     c.wake_by-then-not-branch.ensures
