@@ -4,7 +4,6 @@ use Rattle.std.proofs.Common.{map, reverse, slice_get, refl, sym, ap, ◌∙◌,
 use Rattle.std.proofs.lemmas.List.{reverse-append, reverse-reverse}
 use Rattle.irq_base.specs.declared.entries.Entry.{Entry}
 use Rattle.irq_base.specs.declared.lines.LineDef.{LineDef}
-use Rattle.irq_base.specs.declared.numbers.LineNo.{LineNo}
 use Rattle.irq_laws.proofs.Chosen.{the_same}
 use Rattle.irq_line.specs.Seen.{LineSeen}
 use Rattle.irq_model.specs.Kinds.{same_line}
@@ -137,6 +136,6 @@ came terms b locks jobs lines old new isb of_board fit over kept gathered same a
         by_line (Some x) at has =
             subst (λ (es : List Entry). BeginsWith es t.pass.knows.seen)
             (sym (settled.left t.pass.def.line ∙
-                ap (λ (d : LineDef). entries_in (lines_after_all settles.moves (board_lines lines)) d.line) has.of_line))
+            ap (λ (d : LineDef). entries_in (lines_after_all settles.moves (board_lines lines)) d.line) has.of_line))
             (begins_more (entries_in (lines_after_all settles.moves (board_lines lines)) x.def.line) x.entries t.pass.knows.seen
             (goes_on settles.moves lines apart (j.first + place) x at) has.begins)

@@ -1,10 +1,9 @@
 -- What is answered of a run that has ended.
-use Rattle.std.proofs.Common.{◌≡◌, ℕ, Bool, Option, Result, Ok, Err, List, [], refl, sym, subst}
+use Rattle.std.proofs.Common.{ℕ, Bool, Option, Result, Ok, Err, List, refl}
 use Rattle.irq_base.specs.declared.devices.Answer.{Answer}
 use Rattle.irq_base.specs.declared.devices.Run.{Run}
 use Rattle.irq_base.specs.declared.entries.Entry.{Entry}
 use Rattle.irq_base.specs.declared.reporting.LineReport.{LineReport}
-use Rattle.irq_line.specs.declared.answers.StepRefused.TheVariants as refusals
 use Rattle.board_def.specs.Seen.{BoardSeen}
 use Rattle.board_report.specs.Headline.{Histories, histories_of}
 use Rattle.play_report.proofs.Answered.{answers_as, without_step}
@@ -12,7 +11,7 @@ use Rattle.play_report.specs.Answers.{Answers, HandsOutStep}
 use Rattle.play_report.specs.declared.failing.PlayFailed.{PlayFailed}
 use Rattle.play_report.specs.declared.failing.PlayFailed.TheVariants as fails
 use Rattle.irq_run.specs.Given.{EachGiven, lines_with}
-use Rattle.irq_run.specs.Ran.{HandsOut, RefusedStep, ReportsRun, RunsBoard, TellsStep}
+use Rattle.irq_run.specs.Ran.{HandsOut, RefusedStep, ReportsRun, RunsBoard}
 use Rattle.irq_run.specs.Report.{run_text}
 
 module _ (may_want : Option Entry → Type 0) (b : BoardSeen) (summary : Bool) (entries : Histories) (reports : List LineReport)
@@ -30,20 +29,3 @@ module _ (may_want : Option Entry → Type 0) (b : BoardSeen) (summary : Bool) (
   runs_board gave given (Err (fails.Write failed)) h = record { entries = entries; given = given; reports = plain (Err (fails.Write failed)) h }
   runs_board gave given (Err (fails.Step refused)) h = record { entries = entries; given = given; reports = plain (Err (fails.Step refused)) h }
   runs_board gave given (Err fails.NoMemory) h = absurd h
-
-  pub tells_step : (end : Result Unit PlayFailed) → ReportsRun may_want b summary entries reports before now end → TellsStep may_want b reports end
-  tells_step (Ok _) h = tt
-  tells_step (Err (fails.Write failed)) h = tt
-  tells_step (Err (fails.Step (refusals.Full line len))) h = tt
-  tells_step (Err (fails.Step refusals.NoMemory)) h = (entries, h.0, h.1)
-  tells_step (Err fails.NoMemory) h = tt
-
--- if memory was refused for anything but a step
-module _ (end : Result Unit PlayFailed) (is : end ≡ Err fails.NoMemory) where
-  pub runs_none : (gave : Run → Answer → Type 0) (b : BoardSeen) (summary : Bool) (reports : List LineReport) (before now : Option (List ℕ))
-      → reports ≡ [] → RunsBoard gave b summary reports before now end
-  runs_none gave b summary reports before now none =
-      subst (λ (e : Result Unit PlayFailed). RunsBoard gave b summary reports before now e) (sym is) none
-
-  pub tells_none : (may_want : Option Entry → Type 0) (b : BoardSeen) (reports : List LineReport) → TellsStep may_want b reports end
-  tells_none may_want b reports = subst (λ (e : Result Unit PlayFailed). TellsStep may_want b reports e) (sym is) tt

@@ -76,7 +76,8 @@ pub record HasRun (gave : Run → Answer → Type 0) (b : BoardSeen) (Reports : 
   pub given : EachGiven gave (lines_with b entries)
   pub reports : Reports entries
 
--- What the whole call answers and prints, by how it ended. Nothing is printed unless the run came to
+-- What the whole call answers and prints, by how it ended. Nothing is printed unless the run came
+-- to
 -- its end. If memory was refused for anything but a step, nothing is handed out.
 abbrev pub RunsBoard : (gave : Run → Answer → Type 0) → BoardSeen → Bool → List LineReport
     → Option (List ℕ) → Option (List ℕ) → Result Unit PlayFailed → Type 0
