@@ -1,15 +1,16 @@
 -- A demultiplexer whose play has ended, and what its reports hand out.
-use Rattle.std.proofs.Common.{◌≡◌, ℕ, ◌≤◌, true, All, Option, Some, None, List, [], ◌∷◌, length, reverse, slice_get, refl, sym, ap, ◌∙◌, subst, inl, inr}
+use Rattle.std.proofs.Common.{◌≡◌, ℕ, ◌≤◌, true, All, Option, Some, None, List, [], ◌∷◌, length, reverse, slice_get, refl, sym, ap, ◌∙◌, subst, inl, inr, Result, Ok, Err}
+use Rattle.irq_base.specs.declared.devices.Run.{Run}
 use Rattle.irq_base.specs.declared.entries.Actor.{Actor}
 use Rattle.irq_base.specs.declared.entries.Entry.{Entry}
 use Rattle.irq_base.specs.declared.numbers.LineNo.{LineNo}
 use Rattle.irq_base.specs.declared.reporting.LineReport.{LineReport}
 use Rattle.irq_line.specs.Seen.{LineSeen}
+use Rattle.irq_line.specs.declared.answers.StepRefused.{StepRefused}
+use Rattle.irq_line.specs.declared.answers.StepRefused.TheVariants as refusals
 use Rattle.play_laws.specs.Actors.{IsOneOf}
 use Rattle.board_core.specs.Seen.{board_lines}
 use Rattle.board_core.specs.Wanted.{HasSpare}
-use Rattle.board_core.specs.declared.turns.PlayEnd.{PlayEnd}
-use Rattle.board_core.specs.declared.turns.PlayEnd.TheVariants as plays
 use Rattle.board_def.specs.Rules.{IsBoard}
 use Rattle.board_def.specs.Seen.{BoardSeen}
 use Rattle.board_play.specs.Kept.{AreKept}
@@ -18,15 +19,15 @@ use Rattle.board_play.specs.Order.{actors_of}
 use Rattle.board_play.specs.Play.{Done}
 use Rattle.board_report.specs.Moving.{AreAtRest}
 use Rattle.board_report.specs.Reporting.{IsHandedRoom, KeepRoom}
-use Rattle.irq_play.specs.declared.ending.PlayedEnd.{PlayedEnd}
-use Rattle.irq_play.specs.declared.ending.PlayedEnd.TheVariants as ends
-use Rattle.irq_play.specs.declared.ending.WantedFor.TheVariants as wants
 use Rattle.play_orders.specs.Orders.{IsPlayed}
 use Rattle.play_report.specs.Answers.{Answers}
+use Rattle.play_report.specs.declared.failing.PlayFailed.{PlayFailed}
+use Rattle.play_report.proofs.Answered as answered
+use Rattle.play_report.proofs.Answered.{answers_as, of_some, with_step, without_step}
 use Rattle.play_report.specs.Ordered.{lines_after}
 use Rattle.play_report.proofs.Handed.{Reported, handed_out}
 use Rattle.play_report.proofs.Scenario.{IsEnd, IsScenario, log_has_rows}
-use Rattle.play_report.specs.Rows.{HasRow}
+use Rattle.play_report.specs.Printing.{StepHasRow}
 use Rattle.irq_chained.specs.Chain.{IsChainLegal, chain_next, chain_order, choice_by, first_step, lines_in, or_choice, or_step, told, with_left}
 use Rattle.irq_chained.specs.Fits.{is_for_chain}
 use Rattle.irq_chained.specs.Seen.{DemuxSeen}
@@ -36,8 +37,9 @@ use Rattle.irq_chained.specs.declared.chain.ChainEntry.{ChainEntry}
 use Rattle.irq_chained.specs.declared.chain.ChainEntry.TheVariants as steps
 use Rattle.irq_chained.proofs.Chained.{keeps_signals, same_children}
 use Rattle.irq_chained.proofs.Resting.{rests}
-use Rattle.chained_play.specs.Headline.{ChainHandsOut, KeepsChain, RefusedStep}
-use Rattle.chained_play.specs.Played.{HandsOutChain, TellsStep}
+use Rattle.chained_play.specs.Headline.{ChainCut, ChainHandsOut, KeepsChain, RefusedStep}
+use Rattle.chained_play.specs.Played.{ChainsBoard, HandsOutChain, TellsStep, runs_of_steps}
+use Rattle.chained_play.specs.Rows.{chain_text}
 use Rattle.chained_play.proofs.ChildSteps.{moves_due}
 
 -- ---- nothing is next
@@ -69,7 +71,7 @@ module _ (can : Actor → Option ChainEntry) where
 -- ---- as the demultiplexer stands
 
 -- each step of a play that came to its end has a row
-pub rows_done : (d : DemuxSeen) → IsPlay d d.board.picks plays.Done → All (HasRow told) d.log
+pub rows_done : (d : DemuxSeen) → IsPlay d d.board.picks (Ok tt) → All (StepHasRow told) d.log
 rows_done d p = log_has_rows d.board (chain_order d.board) (moves_due d.board) d.board.picks d.log p.0 p.1
 
 -- what a demultiplexer always keeps
@@ -98,16 +100,16 @@ module _ (d : DemuxSeen) (board : IsBoard d.board) (fits : is_for_chain d.board 
   }
 
   -- the reports of the lines that were taken out of it
-  pub hands_out : (end : PlayEnd) → IsPlay d d.board.picks end → (lines : List LineSeen) → lines ≡ d.lines → (reports : List LineReport)
+  pub hands_out : (end : Result Unit StepRefused) → IsPlay d d.board.picks end → (lines : List LineSeen) → lines ≡ d.lines → (reports : List LineReport)
       → Reported d.board (board_lines lines) reports → ChainHandsOut d.board d.log end reports
   hands_out end play lines out reports told =
       handed_out d.board (chain_order d.board) d.board.picks (KeepsChain d.board) d.log scenario
       (board_lines lines) (ap board_lines out ∙ (lines_are ∙ same_lines)) reports told end (as_end end play)
     where
-      as_end : (end : PlayEnd) → IsPlay d d.board.picks end → IsEnd d.board (chain_order d.board) d.board.picks d.log end
-      as_end plays.Done p = p
-      as_end (plays.Full line len) p = (p.0, ap (λ (ms : List Move). length (part line ms)) (sym (same_children d.board (reverse d.log))) ∙ p.1)
-      as_end plays.NoMemory p = p
+      as_end : (end : Result Unit StepRefused) → IsPlay d d.board.picks end → IsEnd d.board (chain_order d.board) d.board.picks d.log end
+      as_end (Ok _) p = p
+      as_end (Err (refusals.Full line len)) p = (p.0, ap (λ (ms : List Move). length (part line ms)) (sym (same_children d.board (reverse d.log))) ∙ p.1)
+      as_end (Err refusals.NoMemory) p = p
 
 -- ---- which step was refused memory
 
@@ -119,7 +121,7 @@ for_more (Some (steps.Exit cpu)) f wants = tt
 
 module _ (may_want : Option Entry → Type 0) where
   step_done : (d : DemuxSeen) (lines : List LineSeen) → lines ≡ d.lines → (reports : List LineReport) → KeepRoom lines reports
-      → PlayWants may_want d d.board.picks plays.NoMemory → RefusedStep may_want d.board d.log reports
+      → PlayWants may_want d d.board.picks (Err refusals.NoMemory) → RefusedStep may_want d.board d.log reports
   step_done d lines out reports keep w = record {
     left = w.left;
     so_far = w.so_far;
@@ -138,23 +140,23 @@ module _ (may_want : Option Entry → Type 0) where
           subst (λ (n : ℕ). 1 ≤ n) (keep k i x report (subst (λ (ls : List LineSeen). slice_get ls k ≡ Some x) (sym out) at_x) at (its ∙ sym same)) room
 
   -- the reports, and the step
-  pub hands_out_step : (d : DemuxSeen) (end : PlayEnd) → PlayWants may_want d d.board.picks end → (lines : List LineSeen) → lines ≡ d.lines
+  pub hands_out_step : (d : DemuxSeen) (end : Result Unit StepRefused) → PlayWants may_want d d.board.picks end → (lines : List LineSeen) → lines ≡ d.lines
       → (reports : List LineReport) → KeepRoom lines reports → ChainHandsOut d.board d.log end reports → HandsOutChain may_want d end reports
-  hands_out_step d plays.Done wants lines out reports keep h = h
-  hands_out_step d (plays.Full line len) wants lines out reports keep h = h
-  hands_out_step d plays.NoMemory wants lines out reports keep h = (h, step_done d lines out reports keep wants)
+  hands_out_step d end wants lines out reports keep h =
+      with_step (ChainHandsOut d.board d.log) (RefusedStep may_want d.board d.log) end reports h
+      (λ is. step_done d lines out reports keep (subst (λ (e : Result Unit StepRefused). PlayWants may_want d d.board.picks e) is wants))
 
-  pub without_step : (d : DemuxSeen) (end : PlayEnd) (reports : List LineReport) → HandsOutChain may_want d end reports
-      → ChainHandsOut d.board d.log end reports
-  without_step d plays.Done reports h = h
-  without_step d (plays.Full line len) reports h = h
-  without_step d plays.NoMemory reports h = h.0
+  module _ (b : BoardSeen) (d : DemuxSeen) (of : d.board ≡ b) (reports : List LineReport) (before now : Option (List ℕ)) (end : Result Unit PlayFailed) where
+    pub chains_board : (heard : List Run → Type 0) → Answers (chain_text b d.log) (HandsOutChain may_want d) reports before now end
+        → heard (runs_of_steps b d.log) → ChainsBoard b heard reports before now end
+    chains_board heard told called =
+        of_some (chain_text b) (ChainHandsOut b) (runs_of_steps b) heard d.log reports before now end
+        (answers_as (chain_text b d.log) (chain_text b d.log) (HandsOutChain may_want d) (ChainHandsOut b d.log) refl
+        (λ ended rs h. subst (λ (c : BoardSeen). ChainHandsOut c d.log ended rs) of
+        (without_step (ChainHandsOut d.board d.log) (RefusedStep may_want d.board d.log) ended rs h)) reports before now end told)
+        called
 
-  pub tells_step : (b : BoardSeen) (d : DemuxSeen) → d.board ≡ b → (text : List ℕ) (reports : List LineReport) (before now : Option (List ℕ))
-      (end : PlayedEnd) → Answers text (HandsOutChain may_want d) reports before now end → TellsStep may_want b reports end
-  tells_step b d of text reports before now ends.Done h = tt
-  tells_step b d of text reports before now ends.WriteFault h = tt
-  tells_step b d of text reports before now (ends.LogFull line len) h = tt
-  tells_step b d of text reports before now (ends.NoMemory wants.Step) h =
-      subst (λ (c : BoardSeen). TellsStep may_want c reports (ends.NoMemory wants.Step)) of (d.log, h.0, h.1)
-  tells_step b d of text reports before now (ends.NoMemory wants.Making) h = tt
+    pub tells_step : (text : List ℕ) → Answers text (HandsOutChain may_want d) reports before now end → TellsStep may_want b reports end
+    tells_step text told =
+        subst (λ (c : BoardSeen). TellsStep may_want c reports end) of
+        (answered.tells_step (ChainCut d.board) (RefusedStep may_want d.board) text (HandsOutChain may_want d) d.log (λ rs h. h) reports before now end told)

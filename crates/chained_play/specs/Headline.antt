@@ -1,10 +1,10 @@
 -- What holds of a board's play behind one demultiplexer, and of the reports that hand it out. The
 -- steps of a log stand oldest first here; the play's definitions have the newest first.
-use Rattle.std.specs.Prelude.{◌≡◌, ℕ, true, Option, List}
+use Rattle.std.specs.Prelude.{◌≡◌, ℕ, true, Option, Result, List}
 use Rattle.irq_base.specs.declared.entries.Entry.{Entry}
 use Rattle.irq_base.specs.declared.numbers.LineNo.{LineNo}
 use Rattle.irq_base.specs.declared.reporting.LineReport.{LineReport}
-use Rattle.board_core.specs.declared.turns.PlayEnd.{PlayEnd}
+use Rattle.irq_line.specs.declared.answers.StepRefused.{StepRefused}
 use Rattle.board_def.specs.Seen.{BoardSeen}
 use Rattle.board_report.specs.Reporting.{IsHandedRoom}
 use Rattle.irq_chained.specs.Chain.{chain_order}
@@ -35,7 +35,8 @@ abbrev pub ChainCut : BoardSeen → List ChainEntry → List LineReport → Type
 ChainCut b = IsCut b (chain_order b) b.picks (KeepsChain b)
 
 -- what the reports hand out, by how the play ended: one of these three
-abbrev pub ChainHandsOut : BoardSeen → List ChainEntry → PlayEnd → List LineReport → Type 0
+abbrev pub ChainHandsOut : BoardSeen → List ChainEntry → Result Unit StepRefused → List LineReport
+    → Type 0
 ChainHandsOut b = HandsOut b (chain_order b) b.picks (KeepsChain b)
 
 -- The step that was refused memory: whose it was, and on which child. An enter and an exit want

@@ -1,14 +1,12 @@
 //! A play behind one demultiplexer that has ended.
-ghost use Rattle.board_core.specs.declared.turns.PlayEnd.{PlayEnd};
 
 use crate::printing::ChainRows;
-use board_core::PlayEnd;
 use board_def::{Board, Layout};
 use board_report::{ReportRoom, hand_out};
 use irq_base::Reports;
 use irq_chained::Demux;
-use irq_io::{Sink, WriteEnd};
-use irq_line::IrqLine;
+use irq_io::{Sink, WriteFailed};
+use irq_line::{IrqLine, StepRefused};
 use play_report::{EndedPlay, print_rows};
 use std::marker::Model;
 
@@ -16,7 +14,7 @@ use std::marker::Model;
 #[derive(Drop)]
 pub struct ChainPlay<'b, L: IrqLine> {
     pub(crate) demux: Demux<'b, L>,
-    pub(crate) end: PlayEnd,
+    pub(crate) end: Result<(), StepRefused>,
 }
 
 impl<'b, L: IrqLine> Model for ChainPlay<'b, L> {
@@ -43,7 +41,7 @@ impl<'b, L: IrqLine> EndedPlay for ChainPlay<'b, L> {
 
     ghost hands_out = { λ p. HandsOutChain L.may_want p.demux };
 
-    fn end(&self) -> PlayEnd {
+    fn end(&self) -> Result<(), StepRefused> {
         self.end
     }
 
@@ -51,7 +49,7 @@ impl<'b, L: IrqLine> EndedPlay for ChainPlay<'b, L> {
         self.demux.layout()
     }
 
-    fn print<O: Sink>(&self, out: &mut O) -> WriteEnd {
+    fn print<O: Sink>(&self, out: &mut O) -> Result<(), WriteFailed> {
         let steps = self.demux.steps();
         print_rows(out, &mut ChainRows { steps })
     }

@@ -1,9 +1,9 @@
 //! Plays a board behind one demultiplexer, and prints it.
-ghost use Rattle.std.specs.Prelude.{◌≡◌, [], IfOk, OnErr, false};
+ghost use Rattle.std.specs.Prelude.{◌≡◌, [], IfOk, OnErr, OnOk, false};
 ghost use Rattle.callbacks.specs.Heard.{Heard};
 ghost use Rattle.irq_io.specs.Faults.{Counts};
-ghost use Rattle.irq_play.specs.Ends.{is_printing, is_write_fault};
 ghost use Rattle.irq_chained.specs.Fits.{is_for_chain};
+ghost use Rattle.play_report.specs.Failing.{is_printing, is_write_fault};
 ghost use Rattle.chained_play.specs.Played.{ChainsBoard, TellsStep};
 
 use crate::ended::ChainPlay;
@@ -13,9 +13,8 @@ use board_report::ReportRoom;
 use callbacks::Handler;
 use irq_chained::{Demux, fits_chain};
 use irq_io::Sink;
-use irq_play::{PlayedBoard, PlayedEnd, unplayed};
 use line_makers::{MakesDomainLine, OverDomains};
-use play_report::report;
+use play_report::{PlayedBoard, report, unplayed};
 use std::alloc::Global;
 
 /// The board can't be played behind one demultiplexer.
@@ -42,7 +41,7 @@ pub fn chained_and_print<O: Sink, M: MakesDomainLine, H: Handler>(
         (O.written out.old) (O.written out.new) p.end) }
     ensures step { IfOk result (λ p.
         TellsStep M.Line.may_want board.now p.reports.reports p.end) }
-    ensures emptied { IfOk result (λ p. p.end ≡ PlayedEnd.Done → O.kept out.new ≡ []) }
+    ensures emptied { IfOk result (λ p. OnOk p.end (O.kept out.new ≡ [])) }
     ensures write_fault { IfOk result (λ p. Counts (O.faults out.old) (O.faults out.new)
         (is_write_fault p.end)) }
     ensures silent { IfOk result (λ p. is_printing p.end ≡ false → out.new ≡ out.old) }

@@ -1,13 +1,12 @@
 -- Which placings were told.
 use Rattle.std.proofs.Common.{◌≡◌, ℕ, inl, List, [], OnErr, Result, Ok, Err, sym, ap, ◌∙◌, subst}
 use Rattle.std.proofs.lemmas.List.{append-nil}
+use Rattle.play_report.specs.declared.failing.PlayFailed.{PlayFailed}
+use Rattle.play_report.specs.declared.failing.PlayFailed.TheVariants as fails
 use Rattle.board_def.specs.Seen.{BoardSeen}
 use Rattle.irq_hotplug.specs.Fleet.{FleetSeen, IsAfterSome, after_events, first_fleet, fleet_after}
 use Rattle.irq_hotplug.specs.Notices.{notices_of}
 use Rattle.irq_hotplug.specs.declared.events.Event.{Event}
-use Rattle.irq_play.specs.declared.ending.PlayedEnd.{PlayedEnd}
-use Rattle.irq_play.specs.declared.ending.PlayedEnd.TheVariants as ends
-use Rattle.irq_play.specs.declared.ending.WantedFor.TheVariants as wants
 use Rattle.notifiers.specs.Told.{Notice}
 use Rattle.hotplug_play.specs.Played.{TellsPlacings, TellsUpTo, placings_after}
 
@@ -30,12 +29,11 @@ module _ (told : List Notice → Type 0) (b : BoardSeen) (vectors : ℕ) (es : L
   up_to_all all = record { taken = es; left = []; parts = sym (append-nil es); placings = all }
 
   -- all were told, however the play ended
-  pub all_told : (end : PlayedEnd) → told (placings_after b vectors es) → TellsPlacings told b vectors es end
-  all_told ends.Done all = all
-  all_told ends.WriteFault all = all
-  all_told (ends.LogFull line len) all = all
-  all_told (ends.NoMemory wants.Step) all = all
-  all_told (ends.NoMemory wants.Making) all = inl (up_to_all all)
+  pub all_told : (end : Result Unit PlayFailed) → told (placings_after b vectors es) → TellsPlacings told b vectors es end
+  all_told (Ok _) all = all
+  all_told (Err (fails.Write failed)) all = all
+  all_told (Err (fails.Step refused)) all = all
+  all_told (Err fails.NoMemory) all = inl (up_to_all all)
 
 pub on_err : {T E : Type 0} (P : Type 0) (r : Result T E) → P → OnErr r P
 on_err P (Ok x) h = tt

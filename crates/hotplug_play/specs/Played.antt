@@ -1,21 +1,16 @@
 -- What a board's play on processors that go offline and come online answers, and what is printed.
 -- The events come first, and then the board with the moves of its lines is played.
-use Rattle.std.specs.Prelude.{◌≡◌, ℕ, ◌⊎◌, Option, List, [], ◌++◌, reverse}
+use Rattle.std.specs.Prelude.{◌≡◌, ℕ, ◌⊎◌, Option, Result, Ok, Err, List, [], ◌++◌}
 use Rattle.irq_base.specs.declared.devices.Run.{Run}
-use Rattle.irq_base.specs.declared.entries.Entry.{Entry}
 use Rattle.irq_base.specs.declared.numbers.LineNo.{LineNo}
 use Rattle.irq_base.specs.declared.reporting.LineReport.{LineReport}
-use Rattle.board_core.specs.Runs.{runs_of}
-use Rattle.board_core.specs.Seen.{SystemSeen}
-use Rattle.board_core.specs.declared.turns.PlayEnd.{PlayEnd}
-use Rattle.board_core.specs.declared.turns.PlayEnd.TheVariants as plays
+use Rattle.irq_line.specs.declared.answers.StepRefused.{StepRefused}
+use Rattle.irq_line.specs.declared.answers.StepRefused.TheVariants as refusals
 use Rattle.board_def.specs.Rules.{IsBoard}
 use Rattle.board_def.specs.Seen.{BoardSeen}
 use Rattle.board_play.specs.Lines.{Move, part}
-use Rattle.irq_play.specs.Headline.{CutShort, FullLog, Headline, RefusedStep}
-use Rattle.irq_play.specs.declared.ending.PlayedEnd.{PlayedEnd}
-use Rattle.irq_play.specs.declared.ending.PlayedEnd.TheVariants as ends
-use Rattle.irq_play.specs.declared.ending.WantedFor.TheVariants as wants
+use Rattle.irq_play.specs.Headline.{CutShort, FullLog, Headline}
+use Rattle.irq_play.specs.Played.{runs_of_moves}
 use Rattle.notifiers.specs.Told.{Notice}
 use Rattle.irq_hotplug.specs.Fleet.{FleetSeen, fleet_after}
 use Rattle.irq_hotplug.specs.Notices.{notices_of}
@@ -24,6 +19,8 @@ use Rattle.hotplug_plan.specs.Planned.{IsForHotplug, planned}
 use Rattle.hotplug_laws.specs.Aims.{AimEach}
 use Rattle.hotplug_laws.specs.Moments.{KeepPlaces}
 use Rattle.play_report.specs.Answers.{AnswersOfSome}
+use Rattle.play_report.specs.declared.failing.PlayFailed.{PlayFailed}
+use Rattle.play_report.specs.declared.failing.PlayFailed.TheVariants as fails
 use Rattle.hotplug_play.specs.Texts.{hotplug_text}
 
 -- the board that is played after these events: with the moves of its lines
@@ -54,21 +51,21 @@ pub record HotplugCut (b : BoardSeen) (vectors : ℕ) (es : List Event) (moves :
   pub cut : CutShort (planned_after b vectors es) moves reports
 
 -- what the reports hand out, by how the play ended
-abbrev pub HotplugHandsOut : BoardSeen → ℕ → List Event → List Move → PlayEnd → List LineReport
-    → Type 0
-HotplugHandsOut b vectors es moves plays.Done reports = HotplugHeadline b vectors es moves reports
-HotplugHandsOut b vectors es moves (plays.Full line len) reports =
+abbrev pub HotplugHandsOut : BoardSeen → ℕ → List Event → List Move → Result Unit StepRefused
+    → List LineReport → Type 0
+HotplugHandsOut b vectors es moves (Ok _) reports = HotplugHeadline b vectors es moves reports
+HotplugHandsOut b vectors es moves (Err (refusals.Full line len)) reports =
     HotplugFull b vectors es moves reports line len
-HotplugHandsOut b vectors es moves plays.NoMemory reports = HotplugCut b vectors es moves reports
+HotplugHandsOut b vectors es moves (Err refusals.NoMemory) reports =
+    HotplugCut b vectors es moves reports
 
 -- What the play of these events answers and prints, by how it ended; the number is that of each
 -- processor's vectors. What was said of the lines is printed between the layout and the play.
 -- `heard` says of runs that handlers were called for these.
 abbrev pub PlaysPlan : BoardSeen → ℕ → List Event → (List Run → Type 0) → List LineReport
-    → Option (List ℕ) → Option (List ℕ) → PlayedEnd → Type 0
+    → Option (List ℕ) → Option (List ℕ) → Result Unit PlayFailed → Type 0
 PlaysPlan b vectors es heard = AnswersOfSome (hotplug_text b (fleet_after b vectors es).said)
-    (HotplugHandsOut b vectors es) (λ moves. runs_of (planned_after b vectors es) (reverse moves))
-    heard
+    (HotplugHandsOut b vectors es) (runs_of_moves (planned_after b vectors es)) heard
 
 -- the placings of the lines, at first and at these events, in the order of their rows
 abbrev pub placings_after : BoardSeen → ℕ → List Event → List Notice
@@ -85,16 +82,16 @@ pub record TellsUpTo (told : List Notice → Type 0) (b : BoardSeen) (vectors : 
 -- Which placings were told, by how the play ended: all of them. If memory was refused before the
 -- play, those up to some event, or none. `told` says of placings that notifiers were told of
 -- these, in this order, and of no other.
-abbrev pub TellsPlacings : (List Notice → Type 0) → BoardSeen → ℕ → List Event → PlayedEnd → Type 0
-TellsPlacings told b vectors es (ends.NoMemory wants.Making) =
-    TellsUpTo told b vectors es ⊎ told []
+abbrev pub TellsPlacings : (List Notice → Type 0) → BoardSeen → ℕ → List Event
+    → Result Unit PlayFailed → Type 0
+TellsPlacings told b vectors es (Err fails.NoMemory) = TellsUpTo told b vectors es ⊎ told []
 TellsPlacings told b vectors es end = told (placings_after b vectors es)
 
 -- what the play of these events comes to: what it answers and prints, for which runs handlers were
 -- called, and of which placings notifiers were told
 pub record HotplugsBoard (b : BoardSeen) (vectors : ℕ) (es : List Event)
     (heard : List Run → Type 0) (told : List Notice → Type 0) (reports : List LineReport)
-    (before now : Option (List ℕ)) (end : PlayedEnd) : Type 0 where
+    (before now : Option (List ℕ)) (end : Result Unit PlayFailed) : Type 0 where
   pub plays : PlaysPlan b vectors es heard reports before now end
   pub placings : TellsPlacings told b vectors es end
 
@@ -105,25 +102,3 @@ pub record IsPlanOf (b : BoardSeen) (vectors : ℕ) (es : List Event) (f : Fleet
   pub fits : IsForHotplug b
   pub fleet : f ≡ fleet_after b vectors es
   pub longer_is : longer ≡ planned b f
-
--- what is seen of a planned board that was played: the lines, the longer board, its system, and how
--- the play ended
-pub record PlugPlaySeen : Type 0 where
-  pub fleet : FleetSeen
-  pub board : BoardSeen
-  pub system : SystemSeen
-  pub end : PlayEnd
-
--- if a step was refused memory, which step it was; `may_want` says for which entry that is due a
--- line may want memory though there is room
-abbrev pub HandsOutStep : (Option Entry → Type 0) → BoardSeen → List Move → PlayEnd
-    → List LineReport → Type 0
-HandsOutStep may_want longer moves plays.NoMemory reports =
-    RefusedStep may_want longer moves reports
-HandsOutStep may_want longer moves end reports = Unit {0}
-
--- what the reports hand out, whichever board and events it is of
-abbrev pub HandsOutPlan : FleetSeen → BoardSeen → List Move → PlayEnd → List LineReport → Type 0
-HandsOutPlan f longer moves end reports =
-    (b : BoardSeen) (vectors : ℕ) (es : List Event) → IsPlanOf b vectors es f longer
-    → HotplugHandsOut b vectors es moves end reports

@@ -5,7 +5,7 @@ use Rattle.std.specs.List.{flat_map}
 use Rattle.board_def.specs.Seen.{BoardSeen}
 use Rattle.board_play.specs.Lines.{Move}
 use Rattle.log_text.specs.LayoutRows.{layout_rows}
-use Rattle.irq_play.specs.Report.{moves_text}
+use Rattle.play_report.specs.Report.{moves_text}
 use Rattle.irq_hotplug.specs.declared.rows.FleetRow.{FleetRow}
 use Rattle.hotplug_rows.specs.Texts.{row_text}
 

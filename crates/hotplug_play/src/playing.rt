@@ -3,13 +3,13 @@ ghost use Rattle.std.specs.Prelude.{◌≡◌, ◌≤◌, ℕ, [], List, IfOk, O
 ghost use Rattle.board_def.specs.Seen.{BoardSeen};
 ghost use Rattle.callbacks.specs.Heard.{Heard};
 ghost use Rattle.irq_io.specs.Faults.{Counts};
-ghost use Rattle.irq_play.specs.Ends.{is_printing, is_write_fault};
 ghost use Rattle.irq_play.specs.Played.{TellsStep};
 ghost use Rattle.notifiers.specs.Told.{Told};
 ghost use Rattle.irq_hotplug.specs.declared.events.Event.{Event};
 ghost use Rattle.hotplug_plan.specs.Planned.{IsForHotplug};
 ghost use Rattle.hotplug_play.specs.Played.{HotplugsBoard, IsPlanOf, PlaysPlan};
 ghost use Rattle.hotplug_play.specs.Played.{planned_after};
+ghost use Rattle.play_report.specs.Failing.{is_printing, is_write_fault};
 
 use crate::ended::PlugPlay;
 use crate::planning::{Plan, make_plan};
@@ -19,10 +19,10 @@ use hotplug_plan::fits_hotplug;
 use irq_base::NoMemory;
 use irq_hotplug::Event;
 use irq_io::Sink;
-use irq_play::{PlayedBoard, PlayedEnd, PlayedSystem, play_system, unplayed};
+use irq_play::play_system;
 use line_makers::MakesDomainLine;
 use notifiers::Notifier;
-use play_report::report;
+use play_report::{PlayedBoard, report, unplayed};
 use std::alloc::Global;
 
 /// The lines of the board can't be placed and moved.
@@ -58,7 +58,7 @@ pub fn hotplug_and_print<O: Sink, M: MakesDomainLine, H: Handler, N: Notifier>(
         (O.written out.old) (O.written out.new) p.end) }
     ensures step { IfOk result (λ p. TellsStep M.Line.may_want
         (planned_after board vectors events.now) p.reports.reports p.end) }
-    ensures emptied { IfOk result (λ p. p.end ≡ PlayedEnd.Done → O.kept out.new ≡ []) }
+    ensures emptied { IfOk result (λ p. OnOk p.end (O.kept out.new ≡ [])) }
     ensures write_fault { IfOk result (λ p. Counts (O.faults out.old) (O.faults out.new)
         (is_write_fault p.end)) }
     ensures silent { IfOk result (λ p. is_printing p.end ≡ false → out.new ≡ out.old) }
@@ -87,14 +87,12 @@ fn play_plan<O: Sink, M: MakesDomainLine, H: Handler>(
     ensures step { (b : BoardSeen) (vectors : ℕ) (es : List Event)
         → IsPlanOf b vectors es plan.now.fleet plan.now.board
         → TellsStep M.Line.may_want (planned_after b vectors es) result.reports.reports result.end }
-    ensures emptied { result.end ≡ PlayedEnd.Done → O.kept out.new ≡ [] }
+    ensures emptied { OnOk result.end (O.kept out.new ≡ []) }
     ensures write_fault { Counts (O.faults out.old) (O.faults out.new) (is_write_fault result.end) }
     ensures silent { is_printing result.end ≡ false → out.new ≡ out.old }
 {
     match play_system(alloc, &plan.board, maker, handlers) {
-        Ok(PlayedSystem { system, end, room }) => {
-            report(&plan.board, PlugPlay { plan, system, end }, room, out)
-        }
+        Ok((play, room)) => report(&plan.board, PlugPlay { plan, play }, room, out),
         Err(NoMemory) => unplayed(alloc),
     }
 }

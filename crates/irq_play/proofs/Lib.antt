@@ -1,6 +1,6 @@
 mod Turned
 mod Others
-pub mod Parts
+mod Parts
 mod Printable
-pub mod RowByRow
-pub mod Finished
+mod Finished
+pub mod Told

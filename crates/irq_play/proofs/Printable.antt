@@ -10,7 +10,7 @@ use Rattle.board_play.specs.Play.{IsChosen}
 use Rattle.board_play.proofs.Moves.{moves_on, choice_is}
 use Rattle.board_play.proofs.Parts.{due_of}
 use Rattle.board_report.proofs.Printable.{printable, turned}
-use Rattle.irq_play.specs.Printing.{HasRow}
+use Rattle.play_report.specs.Printing.{HasRow}
 
 chosen_printable : (b : BoardSeen) (picks : List Actor) (g : List Move) (left : List Actor) → IsChosen b picks g left → All HasRow g
 chosen_printable b picks [] left chosen = All-nil HasRow

@@ -2,7 +2,8 @@
 -- and of the reports that hand them out. What holds of one line is board_report's headline; here
 -- stands whose play it is. The moves of a play and the entries of a history stand oldest first
 -- here; `Plays` has the newest move first.
-use Rattle.std.specs.Prelude.{◌≡◌, ℕ, IsSome, Option, List, [], length, map, reverse}
+use Rattle.std.specs.Prelude.{◌≡◌, ℕ, IsSome, Option, Result, Ok, Err, List, [], length, map}
+use Rattle.std.specs.Prelude.{reverse}
 use Rattle.irq_base.specs.declared.entries.Actor.{Actor}
 use Rattle.irq_base.specs.declared.entries.Entry.{Entry}
 use Rattle.irq_base.specs.declared.numbers.LineNo.{LineNo}
@@ -16,6 +17,8 @@ use Rattle.board_play.specs.Play.{Done, Full, IsChosen, Plays, choice}
 use Rattle.board_report.specs.Headline.{EachMapped, EachRefused, IsAmple, KeepsLaws, LineHeadline}
 use Rattle.board_report.specs.Headline.{LineHistory, told_by}
 use Rattle.board_report.specs.Reporting.{IsHandedRoom}
+use Rattle.irq_line.specs.declared.answers.StepRefused.{StepRefused}
+use Rattle.irq_line.specs.declared.answers.StepRefused.TheVariants as refusals
 
 -- the line's number, with its entries among the moves
 abbrev pub history_of : List Move → LineRow → LineHistory
@@ -57,6 +60,12 @@ pub record CutShort (b : BoardSeen) (g : List Move) (reports : List LineReport) 
   pub handed_out : map told_by reports ≡ histories_of b g
   pub mapped : EachMapped b (λ row. KeepsLaws (line_of_row b row) (part row.line g))
   pub refused : EachRefused b (λ row. part row.line g ≡ [])
+
+-- what the reports hand out, by how the play ended: one of these three
+abbrev pub HandsOut : BoardSeen → List Move → Result Unit StepRefused → List LineReport → Type 0
+HandsOut b g (Ok _) reports = Headline b g reports
+HandsOut b g (Err (refusals.Full line len)) reports = FullLog b g reports line len
+HandsOut b g (Err refusals.NoMemory) reports = CutShort b g reports
 
 -- The step that was refused memory: whose it was, and on which line. If there was room for one more
 -- entry, in the history that is handed out for the line and in the log, then the line may want

@@ -1,15 +1,12 @@
 -- A play by an order that has ended, and what its reports hand out.
-use Rattle.std.proofs.Common.{◌≡◌, ℕ, IsSome, Option, Some, List, length, reverse, refl, sym, ap, ◌∙◌, subst}
-use Rattle.irq_base.specs.declared.devices.Run.{Run}
+use Rattle.std.proofs.Common.{◌≡◌, ℕ, IsSome, Option, Some, List, length, reverse, refl, sym, ap, ◌∙◌, subst, Result, Ok, Err}
+use Rattle.irq_line.specs.declared.answers.StepRefused.TheVariants as refusals
+use Rattle.irq_line.specs.declared.answers.StepRefused.{StepRefused}
 use Rattle.irq_base.specs.declared.entries.Entry.{Entry}
 use Rattle.irq_base.specs.declared.numbers.LineNo.{LineNo}
 use Rattle.irq_base.specs.declared.reporting.LineReport.{LineReport}
 use Rattle.irq_model.specs.Next.{next_past}
-use Rattle.irq_io.specs.declared.whole.WriteEnd.{WriteEnd}
-use Rattle.irq_io.specs.declared.whole.WriteEnd.TheVariants as writes
 use Rattle.board_core.specs.Turns.{HasLength}
-use Rattle.board_core.specs.declared.turns.PlayEnd.{PlayEnd}
-use Rattle.board_core.specs.declared.turns.PlayEnd.TheVariants as plays
 use Rattle.board_def.specs.Seen.{BoardSeen}
 use Rattle.board_play.specs.Lines.{BoardLine, defs_of, find_line, part}
 use Rattle.board_play.specs.Order.{due_on, move_on}
@@ -19,12 +16,7 @@ use Rattle.board_play.proofs.Members.{find_there, past_at}
 use Rattle.board_report.specs.Headline.{FullLog, Headline, SoFar}
 use Rattle.board_report.specs.Moving.{AreAtRest, HasNoRoom}
 use Rattle.board_report.specs.Reporting.{entries_in}
-use Rattle.irq_play.specs.Ends.{end_of_writing}
-use Rattle.irq_play.specs.declared.ending.PlayedEnd.{PlayedEnd}
-use Rattle.irq_play.specs.declared.ending.PlayedEnd.TheVariants as ends
-use Rattle.irq_play.specs.declared.ending.WantedFor.TheVariants as wants
 use Rattle.play_orders.specs.Orders.{IsPlayed, Order, moves_in}
-use Rattle.play_report.specs.Answers.{Answers, AnswersOfSome, IsPrinted}
 use Rattle.play_report.specs.Ordered.{HandsOut, lines_after}
 use Rattle.play_report.proofs.Scenario.{IsEnd, IsScenario}
 
@@ -58,47 +50,11 @@ module _ {S E : Type 0} (b : BoardSeen) (o : Order S E) (first : S) (Keeps : Lis
 
   -- the reports of the lines as the play left them hand it out
   pub handed_out : (lines : List BoardLine) → lines ≡ lines_after b o g → (reports : List LineReport) → Reported b lines reports
-      → (end : PlayEnd) → IsEnd b o first g end → HandsOut b o first Keeps g end reports
+      → (end : Result Unit StepRefused) → IsEnd b o first g end → HandsOut b o first Keeps g end reports
   handed_out lines are reports told end is = by_end end is (subst (λ (ls : List BoardLine). Reported b ls reports) are told)
     where
-      by_end : (end : PlayEnd) → IsEnd b o first g end → Reported b (lines_after b o g) reports → HandsOut b o first Keeps g end reports
-      by_end plays.Done p r = record { play = p; keeps = s.keeps p.0 p.1; lines = r.done (s.rests p) }
-      by_end (plays.Full line len) p r =
+      by_end : (end : Result Unit StepRefused) → IsEnd b o first g end → Reported b (lines_after b o g) reports → HandsOut b o first Keeps g end reports
+      by_end (Ok _) p r = record { play = p; keeps = s.keeps p.0 p.1; lines = r.done (s.rests p) }
+      by_end (Err (refusals.Full line len)) p r =
           record { play = p.0; keeps = s.keeps p.0.0 p.0.1; lines = r.full line len (no_room line len p.0 p.1) }
-      by_end plays.NoMemory p r = record { at = p.0; so_far = p.1; further = p.2; keeps = s.keeps p.0 p.1; lines = r.so_far }
-
--- ---- what is answered
-
--- how the printing ended is how it all did
-pub printed : (text : List ℕ) (HandsOut : PlayEnd → List LineReport → Type 0) (reports : List LineReport) (before now : Option (List ℕ))
-    (end : WriteEnd) → IsPrinted text HandsOut reports before now end → Answers text HandsOut reports before now (end_of_writing end)
-printed text HandsOut reports before now writes.Done h = h
-printed text HandsOut reports before now writes.Failed h = h
-
--- the same of another that prints the same, and hands out as much
-pub answers_as : (text other : List ℕ) (HandsOut Others : PlayEnd → List LineReport → Type 0) → text ≡ other
-    → ((end : PlayEnd) (reports : List LineReport) → HandsOut end reports → Others end reports) → (reports : List LineReport)
-    (before now : Option (List ℕ)) (end : PlayedEnd) → Answers text HandsOut reports before now end → Answers other Others reports before now end
-answers_as text other HandsOut Others same more reports before now end h =
-    subst (λ (t : List ℕ). Answers t Others reports before now end) same (by_end end h)
-  where
-    by_end : (end : PlayedEnd) → Answers text HandsOut reports before now end → Answers text Others reports before now end
-    by_end ends.Done h = record { handed_out = more plays.Done reports h.handed_out; prints = h.prints }
-    by_end ends.WriteFault h = record { handed_out = more plays.Done reports h.handed_out; prints = h.prints }
-    by_end (ends.LogFull line len) h = more (plays.Full line len) reports h
-    by_end (ends.NoMemory wants.Step) h = more plays.NoMemory reports h
-    by_end (ends.NoMemory wants.Making) h = h
-
--- a play with this log is one with some log
-pub of_some : {E : Type 0} (text : List E → List ℕ) (HandsOut : List E → PlayEnd → List LineReport → Type 0) (runs : List E → List Run)
-    (heard : List Run → Type 0) (log : List E) (reports : List LineReport) (before now : Option (List ℕ)) (end : PlayedEnd)
-    → Answers (text log) (HandsOut log) reports before now end → heard (runs log) → AnswersOfSome text HandsOut runs heard reports before now end
-of_some text HandsOut runs heard log reports before now ends.Done h called = (log, h, called)
-of_some text HandsOut runs heard log reports before now ends.WriteFault h called = (log, h, called)
-of_some text HandsOut runs heard log reports before now (ends.LogFull line len) h called = (log, h, called)
-of_some text HandsOut runs heard log reports before now (ends.NoMemory wants.Step) h called = (log, h, called)
-of_some text HandsOut runs heard log reports before now (ends.NoMemory wants.Making) h called = absurd h
-
--- a play that was refused memory before its first step isn't done
-pub not_done : (end : PlayedEnd) → end ≡ ends.NoMemory wants.Making → end ≡ ends.Done → ⊥
-not_done end made done = cc
+      by_end (Err refusals.NoMemory) p r = record { at = p.0; so_far = p.1; further = p.2; keeps = s.keeps p.0 p.1; lines = r.so_far }

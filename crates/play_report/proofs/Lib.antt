@@ -1,2 +1,4 @@
+pub mod RowByRow
 pub mod Scenario
 pub mod Handed
+pub mod Answered

@@ -1,3 +1,5 @@
+pub mod Failing
 pub mod Ordered
 pub mod Answers
-pub mod Rows
+pub mod Printing
+pub mod Report

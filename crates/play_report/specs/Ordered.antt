@@ -1,10 +1,10 @@
 -- What holds of a board's play by a stated order, and of the reports that hand it out. The steps of
 -- a log stand oldest first here; the play's definitions have the newest first.
-use Rattle.std.specs.Prelude.{ℕ, IsSome, List, reverse}
+use Rattle.std.specs.Prelude.{ℕ, IsSome, List, Result, Ok, Err, reverse}
 use Rattle.irq_base.specs.declared.numbers.LineNo.{LineNo}
 use Rattle.irq_base.specs.declared.reporting.LineReport.{LineReport}
-use Rattle.board_core.specs.declared.turns.PlayEnd.{PlayEnd}
-use Rattle.board_core.specs.declared.turns.PlayEnd.TheVariants as plays
+use Rattle.irq_line.specs.declared.answers.StepRefused.{StepRefused}
+use Rattle.irq_line.specs.declared.answers.StepRefused.TheVariants as refusals
 use Rattle.board_def.specs.Seen.{BoardSeen}
 use Rattle.board_play.specs.Lines.{BoardLine, lines_of}
 use Rattle.board_play.specs.Play.{Done, Full}
@@ -48,7 +48,7 @@ module _ {S E : Type 0} (b : BoardSeen) (o : Order S E) where
       pub lines : SoFar b (entries_of g) reports
 
     -- what the reports hand out, by how the play ended
-    abbrev pub HandsOut : List E → PlayEnd → List LineReport → Type 0
-    HandsOut g plays.Done reports = IsDone g reports
-    HandsOut g (plays.Full line len) reports = IsFull g reports line len
-    HandsOut g plays.NoMemory reports = IsCut g reports
+    abbrev pub HandsOut : List E → Result Unit StepRefused → List LineReport → Type 0
+    HandsOut g (Ok _) reports = IsDone g reports
+    HandsOut g (Err (refusals.Full line len)) reports = IsFull g reports line len
+    HandsOut g (Err refusals.NoMemory) reports = IsCut g reports

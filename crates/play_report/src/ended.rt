@@ -1,27 +1,36 @@
 //! A play that has ended, printed and handed out.
-ghost use Rattle.std.specs.Prelude.{◌≡◌, ◌++◌, [], false, length};
+ghost use Rattle.std.specs.Prelude.{◌≡◌, ◌++◌, [], OnOk, false, length};
 ghost use Rattle.board_report.specs.Reporting.{HasRoom};
 ghost use Rattle.irq_io.specs.Faults.{Counts};
-ghost use Rattle.irq_io.specs.Whole.{KeepsNone, WritesAll, writing_failed};
-ghost use Rattle.irq_play.specs.Ends.{is_printing, is_write_fault};
 ghost use Rattle.log_text.specs.LayoutRows.{layout_rows};
-ghost use Rattle.play_report.specs.Answers.{Answers};
+ghost use Rattle.play_report.specs.Answers.{Answers, Prints};
+ghost use Rattle.play_report.specs.Failing.{is_printing, is_write_fault};
 
-use board_core::PlayEnd;
+use crate::failing::PlayFailed;
 use board_def::{Board, Layout};
 use board_report::{ReportRoom, hand_on, print_layout};
 use irq_base::Reports;
-use irq_io::{Sink, WriteEnd};
-use irq_play::{PlayedBoard, PlayedEnd, WantedFor};
+use irq_io::{Sink, WriteFailed};
+use irq_line::StepRefused;
+use std::alloc::Global;
 use text_row::TextRow;
+
+/// The result of a board's play: how it ended, and the histories that were taken out of the lines.
+#[derive(Drop)]
+pub struct PlayedBoard {
+    /// How the play and its printing ended.
+    pub end: Result<(), PlayFailed>,
+    /// One report for each line of the board, in its order; none if there was no memory to begin.
+    pub reports: Reports,
+}
 
 /// A board's play that has ended.
 pub trait EndedPlay {
-    ghost use Rattle.std.specs.Prelude.{◌≡◌, ℕ, List, length};
+    ghost use Rattle.std.specs.Prelude.{◌≡◌, ℕ, List, Result, length};
     ghost use Rattle.irq_base.specs.declared.reporting.LineReport.{LineReport};
     ghost use Rattle.irq_io.specs.Faults.{Counts};
     ghost use Rattle.irq_io.specs.Whole.{WritesAll, writing_failed};
-    ghost use Rattle.board_core.specs.declared.turns.PlayEnd.{PlayEnd};
+    ghost use Rattle.irq_line.specs.declared.answers.StepRefused.{StepRefused};
     ghost use Rattle.board_def.specs.Layout.{layout_of};
     ghost use Rattle.board_def.specs.Seen.{BoardSeen};
     ghost use Rattle.board_report.specs.Reporting.{HasRoom};
@@ -30,16 +39,16 @@ pub trait EndedPlay {
     ghost board_of: { Self → BoardSeen };
 
     /// How the play ended.
-    ghost ended: { Self → PlayEnd };
+    ghost ended: { Self → Result Unit StepRefused };
 
     /// What is printed of it after the layout.
     ghost text: { Self → List ℕ };
 
     /// What reports hand out of it, by how it ended.
-    ghost hands_out: { Self → PlayEnd → List LineReport → Type 0 };
+    ghost hands_out: { Self → Result Unit StepRefused → List LineReport → Type 0 };
 
-    /// How the play ended.
-    fn end(&self) -> PlayEnd
+    /// How the play ended. The only error is that of the step that was refused.
+    fn end(&self) -> Result<(), StepRefused>
         ensures { result ≡ ended self.now };
 
     /// The board's layout.
@@ -47,8 +56,8 @@ pub trait EndedPlay {
         ensures { result.now ≡ layout_of (board_of self.now) };
 
     /// Prints the rows of a play that came to its end.
-    fn print<O: Sink>(&self, out: &mut O) -> WriteEnd
-        requires { ended self.now ≡ PlayEnd.Done }
+    fn print<O: Sink>(&self, out: &mut O) -> Result<(), WriteFailed>
+        requires { ended self.now ≡ Ok tt }
         ensures content { WritesAll (O.written out.old) (O.written out.new) (text self.now) result }
         ensures cause { Counts (O.faults out.old) (O.faults out.new) (writing_failed result) };
 
@@ -70,35 +79,43 @@ pub fn report<O: Sink, P: EndedPlay>(
     requires room { HasRoom (length board.now.lines) room }
     ensures plays { Answers (layout_rows board.now ++ P.text play) (P.hands_out play)
         result.reports.reports (O.written out.old) (O.written out.new) result.end }
-    ensures emptied { result.end ≡ PlayedEnd.Done → O.kept out.new ≡ [] }
+    ensures emptied { OnOk result.end (O.kept out.new ≡ []) }
     ensures write_fault { Counts (O.faults out.old) (O.faults out.new) (is_write_fault result.end) }
     ensures silent { is_printing result.end ≡ false → out.new ≡ out.old }
 {
-    let end = match play.end() {
-        PlayEnd::Done => PlayedEnd::from(write_play(board, &play, out)),
-        PlayEnd::Full { line, len } => PlayedEnd::LogFull { line, len },
-        PlayEnd::NoMemory => PlayedEnd::NoMemory(WantedFor::Step),
-    };
+    let end = print_ended(board, &play, out);
     let reports = play.hand_out(board, room);
     PlayedBoard { end, reports }
 }
 
-/// Prints the layout and the rows of a play that came to its end, and has them handed on.
-fn write_play<O: Sink, P: EndedPlay>(board: &Board, play: &P, out: &mut O) -> WriteEnd
-    requires board { P.board_of play.now ≡ board.now }
-    requires done { P.ended play.now ≡ PlayEnd.Done }
-    ensures content { WritesAll (O.written out.old) (O.written out.new)
-        (layout_rows board.now ++ P.text play.now) result }
-    ensures emptied { KeepsNone (O.kept out.new) result }
-    ensures cause { Counts (O.faults out.old) (O.faults out.new) (writing_failed result) }
+/// Prints the layout and the rows of a play, if it came to its end, and has them handed on.
+fn print_ended<O: Sink, P: EndedPlay>(
+    board: &Board,
+    play: &P,
+    out: &mut O,
+) -> Result<(), PlayFailed>
+    requires { P.board_of play.now ≡ board.now }
+    ensures prints { Prints (layout_rows board.now ++ P.text play.now) (P.ended play.now)
+        (O.written out.old) (O.written out.new) result }
+    ensures emptied { OnOk result (O.kept out.new ≡ []) }
+    ensures write_fault { Counts (O.faults out.old) (O.faults out.new) (is_write_fault result) }
+    ensures silent { is_printing result ≡ false → out.new ≡ out.old }
 {
+    play.end()?;
     let mut row = TextRow::new();
-    match print_layout(out, &mut row, board, play.layout()) {
-        WriteEnd::Done => {}
-        WriteEnd::Failed => return WriteEnd::Failed,
-    }
-    match play.print(out) {
-        WriteEnd::Done => hand_on(out),
-        WriteEnd::Failed => WriteEnd::Failed,
+    print_layout(out, &mut row, board, play.layout())?;
+    play.print(out)?;
+    hand_on(out)?;
+    Ok(())
+}
+
+/// The result of a play that was refused memory before its first step.
+pub fn unplayed(alloc: Global) -> PlayedBoard
+    ensures end { result.end ≡ Err PlayFailed.NoMemory }
+    ensures reports { result.reports.reports ≡ [] }
+{
+    PlayedBoard {
+        end: Err(PlayFailed::NoMemory),
+        reports: Reports::new(alloc),
     }
 }

@@ -3,11 +3,32 @@ ghost use Rattle.std.specs.Prelude.{All};
 ghost use Rattle.std.specs.List.{flat_map};
 ghost use Rattle.irq_io.specs.Faults.{Counts};
 ghost use Rattle.irq_io.specs.Whole.{WritesAll, writing_failed};
-ghost use Rattle.play_report.specs.Rows.{HasRow};
+ghost use Rattle.play_report.specs.Printing.{HasRow, StepHasRow};
+ghost use Rattle.play_report.specs.Report.{moves_text};
 
-use irq_io::{Sink, WriteEnd, write_all};
+use board_core::Moves;
+use irq_io::{Sink, WriteFailed, write_all};
+use irq_line::IrqLine;
 use kept_rows::KeptRows;
 use text_row::TextRow;
+
+/// Prints the rows of the moves that are left, the oldest first.
+pub fn print_moves<O: Sink, L: IrqLine>(
+    out: &mut O,
+    moves: &mut Moves<'_, L>,
+) -> Result<(), WriteFailed>
+    requires { All HasRow moves.old }
+    ensures content { WritesAll (O.written out.old) (O.written out.new)
+        (moves_text moves.old) result }
+    ensures cause { Counts (O.faults out.old) (O.faults out.new) (writing_failed result) }
+{
+    let mut rows = KeptRows::new();
+    while let Some(at) = moves.next_place() {
+        let row = rows.row_at(at.line, at.history, at.place);
+        write_all(out, row)?;
+    }
+    Ok(())
+}
 
 /// Where rows are made, and kept.
 #[derive(Drop)]
@@ -32,7 +53,7 @@ impl RowRoom {
 pub trait StepRows {
     ghost use Rattle.std.specs.Prelude.{◌≡◌, ℕ, Option, List, drop, slice_get};
     ghost use Rattle.board_play.specs.Lines.{Move};
-    ghost use Rattle.play_report.specs.Rows.{HasRow};
+    ghost use Rattle.play_report.specs.Printing.{StepHasRow};
 
     /// A step.
     type Step;
@@ -53,23 +74,20 @@ pub trait StepRows {
 
     /// The row of a step; `room` is lent for it.
     fn row_of<'r>(room: &'r mut RowRoom, step: Self::Step) -> &'r [u8]
-        requires { HasRow told step }
+        requires { StepHasRow told step }
         ensures { result.now ≡ text step };
 }
 
 /// Prints the rows of the steps that are left, the oldest first.
-pub fn print_rows<O: Sink, R: StepRows>(out: &mut O, steps: &mut R) -> WriteEnd
-    requires { All (HasRow R.told) (R.left steps.old) }
+pub fn print_rows<O: Sink, R: StepRows>(out: &mut O, steps: &mut R) -> Result<(), WriteFailed>
+    requires { All (StepHasRow R.told) (R.left steps.old) }
     ensures content { WritesAll (O.written out.old) (O.written out.new)
         (flat_map R.text (R.left steps.old)) result }
     ensures cause { Counts (O.faults out.old) (O.faults out.new) (writing_failed result) }
 {
     let mut room = RowRoom::new();
     while let Some(step) = steps.next() {
-        match write_all(out, R::row_of(&mut room, step)) {
-            WriteEnd::Done => {}
-            WriteEnd::Failed => return WriteEnd::Failed,
-        }
+        write_all(out, R::row_of(&mut room, step))?;
     }
-    WriteEnd::Done
+    Ok(())
 }

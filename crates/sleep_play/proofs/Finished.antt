@@ -1,5 +1,5 @@
 -- A sleeper whose play has ended, and what its reports hand out.
-use Rattle.std.proofs.Common.{◌≡◌, ◌++◌, ◌≤◌, ℕ, Bool, true, false, not, ◌&&◌, All, IsSome, Option, Some, None, List, length}
+use Rattle.std.proofs.Common.{◌≡◌, ◌++◌, ◌≤◌, ℕ, Bool, true, false, not, ◌&&◌, All, IsSome, Option, Some, None, List, length, Result, Ok, Err}
 use Rattle.std.proofs.Common.{reverse, slice_get, refl, sym, ap, ◌∙◌, subst}
 use Rattle.std.proofs.lemmas.Bool.{and_parts}
 use Rattle.std.proofs.lemmas.List.{reverse-reverse}
@@ -8,6 +8,8 @@ use Rattle.irq_base.specs.declared.entries.Entry.{Entry}
 use Rattle.irq_base.specs.declared.numbers.LineNo.{LineNo}
 use Rattle.irq_base.specs.declared.reporting.LineReport.{LineReport}
 use Rattle.irq_line.specs.Seen.{LineSeen}
+use Rattle.irq_line.specs.declared.answers.StepRefused.{StepRefused}
+use Rattle.irq_line.specs.declared.answers.StepRefused.TheVariants as refusals
 use Rattle.domain_rules.specs.Layout.{is_mapped}
 use Rattle.domain_rules.specs.declared.layouts.Placement.{Placement}
 use Rattle.domain_rules.specs.declared.layouts.Placement.TheVariants as placements
@@ -19,8 +21,6 @@ use Rattle.board_driver.specs.Longer.{last_driver}
 use Rattle.board_core.specs.Runs.{runs_of}
 use Rattle.board_core.specs.Seen.{board_lines}
 use Rattle.board_core.specs.Wanted.{HasSpare}
-use Rattle.board_core.specs.declared.turns.PlayEnd.{PlayEnd}
-use Rattle.board_core.specs.declared.turns.PlayEnd.TheVariants as plays
 use Rattle.board_play.specs.Kept.{AreKept}
 use Rattle.board_play.specs.Lines.{BoardLine, Move, defs_of, lines_of, part}
 use Rattle.board_play.specs.Order.{actors_of}
@@ -31,15 +31,15 @@ use Rattle.board_report.specs.Moving.{AreAtRest}
 use Rattle.board_report.specs.Reporting.{IsHandedRoom, KeepRoom, entries_in}
 use Rattle.board_report.proofs.Laid.{its_entries, line_laid}
 use Rattle.play_orders.specs.Orders.{IsMade, Order}
-use Rattle.irq_play.specs.declared.ending.PlayedEnd.{PlayedEnd}
-use Rattle.irq_play.specs.declared.ending.PlayedEnd.TheVariants as ends
-use Rattle.irq_play.specs.declared.ending.WantedFor.TheVariants as wants
 use Rattle.log_text.specs.LayoutRows.{layout_rows}
-use Rattle.play_report.specs.Answers.{Answers}
+use Rattle.play_report.specs.Answers.{Answers, HandsOutStep}
+use Rattle.play_report.specs.declared.failing.PlayFailed.{PlayFailed}
+use Rattle.play_report.proofs.Answered as answered
+use Rattle.play_report.proofs.Answered.{answers_as, of_some, with_step, without_step}
 use Rattle.play_report.specs.Ordered.{lines_after}
-use Rattle.play_report.proofs.Handed.{Reported, answers_as, handed_out, of_some}
+use Rattle.play_report.proofs.Handed.{Reported, handed_out}
 use Rattle.play_report.proofs.Scenario.{IsEnd, IsScenario, log_has_rows}
-use Rattle.play_report.specs.Rows.{HasRow}
+use Rattle.play_report.specs.Printing.{StepHasRow}
 use Rattle.irq_pm.specs.Phases.{Next, Phase, Picking, sleep_next, sleep_order}
 use Rattle.irq_pm.specs.SleepLog.{moves_of, told}
 use Rattle.irq_pm.specs.Slept.{Sleeps, SleepsThrough}
@@ -51,12 +51,12 @@ use Rattle.irq_sleeper.specs.Seen.{SleeperSeen, log_of}
 use Rattle.irq_sleeper.specs.Steps.{IsSleep, IsTold}
 use Rattle.irq_sleeper.specs.Wanted.{PlayWants, WantsNext}
 use Rattle.sleep_play.specs.Headline.{KeepsSleep, RefusedStep, SleepCut, SleepHandsOut}
-use Rattle.sleep_play.specs.Played.{HandsOutSleep, HandsOutStep, IsSleepOf, SleepsBoard, TellsStep, runs_of_steps}
+use Rattle.sleep_play.specs.Played.{HandsOutSleep, IsSleepOf, SleepsBoard, TellsStep, runs_of_steps}
 use Rattle.sleep_play.specs.Rows.{log_text, sleep_text}
 use Rattle.sleep_play.proofs.Moved.{moves_due}
 
 -- each step and mark of a sleep that came to its end has a row
-pub rows_done : (s : SleeperSeen) → IsSleep s s.system.board.picks plays.Done → All (HasRow told) (log_of s)
+pub rows_done : (s : SleeperSeen) → IsSleep s s.system.board.picks (Ok tt) → All (StepHasRow told) (log_of s)
 rows_done s p = log_has_rows s.system.board (sleep_order s.system.board s.watch.armed) (moves_due s.system.board s.watch.armed)
     (Picking s.system.board.picks) (log_of s) p.0 p.1
 
@@ -163,13 +163,13 @@ module _ (b : BoardSeen) (armed : List LineNo) (s : SleeperSeen) (of : IsSleepOf
   of_board : (P : BoardSeen → List LineNo → Type 0) → P s.system.board s.watch.armed → P (slept b) armed
   of_board P p = subst (λ (c : BoardSeen). P c armed) of.longer.slept (subst (P s.system.board) of.watched p)
 
-  as_end : (end : PlayEnd) → IsSleep s s.system.board.picks end → IsEnd (slept b) order (Picking b.picks) (log_of s) end
-  as_end plays.Done p = of_board (λ c a. Sleeps c a c.picks (reverse (log_of s)) Done) p
-  as_end (plays.Full line len) p = (
+  as_end : (end : Result Unit StepRefused) → IsSleep s s.system.board.picks end → IsEnd (slept b) order (Picking b.picks) (log_of s) end
+  as_end (Ok _) p = of_board (λ c a. Sleeps c a c.picks (reverse (log_of s)) Done) p
+  as_end (Err (refusals.Full line len)) p = (
     of_board (λ c a. Sleeps c a c.picks (reverse (log_of s)) (Full line)) p.0,
     ap (λ (ms : List Move). length (part line ms)) (moves_are (slept b) armed (reverse (log_of s)) ∙ t.told) ∙ p.1,
   )
-  as_end plays.NoMemory p =
+  as_end (Err refusals.NoMemory) p =
       let made : IsMade order (Picking b.picks) (reverse (log_of s)) p.0 =
       of_board (λ c a. IsMade (sleep_order c a) (Picking c.picks) (reverse (log_of s)) p.0) p.1 in (
         p.0,
@@ -180,7 +180,7 @@ module _ (b : BoardSeen) (armed : List LineNo) (s : SleeperSeen) (of : IsSleepOf
       )
 
   -- the reports of the lines that were taken out of it
-  pub hands_out : (end : PlayEnd) → IsSleep s s.system.board.picks end → (lines : List LineSeen) → lines ≡ s.system.lines
+  pub hands_out : (end : Result Unit StepRefused) → IsSleep s s.system.board.picks end → (lines : List LineSeen) → lines ≡ s.system.lines
       → (reports : List LineReport) → Reported s.system.board (board_lines lines) reports → SleepHandsOut b armed (log_of s) end reports
   unfolding SleepHandsOut
   hands_out end sleep lines out reports told =
@@ -192,7 +192,7 @@ module _ (b : BoardSeen) (armed : List LineNo) (s : SleeperSeen) (of : IsSleepOf
 module _ (may_want : Option Entry → Type 0) where
   -- by the room that is handed out
   step_done : (b : BoardSeen) (armed : List LineNo) (s : SleeperSeen) → IsSleepOf b armed s → (taken : List LineSeen) → taken ≡ s.system.lines
-      → (reports : List LineReport) → KeepRoom taken reports → PlayWants may_want s s.system.board.picks plays.NoMemory
+      → (reports : List LineReport) → KeepRoom taken reports → PlayWants may_want s s.system.board.picks (Err refusals.NoMemory)
       → RefusedStep may_want b armed (log_of s) reports
   step_done b armed s of taken out reports keep wants =
       let w = subst (λ (c : BoardSeen). WantsNext may_want (HasSpare s.system.lines) c armed c.picks (log_of s)) of.longer.slept
@@ -215,44 +215,35 @@ module _ (may_want : Option Entry → Type 0) where
       spare number (i, report, at, its, room) k x at_x same =
           subst (λ (n : ℕ). 1 ≤ n) (keep k i x report (subst (λ (ls : List LineSeen). slice_get ls k ≡ Some x) (sym out) at_x) at (its ∙ sym same)) room
 
-  pub hands_out_step : (b : BoardSeen) (armed : List LineNo) (s : SleeperSeen) → IsSleepOf b armed s → (end : PlayEnd)
+  pub hands_out_step : (b : BoardSeen) (armed : List LineNo) (s : SleeperSeen) → IsSleepOf b armed s → (end : Result Unit StepRefused)
       → PlayWants may_want s s.system.board.picks end → (taken : List LineSeen) → taken ≡ s.system.lines → (reports : List LineReport)
-      → KeepRoom taken reports → SleepHandsOut b armed (log_of s) end reports → HandsOutStep may_want b armed (log_of s) end reports
-  hands_out_step b armed s of plays.Done wants taken out reports keep h = h
-  hands_out_step b armed s of (plays.Full line len) wants taken out reports keep h = h
-  hands_out_step b armed s of plays.NoMemory wants taken out reports keep h = (h, step_done b armed s of taken out reports keep wants)
-
-  without_step : (b : BoardSeen) (armed : List LineNo) (g : List SleepEntry) (end : PlayEnd) (reports : List LineReport)
-      → HandsOutStep may_want b armed g end reports → SleepHandsOut b armed g end reports
-  without_step b armed g plays.Done reports h = h
-  without_step b armed g (plays.Full line len) reports h = h
-  without_step b armed g plays.NoMemory reports h = h.0
+      → KeepRoom taken reports → SleepHandsOut b armed (log_of s) end reports
+      → HandsOutStep (SleepHandsOut b armed (log_of s)) (RefusedStep may_want b armed (log_of s)) end reports
+  hands_out_step b armed s of end wants taken out reports keep h =
+      with_step (SleepHandsOut b armed (log_of s)) (RefusedStep may_want b armed (log_of s)) end reports h
+      (λ is. step_done b armed s of taken out reports keep (subst (λ (e : Result Unit StepRefused). PlayWants may_want s s.system.board.picks e) is wants))
 
   cut_of : (b : BoardSeen) (armed : List LineNo) (g : List SleepEntry) (reports : List LineReport)
-      → SleepHandsOut b armed g plays.NoMemory reports → SleepCut b armed g reports
+      → SleepHandsOut b armed g (Err refusals.NoMemory) reports → SleepCut b armed g reports
   unfolding SleepHandsOut
   cut_of b armed g reports h = h
 
-  -- what is answered of the longer board tells the step
-  pub tells_step : (b : BoardSeen) (armed : List LineNo) (s : SleeperSeen) → IsSleepOf b armed s → (text : List ℕ) (reports : List LineReport)
-      (before after : Option (List ℕ)) (end : PlayedEnd) → Answers text (HandsOutSleep may_want s) reports before after end
-      → TellsStep may_want b armed reports end
-  tells_step b armed s of text reports before after ends.Done h = tt
-  tells_step b armed s of text reports before after ends.WriteFault h = tt
-  tells_step b armed s of text reports before after (ends.LogFull line len) h = tt
-  tells_step b armed s of text reports before after (ends.NoMemory wants.Step) h =
-      let told = h b armed of in
-      (log_of s, cut_of b armed (log_of s) reports told.0, told.1)
-  tells_step b armed s of text reports before after (ends.NoMemory wants.Making) h = tt
+  module _ (b : BoardSeen) (armed : List LineNo) (s : SleeperSeen) (of : IsSleepOf b armed s) (reports : List LineReport)
+      (before after : Option (List ℕ)) (end : Result Unit PlayFailed) where
+    -- what is answered of the longer board tells the step
+    pub tells_step : (text : List ℕ) → Answers text (HandsOutSleep may_want s) reports before after end → TellsStep may_want b armed reports end
+    tells_step text told =
+        answered.tells_step (SleepCut b armed) (RefusedStep may_want b armed) text (HandsOutSleep may_want s) (log_of s)
+        (λ rs h. let both = h b armed of in (cut_of b armed (log_of s) rs both.0, both.1)) reports before after end told
 
-  -- what is answered of the longer board is answered of the board that sleeps
-  pub answered : (b : BoardSeen) (armed : List LineNo) (heard : List Run → Type 0) (s : SleeperSeen) → IsSleepOf b armed s
-      → (longer : BoardSeen) → s.system.board ≡ longer → (reports : List LineReport) (before after : Option (List ℕ)) (end : PlayedEnd)
-      → Answers (layout_rows longer ++ log_text (log_of s)) (HandsOutSleep may_want s) reports before after end
-      → heard (runs_of longer (moves_of (reverse (log_of s)))) → SleepsBoard b armed heard reports before after end
-  answered b armed heard s of longer same reports before after end told called =
-      of_some (sleep_text b) (SleepHandsOut b armed) (runs_of_steps b) heard (log_of s) reports before after end
-      (answers_as (layout_rows longer ++ log_text (log_of s)) (sleep_text b (log_of s)) (HandsOutSleep may_want s) (SleepHandsOut b armed (log_of s))
-      (ap (λ (x : BoardSeen). sleep_text x (log_of s)) (sym same ∙ of.longer.slept))
-      (λ end rs h. without_step b armed (log_of s) end rs (h b armed of)) reports before after end told)
-      (subst (λ (x : BoardSeen). heard (runs_of x (moves_of (reverse (log_of s))))) (sym same ∙ of.longer.slept) called)
+    -- what is answered of the longer board is answered of the board that sleeps
+    pub sleeps_board : (heard : List Run → Type 0) (longer : BoardSeen) → s.system.board ≡ longer
+        → Answers (layout_rows longer ++ log_text (log_of s)) (HandsOutSleep may_want s) reports before after end
+        → heard (runs_of longer (moves_of (reverse (log_of s)))) → SleepsBoard b armed heard reports before after end
+    sleeps_board heard longer same told called =
+        of_some (sleep_text b) (SleepHandsOut b armed) (runs_of_steps b) heard (log_of s) reports before after end
+        (answers_as (layout_rows longer ++ log_text (log_of s)) (sleep_text b (log_of s)) (HandsOutSleep may_want s) (SleepHandsOut b armed (log_of s))
+        (ap (λ (x : BoardSeen). sleep_text x (log_of s)) (sym same ∙ of.longer.slept))
+        (λ ended rs h. without_step (SleepHandsOut b armed (log_of s)) (RefusedStep may_want b armed (log_of s)) ended rs (h b armed of))
+        reports before after end told)
+        (subst (λ (x : BoardSeen). heard (runs_of x (moves_of (reverse (log_of s))))) (sym same ∙ of.longer.slept) called)

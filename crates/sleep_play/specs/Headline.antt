@@ -1,10 +1,10 @@
 -- What holds of a board's sleep, and of the reports that hand it out. The steps and marks of a log
 -- stand oldest first here; the definition of a sleep has the newest first.
-use Rattle.std.specs.Prelude.{◌≡◌, ℕ, true, Option, List, reverse}
+use Rattle.std.specs.Prelude.{◌≡◌, ℕ, true, Option, Result, List, reverse}
 use Rattle.irq_base.specs.declared.entries.Entry.{Entry}
 use Rattle.irq_base.specs.declared.numbers.LineNo.{LineNo}
 use Rattle.irq_base.specs.declared.reporting.LineReport.{LineReport}
-use Rattle.board_core.specs.declared.turns.PlayEnd.{PlayEnd}
+use Rattle.irq_line.specs.declared.answers.StepRefused.{StepRefused}
 use Rattle.board_def.specs.Seen.{BoardSeen}
 use Rattle.board_play.specs.Lines.{lines_of}
 use Rattle.board_report.specs.Headline.{EachMapped, Histories}
@@ -49,8 +49,8 @@ SleepCut b armed =
     IsCut (slept b) (sleep_order (slept b) armed) (Picking b.picks) (KeepsSleep b armed)
 
 -- what the reports hand out, by how the play ended: one of these three
-unfoldable pub SleepHandsOut : BoardSeen → List LineNo → List SleepEntry → PlayEnd
-    → List LineReport → Type 0
+unfoldable pub SleepHandsOut : BoardSeen → List LineNo → List SleepEntry
+    → Result Unit StepRefused → List LineReport → Type 0
 SleepHandsOut b armed =
     HandsOut (slept b) (sleep_order (slept b) armed) (Picking b.picks) (KeepsSleep b armed)
 

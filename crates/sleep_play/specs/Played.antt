@@ -1,12 +1,11 @@
 -- What a board's sleep answers, and what is printed of it.
-use Rattle.std.specs.Prelude.{◌≡◌, ℕ, true, Option, List, reverse}
+use Rattle.std.specs.Prelude.{◌≡◌, ℕ, true, Option, Result, List, reverse}
 use Rattle.irq_base.specs.declared.devices.Run.{Run}
 use Rattle.irq_base.specs.declared.entries.Entry.{Entry}
 use Rattle.irq_base.specs.declared.numbers.LineNo.{LineNo}
 use Rattle.irq_base.specs.declared.reporting.LineReport.{LineReport}
+use Rattle.irq_line.specs.declared.answers.StepRefused.{StepRefused}
 use Rattle.board_core.specs.Runs.{runs_of}
-use Rattle.board_core.specs.declared.turns.PlayEnd.{PlayEnd}
-use Rattle.board_core.specs.declared.turns.PlayEnd.TheVariants as plays
 use Rattle.board_def.specs.Layout.{layout_of}
 use Rattle.board_def.specs.Rules.{IsBoard}
 use Rattle.board_def.specs.Seen.{BoardSeen}
@@ -14,15 +13,13 @@ use Rattle.board_def.specs.Unnamed.{defs_of}
 use Rattle.board_layout.specs.Laid.{paths_of}
 use Rattle.domain_hier.specs.Hierarchies.{HierarchySeen}
 use Rattle.domain_rules.specs.declared.layouts.Placement.{Placement}
-use Rattle.irq_play.specs.declared.ending.PlayedEnd.{PlayedEnd}
-use Rattle.irq_play.specs.declared.ending.PlayedEnd.TheVariants as ends
-use Rattle.irq_play.specs.declared.ending.WantedFor.TheVariants as wants
 use Rattle.irq_pm.specs.SleepLog.{moves_of}
 use Rattle.irq_pm.specs.SleptBoard.{is_for_sleep, slept}
 use Rattle.irq_pm.specs.declared.entries.SleepEntry.{SleepEntry}
 use Rattle.irq_sleeper.specs.Seen.{SleeperSeen, log_of}
 use Rattle.irq_sleeper.specs.Steps.{IsSleep, IsTold}
-use Rattle.play_report.specs.Answers.{AnswersOfSome}
+use Rattle.play_report.specs.Answers.{AnswersOfSome, HandsOutStep, TellsOfSome}
+use Rattle.play_report.specs.declared.failing.PlayFailed.{PlayFailed}
 use Rattle.sleep_play.specs.Headline.{RefusedStep, SleepCut, SleepHandsOut}
 use Rattle.sleep_play.specs.Rows.{sleep_text}
 
@@ -33,25 +30,23 @@ runs_of_steps b g = runs_of (slept b) (moves_of (reverse g))
 -- What the sleep answers and prints, by how it ended, and for which runs handlers were called;
 -- `heard` says of runs that it is these. Nothing is printed unless the sleep came to its end.
 abbrev pub SleepsBoard : BoardSeen → List LineNo → (List Run → Type 0) → List LineReport
-    → Option (List ℕ) → Option (List ℕ) → PlayedEnd → Type 0
+    → Option (List ℕ) → Option (List ℕ) → Result Unit PlayFailed → Type 0
 SleepsBoard b armed heard =
     AnswersOfSome (sleep_text b) (SleepHandsOut b armed) (runs_of_steps b) heard
 
 -- If a step was refused memory, it is told which step it was; `may_want` says for which entry that
 -- is due a line may want memory though there is room.
 abbrev pub TellsStep : (Option Entry → Type 0) → BoardSeen → List LineNo → List LineReport
-    → PlayedEnd → Type 0
-TellsStep may_want b armed reports (ends.NoMemory wants.Step) =
-    (g : List SleepEntry) × SleepCut b armed g reports × RefusedStep may_want b armed g reports
-TellsStep may_want b armed reports end = Unit {0}
+    → Result Unit PlayFailed → Type 0
+TellsStep may_want b armed = TellsOfSome (SleepCut b armed) (RefusedStep may_want b armed)
 
 -- what is seen of a sleep that has ended
 pub record SleepPlaySeen : Type 0 where
   pub sleeper : SleeperSeen
-  pub end : PlayEnd
+  pub end : Result Unit StepRefused
 
 -- a sleeper in which its board, which has the system's driver, was played, and how the play ended
-pub record IsPlayedSleeper (s : SleeperSeen) (end : PlayEnd) : Type 0 where
+pub record IsPlayedSleeper (s : SleeperSeen) (end : Result Unit StepRefused) : Type 0 where
   pub layout : s.system.layout ≡ layout_of s.system.board
   pub told : IsTold s
   pub sleep : IsSleep s s.system.board.picks end
@@ -73,16 +68,11 @@ pub record IsSleepOf (b : BoardSeen) (armed : List LineNo) (s : SleeperSeen) : T
   pub longer : IsLongerOf b armed s.system.board
   pub watched : s.watch.armed ≡ armed
 
--- what the reports hand out, and of a step that was refused memory which it was
-abbrev pub HandsOutStep : (Option Entry → Type 0) → BoardSeen → List LineNo → List SleepEntry
-    → PlayEnd → List LineReport → Type 0
-HandsOutStep may_want b armed g plays.NoMemory reports =
-    SleepHandsOut b armed g plays.NoMemory reports × RefusedStep may_want b armed g reports
-HandsOutStep may_want b armed g end reports = SleepHandsOut b armed g end reports
-
--- the same, whichever board it is
-abbrev pub HandsOutSleep : (Option Entry → Type 0) → SleeperSeen → PlayEnd → List LineReport
-    → Type 0
+-- what the reports hand out, and of a step that was refused memory which it was, whichever board it
+-- is
+abbrev pub HandsOutSleep : (Option Entry → Type 0) → SleeperSeen → Result Unit StepRefused
+    → List LineReport → Type 0
 HandsOutSleep may_want s end reports =
     (b : BoardSeen) (armed : List LineNo) → IsSleepOf b armed s
-    → HandsOutStep may_want b armed (log_of s) end reports
+    → HandsOutStep (SleepHandsOut b armed (log_of s)) (RefusedStep may_want b armed (log_of s)) end
+    reports

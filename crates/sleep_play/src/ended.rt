@@ -1,13 +1,11 @@
 //! A sleep that has ended.
-ghost use Rattle.board_core.specs.declared.turns.PlayEnd.{PlayEnd};
 
 use crate::printing::SleepRows;
-use board_core::PlayEnd;
 use board_def::{Board, Layout};
 use board_report::{ReportRoom, hand_out};
 use irq_base::Reports;
-use irq_io::{Sink, WriteEnd};
-use irq_line::IrqLine;
+use irq_io::{Sink, WriteFailed};
+use irq_line::{IrqLine, StepRefused};
 use irq_sleeper::Sleeper;
 use play_report::{EndedPlay, print_rows};
 use std::marker::Model;
@@ -16,7 +14,7 @@ use std::marker::Model;
 #[derive(Drop)]
 pub struct SleepPlay<'b, L: IrqLine> {
     pub(crate) sleeper: Sleeper<'b, L>,
-    pub(crate) end: PlayEnd,
+    pub(crate) end: Result<(), StepRefused>,
 }
 
 impl<'b, L: IrqLine> Model for SleepPlay<'b, L> {
@@ -44,7 +42,7 @@ impl<'b, L: IrqLine> EndedPlay for SleepPlay<'b, L> {
 
     ghost hands_out = { λ p. HandsOutSleep L.may_want p.sleeper };
 
-    fn end(&self) -> PlayEnd {
+    fn end(&self) -> Result<(), StepRefused> {
         self.end
     }
 
@@ -52,7 +50,7 @@ impl<'b, L: IrqLine> EndedPlay for SleepPlay<'b, L> {
         self.sleeper.layout()
     }
 
-    fn print<O: Sink>(&self, out: &mut O) -> WriteEnd {
+    fn print<O: Sink>(&self, out: &mut O) -> Result<(), WriteFailed> {
         let steps = self.sleeper.entries();
         print_rows(out, &mut SleepRows { steps })
     }

@@ -1,5 +1,5 @@
 //! Puts a board to sleep, wakes it, and prints it.
-ghost use Rattle.std.specs.Prelude.{◌≡◌, [], IfOk, OnErr, false, length, reverse};
+ghost use Rattle.std.specs.Prelude.{◌≡◌, [], IfOk, OnErr, OnOk, false, length, reverse};
 ghost use Rattle.callbacks.specs.Heard.{Heard};
 ghost use Rattle.board_core.specs.Runs.{runs_of};
 ghost use Rattle.board_core.specs.Making.{MakesAll};
@@ -7,10 +7,10 @@ ghost use Rattle.board_def.specs.Layout.{layout_of};
 ghost use Rattle.board_def.specs.Seen.{BoardSeen};
 ghost use Rattle.board_report.specs.Reporting.{HasRoom};
 ghost use Rattle.irq_io.specs.Faults.{Counts};
-ghost use Rattle.irq_play.specs.Ends.{is_printing, is_write_fault};
 ghost use Rattle.irq_pm.specs.SleepLog.{moves_of};
 ghost use Rattle.irq_pm.specs.SleptBoard.{is_for_sleep};
 ghost use Rattle.irq_sleeper.specs.Seen.{log_of};
+ghost use Rattle.play_report.specs.Failing.{is_printing, is_write_fault};
 ghost use Rattle.sleep_play.specs.Played.{IsLaidOut, IsLongerOf, SleepsBoard, TellsStep};
 
 use crate::ended::SleepPlay;
@@ -22,10 +22,9 @@ use domain_hier::Hierarchy;
 use irq_base::{LineNo, NoMemory};
 use irq_io::Sink;
 use irq_line::{IrqLine, MakesLine};
-use irq_play::{PlayedBoard, PlayedEnd, unplayed};
 use irq_sleeper::Sleeper;
 use line_makers::{MakesDomainLine, OverDomains};
-use play_report::report;
+use play_report::{PlayedBoard, report, unplayed};
 use std::alloc::Global;
 
 /// The board can't sleep with these lines armed.
@@ -54,7 +53,7 @@ pub fn sleep_and_print<O: Sink, M: MakesDomainLine, H: Handler>(
         (O.written out.old) (O.written out.new) p.end) }
     ensures step { IfOk result (λ p.
         TellsStep M.Line.may_want board armed.now p.reports.reports p.end) }
-    ensures emptied { IfOk result (λ p. p.end ≡ PlayedEnd.Done → O.kept out.new ≡ []) }
+    ensures emptied { IfOk result (λ p. OnOk p.end (O.kept out.new ≡ [])) }
     ensures write_fault { IfOk result (λ p. Counts (O.faults out.old) (O.faults out.new)
         (is_write_fault p.end)) }
     ensures silent { IfOk result (λ p. is_printing p.end ≡ false → out.new ≡ out.old) }
@@ -81,7 +80,7 @@ fn play_longer<O: Sink, M: MakesDomainLine, H: Handler>(
         result.reports.reports (O.written out.old) (O.written out.new) result.end }
     ensures step { (b : BoardSeen) → IsLongerOf b armed.now longer.board
         → TellsStep M.Line.may_want b armed.now result.reports.reports result.end }
-    ensures emptied { result.end ≡ PlayedEnd.Done → O.kept out.new ≡ [] }
+    ensures emptied { OnOk result.end (O.kept out.new ≡ []) }
     ensures write_fault { Counts (O.faults out.old) (O.faults out.new) (is_write_fault result.end) }
     ensures silent { is_printing result.end ≡ false → out.new ≡ out.old }
 {
@@ -110,7 +109,7 @@ fn play_laid<O: Sink, M: MakesDomainLine, H: Handler>(
         result.reports.reports (O.written out.old) (O.written out.new) result.end }
     ensures step { (b : BoardSeen) → IsLongerOf b armed.now board.now
         → TellsStep M.Line.may_want b armed.now result.reports.reports result.end }
-    ensures emptied { result.end ≡ PlayedEnd.Done → O.kept out.new ≡ [] }
+    ensures emptied { OnOk result.end (O.kept out.new ≡ []) }
     ensures write_fault { Counts (O.faults out.old) (O.faults out.new) (is_write_fault result.end) }
     ensures silent { is_printing result.end ≡ false → out.new ≡ out.old }
 {

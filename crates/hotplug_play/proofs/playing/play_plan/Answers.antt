@@ -1,29 +1,31 @@
-use Rattle.std.proofs.Common.{List, refl, sym, subst}
+use Rattle.std.proofs.Common.{◌≡◌, List, [], refl}
 use Rattle.irq_base.specs.declared.devices.Run.{Run}
-use Rattle.irq_io.specs.Faults.{Counts}
-use Rattle.irq_play.specs.Ends.{is_write_fault}
-use Rattle.irq_play.specs.declared.ending.PlayedEnd.{PlayedEnd}
 use Rattle.callbacks.specs.Heard.{Heard}
-use Rattle.irq_play.specs.Played.{TellsStep}
-use Rattle.hotplug_play.specs.Played.{PlaysPlan, planned_after}
-use Rattle.play_report.proofs.Handed.{not_done}
-use Rattle.hotplug_play.proofs.Finished.{answered, tells_step}
+use Rattle.irq_hotplug.specs.Fleet.{fleet_after}
+use Rattle.irq_play.specs.Headline.{CutShort, RefusedStep}
+use Rattle.irq_play.specs.Played.{runs_of_moves}
+use Rattle.hotplug_play.specs.Played.{HotplugHandsOut, planned_after}
+use Rattle.hotplug_play.specs.Texts.{hotplug_text}
+use Rattle.play_report.proofs.Answered.{no_fault, not_done, of_none, tells_none}
+use Rattle.hotplug_play.proofs.Finished.{plays_plan, tells_step}
 use Rattle.hotplug_play.proofs.playing.play_plan.Goals as goal
+
+pub report-requires-clause-board : goal.report-requires-clause-board
+report-requires-clause-board g c = c.in-Ok.ensures.board
 
 pub report-requires-clause-room : goal.report-requires-clause-room
 report-requires-clause-room g c = c.in-Ok.ensures.room
 
 pub returns-in-Ok-clause-plays : goal.returns-in-Ok-clause-plays
 returns-in-Ok-clause-plays g c = λ b vectors es plan.
-    answered b vectors es c.args.plan.now.fleet c.args.plan.now.board plan c.in-Ok.field-0.system.log c.report.result.reports.reports
-    g.M.Line.IrqLine.may_want (λ runs. Heard g.H.Handler.hears runs c.args.handlers.now c.play_system.new.handlers)
-    (g.O.Sink.written c.args.out.now) (g.O.Sink.written c.report.new.out) c.report.result.end c.report.ensures.plays c.in-Ok.ensures.heard
+    plays_plan b vectors es c.args.plan.now.fleet c.args.plan.now.board plan g.M.Line.IrqLine.may_want c.in-Ok.play.system c.in-Ok.ensures.board
+    c.report.result.reports.reports (g.O.Sink.written c.args.out.now) (g.O.Sink.written c.report.new.out) c.report.result.end c.report.ensures.plays
+    (λ (runs : List Run). Heard g.H.Handler.hears runs c.args.handlers.now c.play_system.new.handlers) c.in-Ok.ensures.heard
 
 pub returns-in-Ok-clause-step : goal.returns-in-Ok-clause-step
 returns-in-Ok-clause-step g c = λ b vectors es plan.
-    tells_step b vectors es c.args.plan.now.fleet c.args.plan.now.board plan c.in-Ok.field-0.system.log c.report.result.reports.reports
-    g.M.Line.IrqLine.may_want (g.O.Sink.written c.args.out.now) (g.O.Sink.written c.report.new.out) c.report.result.end
-    c.report.ensures.plays
+    tells_step b vectors es c.args.plan.now.fleet c.args.plan.now.board plan g.M.Line.IrqLine.may_want c.in-Ok.play.system c.in-Ok.ensures.board
+    c.report.result.reports.reports (g.O.Sink.written c.args.out.now) (g.O.Sink.written c.report.new.out) c.report.result.end c.report.ensures.plays
 
 pub returns-in-Ok-clause-emptied : goal.returns-in-Ok-clause-emptied
 returns-in-Ok-clause-emptied g c = c.report.ensures.emptied
@@ -37,22 +39,21 @@ returns-in-Ok-clause-silent g c = c.report.ensures.silent
 pub returns-in-Err-clause-plays : goal.returns-in-Err-clause-plays
 returns-in-Err-clause-plays g c = λ b vectors es plan.
     let told = g.O.Sink.written c.args.out.now in
-    let heard : List Run → Type 0 = λ runs. Heard g.H.Handler.hears runs c.args.handlers.now c.play_system.new.handlers in
-    subst (λ (e : PlayedEnd). PlaysPlan b vectors es heard c.unplayed.result.reports.reports told told e)
-    (sym c.unplayed.ensures.end) (c.unplayed.ensures.reports, c.in-Err.ensures.unheard)
+    of_none (hotplug_text b (fleet_after b vectors es).said) (HotplugHandsOut b vectors es) (runs_of_moves (planned_after b vectors es))
+    (λ (runs : List Run). Heard g.H.Handler.hears runs c.args.handlers.now c.play_system.new.handlers) c.unplayed.result.reports.reports told told
+    c.unplayed.result.end c.unplayed.ensures.end c.unplayed.ensures.reports c.in-Err.ensures.unheard
 
 pub returns-in-Err-clause-step : goal.returns-in-Err-clause-step
 returns-in-Err-clause-step g c = λ b vectors es plan.
-    subst (λ (e : PlayedEnd). TellsStep g.M.Line.IrqLine.may_want (planned_after b vectors es) c.unplayed.result.reports.reports e)
-    (sym c.unplayed.ensures.end) tt
+    let planned = planned_after b vectors es in
+    tells_none (CutShort planned) (RefusedStep g.M.Line.IrqLine.may_want planned) c.unplayed.result.reports.reports c.unplayed.result.end
+    c.unplayed.ensures.end
+
+pub returns-in-Err-clause-emptied : goal.returns-in-Err-clause-emptied
+returns-in-Err-clause-emptied g c = not_done c.unplayed.result.end c.unplayed.ensures.end (g.O.Sink.kept c.args.out.now ≡ [])
 
 pub returns-in-Err-clause-write_fault : goal.returns-in-Err-clause-write_fault
-returns-in-Err-clause-write_fault g c =
-    let faults = g.O.Sink.faults c.args.out.now in
-    subst (λ (e : PlayedEnd). Counts faults faults (is_write_fault e)) (sym c.unplayed.ensures.end) refl
+returns-in-Err-clause-write_fault g c = no_fault c.unplayed.result.end c.unplayed.ensures.end (g.O.Sink.faults c.args.out.now)
 
 pub returns-in-Err-clause-silent : goal.returns-in-Err-clause-silent
 returns-in-Err-clause-silent g c = λ not. refl
-
-pub returns-in-Err-clause-emptied : goal.returns-in-Err-clause-emptied
-returns-in-Err-clause-emptied g c = λ done. absurd (not_done c.unplayed.result.end c.unplayed.ensures.end done)

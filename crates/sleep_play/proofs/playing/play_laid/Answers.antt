@@ -1,15 +1,13 @@
-use Rattle.std.proofs.Common.{◌++◌, List, refl, sym, ◌∙◌, subst}
+use Rattle.std.proofs.Common.{◌≡◌, ◌++◌, List, [], refl, ◌∙◌}
 use Rattle.irq_base.specs.declared.devices.Run.{Run}
 use Rattle.callbacks.specs.Heard.{Heard}
 use Rattle.log_text.specs.LayoutRows.{layout_rows}
 use Rattle.irq_sleeper.specs.Seen.{log_of}
-use Rattle.irq_io.specs.Faults.{Counts}
-use Rattle.irq_play.specs.Ends.{is_write_fault}
-use Rattle.irq_play.specs.declared.ending.PlayedEnd.{PlayedEnd}
-use Rattle.sleep_play.specs.Played.{SleepsBoard, TellsStep}
-use Rattle.sleep_play.specs.Rows.{log_text}
-use Rattle.play_report.proofs.Handed.{not_done}
-use Rattle.sleep_play.proofs.Finished.{answered, tells_step}
+use Rattle.sleep_play.specs.Headline.{RefusedStep, SleepCut, SleepHandsOut}
+use Rattle.sleep_play.specs.Played.{runs_of_steps}
+use Rattle.sleep_play.specs.Rows.{log_text, sleep_text}
+use Rattle.play_report.proofs.Answered.{no_fault, not_done, of_none, tells_none}
+use Rattle.sleep_play.proofs.Finished.{sleeps_board, tells_step}
 use Rattle.sleep_play.proofs.playing.play_laid.Goals as goal
 
 pub of_board-maker-requires-clause-domains : goal.of_board-maker-requires-clause-domains
@@ -33,14 +31,14 @@ report-requires-clause-room g c = c.in-Ok.ensures.room
 pub returns-in-Ok-clause-plays : goal.returns-in-Ok-clause-plays
 returns-in-Ok-clause-plays g c = λ b of.
     let played = c.report.result in
-    answered g.M.Line.IrqLine.may_want b c.args.armed.now
-    (λ (runs : List Run). Heard g.H.Handler.hears runs c.args.handlers.now c.play_sleep.new.handlers) c.in-Ok.play.sleeper
+    sleeps_board g.M.Line.IrqLine.may_want b c.args.armed.now c.in-Ok.play.sleeper
     (record {
       longer = record { board = of.board; fits = of.fits; slept = c.in-Ok.ensures.board ∙ of.slept };
       watched = c.in-Ok.ensures.armed;
     })
-    c.args.board.now c.in-Ok.ensures.board played.reports.reports (g.O.Sink.written c.args.out.now)
-    (g.O.Sink.written c.report.new.out) played.end c.report.ensures.plays c.in-Ok.ensures.heard
+    played.reports.reports (g.O.Sink.written c.args.out.now) (g.O.Sink.written c.report.new.out) played.end
+    (λ (runs : List Run). Heard g.H.Handler.hears runs c.args.handlers.now c.play_sleep.new.handlers)
+    c.args.board.now c.in-Ok.ensures.board c.report.ensures.plays c.in-Ok.ensures.heard
 
 pub returns-in-Ok-clause-step : goal.returns-in-Ok-clause-step
 returns-in-Ok-clause-step g c = λ b of.
@@ -50,8 +48,8 @@ returns-in-Ok-clause-step g c = λ b of.
       longer = record { board = of.board; fits = of.fits; slept = c.in-Ok.ensures.board ∙ of.slept };
       watched = c.in-Ok.ensures.armed;
     })
-    (layout_rows c.args.board.now ++ log_text (log_of c.in-Ok.play.sleeper)) played.reports.reports (g.O.Sink.written c.args.out.now)
-    (g.O.Sink.written c.report.new.out) played.end c.report.ensures.plays
+    played.reports.reports (g.O.Sink.written c.args.out.now) (g.O.Sink.written c.report.new.out) played.end
+    (layout_rows c.args.board.now ++ log_text (log_of c.in-Ok.play.sleeper)) c.report.ensures.plays
 
 pub returns-in-Ok-clause-emptied : goal.returns-in-Ok-clause-emptied
 returns-in-Ok-clause-emptied g c = c.report.ensures.emptied
@@ -65,22 +63,20 @@ returns-in-Ok-clause-silent g c = c.report.ensures.silent
 pub returns-in-Err-clause-plays : goal.returns-in-Err-clause-plays
 returns-in-Err-clause-plays g c = λ b of.
     let told = g.O.Sink.written c.args.out.now in
-    let heard = λ (runs : List Run). Heard g.H.Handler.hears runs c.args.handlers.now c.play_sleep.new.handlers in
-    subst (λ (e : PlayedEnd). SleepsBoard b c.args.armed.now heard c.unplayed.result.reports.reports told told e)
-    (sym c.unplayed.ensures.end) (c.unplayed.ensures.reports, c.in-Err.ensures.unheard)
+    of_none (sleep_text b) (SleepHandsOut b c.args.armed.now) (runs_of_steps b)
+    (λ (runs : List Run). Heard g.H.Handler.hears runs c.args.handlers.now c.play_sleep.new.handlers) c.unplayed.result.reports.reports
+    told told c.unplayed.result.end c.unplayed.ensures.end c.unplayed.ensures.reports c.in-Err.ensures.unheard
 
 pub returns-in-Err-clause-step : goal.returns-in-Err-clause-step
 returns-in-Err-clause-step g c = λ b of.
-    subst (λ (e : PlayedEnd). TellsStep g.M.Line.IrqLine.may_want b c.args.armed.now c.unplayed.result.reports.reports e)
-    (sym c.unplayed.ensures.end) tt
+    tells_none (SleepCut b c.args.armed.now) (RefusedStep g.M.Line.IrqLine.may_want b c.args.armed.now) c.unplayed.result.reports.reports
+    c.unplayed.result.end c.unplayed.ensures.end
 
 pub returns-in-Err-clause-emptied : goal.returns-in-Err-clause-emptied
-returns-in-Err-clause-emptied g c = λ done. absurd (not_done c.unplayed.result.end c.unplayed.ensures.end done)
+returns-in-Err-clause-emptied g c = not_done c.unplayed.result.end c.unplayed.ensures.end (g.O.Sink.kept c.args.out.now ≡ [])
 
 pub returns-in-Err-clause-write_fault : goal.returns-in-Err-clause-write_fault
-returns-in-Err-clause-write_fault g c =
-    let faults = g.O.Sink.faults c.args.out.now in
-    subst (λ (e : PlayedEnd). Counts faults faults (is_write_fault e)) (sym c.unplayed.ensures.end) refl
+returns-in-Err-clause-write_fault g c = no_fault c.unplayed.result.end c.unplayed.ensures.end (g.O.Sink.faults c.args.out.now)
 
 pub returns-in-Err-clause-silent : goal.returns-in-Err-clause-silent
 returns-in-Err-clause-silent g c = λ not. refl

@@ -1,11 +1,10 @@
-use Rattle.std.proofs.Common.{List, refl, sym, subst}
+use Rattle.std.proofs.Common.{◌≡◌, List, [], refl}
 use Rattle.irq_base.specs.declared.devices.Run.{Run}
 use Rattle.callbacks.specs.Heard.{Heard}
-use Rattle.irq_io.specs.Faults.{Counts}
-use Rattle.irq_play.specs.Ends.{is_write_fault}
-use Rattle.irq_play.specs.declared.ending.PlayedEnd.{PlayedEnd}
-use Rattle.sleep_play.specs.Played.{SleepsBoard, TellsStep}
-use Rattle.play_report.proofs.Handed.{not_done}
+use Rattle.sleep_play.specs.Headline.{RefusedStep, SleepCut, SleepHandsOut}
+use Rattle.sleep_play.specs.Played.{runs_of_steps}
+use Rattle.sleep_play.specs.Rows.{sleep_text}
+use Rattle.play_report.proofs.Answered.{no_fault, not_done, of_none, tells_none}
 use Rattle.sleep_play.proofs.playing.sleep_and_print.Goals as goal
 
 pub returns-in-Ok-clause-plays : goal.returns-in-Ok-clause-plays
@@ -31,23 +30,22 @@ returns-in-Err-NotForSleep-clause-refused g c = c.in-Err-NotForSleep.ensures.ref
 
 pub returns-in-Err-NoMemory-clause-plays : goal.returns-in-Err-NoMemory-clause-plays
 returns-in-Err-NoMemory-clause-plays g c =
+    let b = c.args.board in
     let told = g.O.Sink.written c.args.out.now in
-    let heard = λ (runs : List Run). Heard g.H.Handler.hears runs c.args.handlers.now c.args.handlers.now in
-    subst (λ (e : PlayedEnd). SleepsBoard c.args.board c.args.armed.now heard c.unplayed.result.reports.reports told told e)
-    (sym c.unplayed.ensures.end) (c.unplayed.ensures.reports, refl)
+    of_none (sleep_text b) (SleepHandsOut b c.args.armed.now) (runs_of_steps b)
+    (λ (runs : List Run). Heard g.H.Handler.hears runs c.args.handlers.now c.args.handlers.now) c.unplayed.result.reports.reports told told
+    c.unplayed.result.end c.unplayed.ensures.end c.unplayed.ensures.reports refl
 
 pub returns-in-Err-NoMemory-clause-step : goal.returns-in-Err-NoMemory-clause-step
 returns-in-Err-NoMemory-clause-step g c =
-    subst (λ (e : PlayedEnd). TellsStep g.M.Line.IrqLine.may_want c.args.board c.args.armed.now c.unplayed.result.reports.reports e)
-    (sym c.unplayed.ensures.end) tt
+    tells_none (SleepCut c.args.board c.args.armed.now) (RefusedStep g.M.Line.IrqLine.may_want c.args.board c.args.armed.now)
+    c.unplayed.result.reports.reports c.unplayed.result.end c.unplayed.ensures.end
 
 pub returns-in-Err-NoMemory-clause-emptied : goal.returns-in-Err-NoMemory-clause-emptied
-returns-in-Err-NoMemory-clause-emptied g c = λ done. absurd (not_done c.unplayed.result.end c.unplayed.ensures.end done)
+returns-in-Err-NoMemory-clause-emptied g c = not_done c.unplayed.result.end c.unplayed.ensures.end (g.O.Sink.kept c.args.out.now ≡ [])
 
 pub returns-in-Err-NoMemory-clause-write_fault : goal.returns-in-Err-NoMemory-clause-write_fault
-returns-in-Err-NoMemory-clause-write_fault g c =
-    let faults = g.O.Sink.faults c.args.out.now in
-    subst (λ (e : PlayedEnd). Counts faults faults (is_write_fault e)) (sym c.unplayed.ensures.end) refl
+returns-in-Err-NoMemory-clause-write_fault g c = no_fault c.unplayed.result.end c.unplayed.ensures.end (g.O.Sink.faults c.args.out.now)
 
 pub returns-in-Err-NoMemory-clause-silent : goal.returns-in-Err-NoMemory-clause-silent
 returns-in-Err-NoMemory-clause-silent g c = λ not. refl

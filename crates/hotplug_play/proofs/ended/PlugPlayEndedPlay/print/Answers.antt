@@ -1,28 +1,26 @@
-use Rattle.std.proofs.Common.{◌++◌, List, ap, ◌∙◌, subst}
+use Rattle.std.proofs.Common.{List, Ok, Err, subst}
+use Rattle.std.proofs.lemmas.Result.{err_from_is_err_and}
 use Rattle.irq_io.specs.Whole.{WritesAll}
-use Rattle.board_core.specs.declared.turns.PlayEnd.{PlayEnd}
 use Rattle.irq_hotplug.specs.declared.rows.FleetRow.{FleetRow}
-use Rattle.irq_play.specs.Played.{IsPlayed}
-use Rattle.irq_play.specs.Report.{moves_text}
-use Rattle.irq_play.proofs.Finished.{rows_done}
-use Rattle.hotplug_play.specs.Played.{PlugPlaySeen}
+use Rattle.board_report.proofs.Writing.{and_then, failed_within}
+use Rattle.play_report.specs.Report.{moves_text}
 use Rattle.hotplug_play.specs.Texts.{fleet_text}
 use Rattle.hotplug_play.proofs.ended.PlugPlayEndedPlay.print.Goals as goal
 
-pub print_plugged-requires : goal.print_plugged-requires
-print_plugged-requires g c =
-    let s = c.self.inside.system in
-    let b = c.self.inside.plan.now.board in
-    rows_done b s (subst (λ (end : PlayEnd). IsPlayed b s end) (ap (λ (p : PlugPlaySeen). p.end) c.self.view_is ∙ c.requires) c.self.invariant.0)
-
 pub returns-clause-content : goal.returns-clause-content
 returns-clause-content g c =
-    let before = g.O.Sink.written c.args.out.now in
-    let now = g.O.Sink.written c.print_plugged.new.out in
-    let end = c.print_plugged.result in
-    subst (λ (p : PlugPlaySeen). WritesAll before now (fleet_text p.fleet.said ++ moves_text p.system.log) end) c.self.view_is
-    (subst (λ (said : List FleetRow). WritesAll before now (fleet_text said ++ moves_text c.self.inside.system.log) end) c.said.ensures
-    c.print_plugged.ensures.content)
+    let sink = g.O.Sink.written in
+    let before = sink c.args.out.now in
+    let mid = sink c.print_fleet.new.out in
+    and_then before mid (sink c.print.new.out) (fleet_text c.args.self.now.plan.now.fleet.said) (moves_text c.args.self.now.play.system.log) c.print.result
+    (subst (λ (said : List FleetRow). WritesAll before mid (fleet_text said) (Ok tt)) c.said.ensures c.in_ok-print_fleet.ensures.content)
+    c.print.ensures.content
 
-pub returns-clause-cause : goal.returns-clause-cause
-returns-clause-cause g c = c.print_plugged.ensures.cause
+pub returns-in_err-print_fleet-clause-content : goal.returns-in_err-print_fleet-clause-content
+returns-in_err-print_fleet-clause-content g c =
+    let p = err_from_is_err_and c.from_residual.result c.from_residual.ensures.1 in
+    let before = g.O.Sink.written c.args.out.now in
+    let mid = g.O.Sink.written c.print_fleet.new.out in
+    let failed = c.in_err-print_fleet.field-0.0 in
+    rw (p.1, p.2) (failed_within before mid (fleet_text c.args.self.now.plan.now.fleet.said) (moves_text c.args.self.now.play.system.log) failed
+    (subst (λ (said : List FleetRow). WritesAll before mid (fleet_text said) (Err failed)) c.said.ensures c.in_err-print_fleet.ensures.content))
