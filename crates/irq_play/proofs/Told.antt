@@ -1,4 +1,4 @@
--- What is answered of a system in which its board was played.
+-- What is told of a system in which its board was played.
 use Rattle.std.proofs.Common.{◌≡◌, ℕ, ◌++◌, Bool, true, Option, Result, Ok, Err, List, map, refl, sym, subst}
 use Rattle.irq_base.specs.declared.devices.Run.{Run}
 use Rattle.irq_base.specs.declared.entries.Entry.{Entry}
@@ -21,15 +21,6 @@ use Rattle.play_report.specs.declared.failing.PlayFailed.TheVariants as fails
 
 module _ (may_want : Option Entry → Type 0) (b : BoardSeen) (s : SystemSeen) (of : s.board ≡ b) (reports : List LineReport)
     (before now : Option (List ℕ)) (end : Result Unit PlayFailed) where
-  pub plays_board : (summary : Bool) (heard : List Run → Type 0) → Answers (report_text b summary s.log) (HandsOutSystem may_want s) reports before now end
-      → heard (runs_of_moves b s.log) → PlaysBoard b summary heard reports before now end
-  plays_board summary heard told called =
-      of_some (report_text b summary) (HandsOut b) (runs_of_moves b) heard s.log reports before now end
-      (answers_as (report_text b summary s.log) (report_text b summary s.log) (HandsOutSystem may_want s) (HandsOut b s.log) refl
-      (λ ended rs h. subst (λ (c : BoardSeen). HandsOut c s.log ended rs) of
-      (without_step (HandsOut s.board s.log) (RefusedStep may_want s.board s.log) ended rs h)) reports before now end told)
-      called
-
   pub tells_step : (text : List ℕ) → Answers text (HandsOutSystem may_want s) reports before now end → TellsStep may_want b reports end
   tells_step text told =
       subst (λ (c : BoardSeen). TellsStep may_want c reports end) of
