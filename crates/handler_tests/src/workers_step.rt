@@ -8,7 +8,7 @@ use board_text::read_board;
 use callbacks::{ByKind, SharedHandler};
 use irq_base::{Actor, Answer, CpuNo, DevNo, Part, Reports, Run};
 use irq_io::MemSink;
-use irq_run::{RunEnd, run_and_print};
+use irq_run::run_and_print;
 use std::hint::spin_loop;
 use std::sync::atomic::{AtomicBool, AtomicU64, Ordering};
 use std::test::Fail;
@@ -186,7 +186,7 @@ fn each_worker_makes_its_steps(rt: HostRuntime) -> Result<(), Fail> {
         &handlers,
         &mut out,
     );
-    assert!(rt; ran.end == RunEnd::Done && progress.served.load(Ordering::SeqCst) == ASKS);
+    assert!(rt; ran.end.is_ok() && progress.served.load(Ordering::SeqCst) == ASKS);
     let thread = Actor::Thread(DevNo(1));
     assert!(rt; has_made(&ran.reports, Actor::Cpu(CpuNo(0)), &progress.cpu, 4 * ASKS));
     assert!(rt; has_made(&ran.reports, thread, &progress.thread, 3 * ASKS));

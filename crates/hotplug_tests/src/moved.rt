@@ -5,7 +5,7 @@ use board_text::read_board;
 use callbacks::ByKind;
 use irq_base::{CpuEntry, CpuNo, DriverEntry, Entry, LineNo, NoMemory, Reports};
 use irq_io::MemSink;
-use irq_run::{RunEnd, run_and_print};
+use irq_run::run_and_print;
 use std::alloc::Global;
 use std::sync::Wait;
 use std::test::Fail;
@@ -86,7 +86,7 @@ fn run_once<R: Threads + Wait + Sync>(rt: &R, alloc: Global) -> Result<Option<Ta
         &ByKind,
         &mut out,
     );
-    if ran.end != RunEnd::Done {
+    if ran.end.is_err() {
         return Ok(None);
     }
     Ok(Some(count_takes(&ran.reports)))
