@@ -8,7 +8,9 @@ use board_text::read_board;
 use callbacks::{ByKind, Handler};
 use irq_base::{Answer, NoMemory, Part, Run};
 use irq_io::MemSink;
-use irq_play::{PlayedEnd, WantedFor, play_and_print};
+use irq_line::StepRefused;
+use irq_play::play_and_print;
+use play_report::PlayFailed;
 use std::alloc::Global;
 use std::test::Fail;
 
@@ -79,10 +81,10 @@ fn adds_up(alloc: Global, text: &[u8]) -> Result<bool, NoMemory> {
     );
     let all = handlers.calls;
     Ok(match played.end {
-        PlayedEnd::Done => all == ALL,
-        PlayedEnd::NoMemory(WantedFor::Making) => all == 0,
-        PlayedEnd::NoMemory(WantedFor::Step) => all < ALL,
-        _ => false,
+        Ok(()) => all == ALL,
+        Err(PlayFailed::NoMemory) => all == 0,
+        Err(PlayFailed::Step(StepRefused::NoMemory)) => all < ALL,
+        Err(_) => false,
     })
 }
 

@@ -8,7 +8,6 @@ use hotplug_play::hotplug_and_print;
 use irq_base::{CpuNo, LineNo};
 use irq_hotplug::Event;
 use irq_io::MemSink;
-use irq_play::PlayedEnd;
 use notifiers::Notifier;
 use std::test::Fail;
 
@@ -95,7 +94,7 @@ fn each_placing_is_told_once(rt: HostRuntime) -> Result<(), Fail> {
     let Ok(played) = played else {
         panic!(rt; "the board fits")
     };
-    assert!(rt; played.end == PlayedEnd::Done && played.reports.len() == 2);
+    assert!(rt; played.end.is_ok() && played.reports.len() == 2);
     assert!(rt; out.written() == PRINTED);
     assert_eq!(rt; notify.told, 30_705);
     Ok(())

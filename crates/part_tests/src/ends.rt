@@ -1,7 +1,7 @@
 //! Sources and sinks over a slice and a list of std.
 ghost use Rattle.std.specs.Prelude.{◌≡◌, ◌≤◌, IfOk, IfSome, take};
 
-use irq_io::{FlushAnswer, ReadRefused, Sink, StdSink, StdSource, WriteEnd, read_up_to, write_all};
+use irq_io::{FlushAnswer, ReadRefused, Sink, StdSink, StdSource, read_up_to, write_all};
 use std::alloc::Global;
 use std::io::BufWriter;
 use std::test::Fail;
@@ -26,7 +26,7 @@ fn written_to_list(alloc: Global, room: usize, bytes: &[u8]) -> Result<Option<Ve
     ensures { IfOk result (λ held. IfSome held (λ list. list.items ≡ bytes.now)) }
 {
     let mut sink = StdSink::new(BufWriter::with_capacity(alloc, room, Vec::new(alloc))?);
-    if write_all(&mut sink, bytes) == WriteEnd::Done && sink.flush() == FlushAnswer::Done {
+    if write_all(&mut sink, bytes).is_ok() && sink.flush() == FlushAnswer::Done {
         return Ok(Some(sink.into_writer()));
     }
     Ok(None)
