@@ -1,16 +1,14 @@
 -- What was done is what every command does that the words ask for.
-use Rattle.std.proofs.Common.{◌≡◌, ℕ, Option, List, subst}
+use Rattle.std.proofs.Common.{ℕ, Option, List, subst}
 use Rattle.irq_base.specs.declared.devices.Answer.{Answer}
 use Rattle.irq_base.specs.declared.devices.Run.{Run}
 use Rattle.irq_base.specs.declared.entries.Entry.{Entry}
 use Rattle.irq_base.specs.declared.reporting.LineReport.{LineReport}
 use Rattle.irq_words.specs.Words.{Asks}
 use Rattle.irq_words.specs.declared.Command.{Command}
-use Rattle.irq_words.specs.declared.Command.TheVariants as commands
 use Rattle.irq_words.proofs.OneCommand.{one_command}
 use Rattle.notifiers.specs.Told.{Notice}
 use Rattle.irq_top.specs.declared.ending.Ending.{Ending}
-use Rattle.irq_top.specs.declared.ending.Ending.TheVariants as endings
 use Rattle.irq_top.specs.Commands.{Does, TellsWanted}
 
 module _ (heard : List Run → Type 0) (gave : Run → Answer → Type 0) (placed : List Notice → Type 0)
@@ -24,19 +22,6 @@ module _ (heard : List Run → Type 0) (gave : Run → Answer → Type 0) (place
   of_asked ending words done is does asked also = subst
       (λ (command : Command). Did command ending) (one_command words done asked is also)
       does
-
-  not_usage : (done : Command) → Did done endings.Usage → ⊥
-  not_usage (commands.Run summary) does = does.0.done
-  not_usage (commands.Play summary) does = does.0.done
-  not_usage (commands.Check why) does = does.0
-  not_usage (commands.Gen n) does = does.0
-  not_usage commands.Chained does = does.0.done
-  not_usage (commands.Hotplug vectors events) does = does.done
-  not_usage (commands.Sleep armed) does = does.0.done
-
-  -- what is asked for doesn't end as a fault of usage
-  pub is_asked : (ending : Ending) (done : Command) → Did done ending → ending ≡ endings.Usage → ⊥
-  is_asked ending done does is = not_usage done (subst (λ (e : Ending). Did done e) is does)
 
 -- the same of what is told of a step that was refused memory
 pub wanted_of_asked : (may_want : Option Entry → Type 0) (told : Option (List ℕ)) (reports : List LineReport) (ending : Ending)

@@ -1,5 +1,5 @@
 -- What a command does that takes a board.
-use Rattle.std.proofs.Common.{◌≡◌, ℕ, Bool, true, false, inr, is_ok, OnOk, ◌∙◌, Option, Some, None, Result, Ok, Err, List, refl, sym, subst}
+use Rattle.std.proofs.Common.{◌≡◌, ℕ, Bool, true, false, inr, is_ok, OnOk, Option, Some, None, Result, Ok, Err, List, refl, sym, subst}
 use Rattle.irq_base.specs.declared.reporting.LineReport.{LineReport}
 use Rattle.board_words.specs.declared.faults.FaultKind.{FaultKind}
 use Rattle.play_report.specs.declared.failing.PlayFailed.{PlayFailed}
@@ -66,8 +66,8 @@ plays_may_be_printed (Err (plays.Write failed)) = refl
 
 -- what holds of a play that came to its end and was printed holds of such an ending
 pub of_printed : {P : Type 0} (end : Result Unit PlayFailed) {printed : Bool} → printed ≡ is_ok end → OnOk end P → printed ≡ true → P
-of_printed (Ok u) is holds yes = holds
-of_printed (Err failed) is holds yes = cc
+of_printed (Ok u) is holds so = holds
+of_printed (Err failed) is holds so = cc
 
 -- the call ends as the play did
 module _ (IsntFor : BoardSeen → Type 0) (nobody : Type 0) (kind : FaultKind)

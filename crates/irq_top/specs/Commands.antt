@@ -27,7 +27,6 @@ use Rattle.irq_hotplug.specs.declared.events.Event.{Event}
 use Rattle.irq_check.specs.Ends.{Reads, SaysOrNot}
 use Rattle.irq_check.specs.declared.answers.Judgement.{Judgement}
 use Rattle.irq_check.specs.declared.failing.CheckFailed.{CheckFailed}
-use Rattle.irq_check.specs.declared.failing.CheckFailed.TheVariants as checks
 use Rattle.irq_play.specs.Played.{PlaysBoard, TellsStep}
 use Rattle.irq_pm.specs.SleptBoard.{is_for_sleep}
 use Rattle.notifiers.specs.Told.{Notice}

@@ -164,9 +164,7 @@ where
         (is_write_fault_end result.ending) }
     ensures silent { is_printing result.ending ≡ false → out.new ≡ out.old }
 {
-    Outcome::of_play(run_and_print(
-        rt, alloc, board, summary, maker, gate, shared, out,
-    ))
+    Outcome::of_play(run_and_print(rt, alloc, board, summary, maker, gate, shared, out))
 }
 
 /// `hotplug`: reads a board, and plays it with processors of 1 to 64 vectors that go offline and

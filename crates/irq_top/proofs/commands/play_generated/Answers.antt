@@ -1,4 +1,5 @@
-use Rattle.std.proofs.Common.{◌≡◌, IfOk, List, true, subst}
+use Rattle.std.proofs.Common.{◌≡◌, IfOk, Err, List, true, refl, subst}
+use Rattle.play_report.specs.declared.failing.PlayFailed.TheVariants as plays
 use Rattle.irq_base.specs.declared.devices.Run.{Run}
 use Rattle.board_gen.specs.Generated.{generated}
 use Rattle.callbacks.specs.Heard.{Heard}
@@ -12,3 +13,7 @@ returns-in-Ok-clause-generates g c =
     subst (λ b. PlaysAs heard true b c.play.result.reports.reports (g.O.Sink.written c.args.out.now) (g.O.Sink.written c.play.new.out)
     c.play.result.ending)
     made c.play.ensures.does
+
+pub returns-in-Err-clause-generates : goal.returns-in-Err-clause-generates
+returns-in-Err-clause-generates g c =
+    (Err plays.NoMemory, c.without_reports.ensures.ending, (c.without_reports.ensures.reports, refl))
