@@ -4,7 +4,6 @@ use Rattle.std.proofs.Common.{map, reverse, slice_get, refl, sym, ap, ◌∙◌,
 use Rattle.std.proofs.lemmas.List.{reverse-append, reverse-reverse}
 use Rattle.irq_base.specs.declared.entries.Entry.{Entry}
 use Rattle.irq_base.specs.declared.lines.LineDef.{LineDef}
-use Rattle.irq_base.specs.declared.numbers.LineNo.{LineNo}
 use Rattle.irq_laws.proofs.Chosen.{the_same}
 use Rattle.irq_line.specs.Seen.{LineSeen}
 use Rattle.irq_model.specs.Kinds.{same_line}
@@ -24,7 +23,8 @@ use Rattle.line_lock.proofs.Placing.{begins_more}
 use Rattle.workers.specs.Fit.{Fit}
 use Rattle.workers.specs.Gathers.{AreGathered, HasAllOf}
 use Rattle.workers.specs.Seen.{PostSeen, JobSeen, JobsSeen}
-use Rattle.irq_run.specs.Came.{AreOver, CameOfShifts}
+use Rattle.workers.specs.Terms.{Terms}
+use Rattle.irq_run.specs.Came.{AreOver, AreSettled, CameOfShifts}
 use Rattle.irq_run.proofs.Fresh.{stands_so}
 
 -- the line at a place after some moves: it has more entries, and these are its newest
@@ -86,10 +86,26 @@ goes_on moves lines apart i x at = (reverse y.more, is)
         ∙ (ap (λ (es : List Entry). reverse es) y.past
         ∙ (reverse-append y.more (reverse x.entries) ∙ ap (λ (es : List Entry). es ++ reverse y.more) (reverse-reverse x.entries)))
 
-pub came : (b : BoardSeen) (locks : List LockSeen) (jobs : JobsSeen) (lines : List LineSeen) (old new : SystemSeen) → IsBoard b
-    → jobs.board ≡ b → Fit locks jobs → AreOver jobs → AreKept jobs.board (board_lines lines) → AreGathered jobs lines
-    → old.board ≡ b → old.lines ≡ lines → Settles old new → CameOfShifts b (entries_in (board_lines new.lines))
-came b locks jobs lines old new isb of_board fit over kept gathered same are settles =
+-- what settling a system of these lines leaves
+pub settled_so : (b : BoardSeen) (lines : List LineSeen) (old new : SystemSeen) → old.board ≡ b → old.lines ≡ lines → (s : Settles old new)
+    → AreSettled b (board_lines lines) s.moves (entries_in (board_lines new.lines))
+settled_so b lines old new same are s =
+    record {
+      lowest = subst (λ (ls : List LineSeen). AreLowestMoves b (board_lines ls) s.moves) are
+          (subst (λ (c : BoardSeen). AreLowestMoves c (board_lines old.lines) s.moves) same s.lowest);
+      left = λ line. ap (λ (ls : List BoardLine). entries_in ls line)
+          (s.lines ∙ ap (λ (ls : List LineSeen). lines_after_all s.moves (board_lines ls)) are);
+    }
+
+-- a log that began empty has the moves alone
+pub log_settled : (old new : SystemSeen) → old.log ≡ [] → (s : Settles old new) → s.moves ≡ reverse new.log
+log_settled old new none s =
+    sym (ap reverse (s.log ∙ ap (λ (g : List Move). g ++ reverse s.moves) none) ∙ reverse-reverse s.moves)
+
+pub came : (terms : Terms) (b : BoardSeen) (locks : List LockSeen) (jobs : JobsSeen) (lines : List LineSeen) (old new : SystemSeen) → IsBoard b
+    → jobs.board ≡ b → Fit locks jobs → AreOver terms jobs → AreKept jobs.board (board_lines lines) → AreGathered jobs lines
+    → old.board ≡ b → old.lines ≡ lines → Settles old new → CameOfShifts terms b (entries_in (board_lines new.lines))
+came terms b locks jobs lines old new isb of_board fit over kept gathered same are settles =
     record {
       locks = locks;
       jobs = jobs;
@@ -100,15 +116,11 @@ came b locks jobs lines old new isb of_board fit over kept gathered same are set
       lines = lines;
       gathered = gathered;
       moves = settles.moves;
-      lowest = subst (λ (ls : List LineSeen). AreLowestMoves b (board_lines ls) settles.moves) are
-          (subst (λ (c : BoardSeen). AreLowestMoves c (board_lines old.lines) settles.moves) same settles.lowest);
       settled = settled;
     }
   where
-    settled : (line : LineNo) → entries_in (board_lines new.lines) line ≡ entries_in (lines_after_all settles.moves (board_lines lines)) line
-    settled line =
-        ap (λ (ls : List BoardLine). entries_in ls line)
-        (settles.lines ∙ ap (λ (ls : List LineSeen). lines_after_all settles.moves (board_lines ls)) are)
+    settled : AreSettled b (board_lines lines) settles.moves (entries_in (board_lines new.lines))
+    settled = settled_so b lines old new same are settles
 
     apart : AreApart (map (λ (x : BoardLine). x.def) (board_lines lines))
     apart = apart_kept b isb (board_lines lines) (subst (λ (c : BoardSeen). AreKept c (board_lines lines)) of_board kept)
@@ -123,6 +135,7 @@ came b locks jobs lines old new isb of_board fit over kept gathered same are set
         by_line None at has = absurd has
         by_line (Some x) at has =
             subst (λ (es : List Entry). BeginsWith es t.pass.knows.seen)
-            (sym (settled t.pass.def.line ∙ ap (λ (d : LineDef). entries_in (lines_after_all settles.moves (board_lines lines)) d.line) has.of_line))
+            (sym (settled.left t.pass.def.line ∙
+            ap (λ (d : LineDef). entries_in (lines_after_all settles.moves (board_lines lines)) d.line) has.of_line))
             (begins_more (entries_in (lines_after_all settles.moves (board_lines lines)) x.def.line) x.entries t.pass.knows.seen
             (goes_on settles.moves lines apart (j.first + place) x at) has.begins)

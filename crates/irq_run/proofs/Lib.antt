@@ -1,5 +1,6 @@
 mod Coming
 mod Given
 mod Finished
+mod Told
 mod Fresh
 mod Rows

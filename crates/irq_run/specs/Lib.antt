@@ -1,5 +1,4 @@
 pub mod Report
-pub mod Ends
 pub mod Came
 pub mod Given
 pub mod Ran

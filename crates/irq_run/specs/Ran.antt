@@ -1,32 +1,31 @@
 -- What a board's run answers, and what is printed of it.
-use Rattle.std.specs.Prelude.{◌≡◌, ℕ, Bool, Option, List, []}
+use Rattle.std.specs.Prelude.{◌≡◌, ℕ, Bool, IsSome, Option, Result, Ok, Err, List, [], length}
+use Rattle.std.specs.Prelude.{reverse}
 use Rattle.irq_base.specs.declared.devices.Answer.{Answer}
 use Rattle.irq_base.specs.declared.devices.Run.{Run}
+use Rattle.irq_base.specs.declared.entries.Actor.{Actor}
+use Rattle.irq_base.specs.declared.entries.Entry.{Entry}
 use Rattle.irq_base.specs.declared.numbers.LineNo.{LineNo}
 use Rattle.irq_base.specs.declared.reporting.LineReport.{LineReport}
-use Rattle.irq_io.specs.Whole.{WritesAll}
-use Rattle.irq_io.specs.declared.whole.WriteEnd.{WriteEnd}
-use Rattle.irq_io.specs.declared.whole.WriteEnd.TheVariants as writes
+use Rattle.irq_line.specs.declared.answers.StepRefused.{StepRefused}
+use Rattle.irq_line.specs.declared.answers.StepRefused.TheVariants as refusals
 use Rattle.board_core.specs.Playing.{Ends}
 use Rattle.board_core.specs.Seen.{SystemSeen, board_lines}
-use Rattle.board_core.specs.declared.turns.PlayEnd.{PlayEnd}
+use Rattle.board_core.specs.Wanted.{WantedMemory}
 use Rattle.board_def.specs.Layout.{layout_of}
 use Rattle.board_def.specs.Seen.{BoardSeen}
 use Rattle.board_play.specs.Kept.{AreKept}
-use Rattle.board_report.specs.Headline.{FullLog, Headline, Histories, histories_of}
-use Rattle.board_report.specs.Reporting.{entries_in}
-use Rattle.irq_run.specs.Came.{CameOfShifts}
+use Rattle.board_play.specs.Lines.{BoardLine, Move}
+use Rattle.board_play.specs.Order.{actors_of, due_move, line_for}
+use Rattle.board_play.specs.Play.{first_move}
+use Rattle.board_report.specs.Headline.{FullLog, Headline, Histories, SoFar, histories_of}
+use Rattle.board_report.specs.Reporting.{IsHandedRoom, entries_in}
+use Rattle.play_report.specs.Answers.{Answers, HandsOutStep}
+use Rattle.play_report.specs.declared.failing.PlayFailed.{PlayFailed}
+use Rattle.play_report.specs.declared.failing.PlayFailed.TheVariants as fails
+use Rattle.irq_run.specs.Came.{AreSettled}
 use Rattle.irq_run.specs.Given.{EachGiven, lines_with}
 use Rattle.irq_run.specs.Report.{run_text}
-use Rattle.irq_run.specs.declared.ending.RunEnd.{RunEnd}
-use Rattle.irq_run.specs.declared.ending.RunEnd.TheVariants as ends
-
--- The board was run to its end by its workers, with these histories, and the reports hand out this
--- run. Its report was printed: all of it, or after a fault a beginning of it.
-pub record IsPrinted (b : BoardSeen) (summary : Bool) (entries : Histories)
-    (reports : List LineReport) (before now : Option (List ℕ)) (end : WriteEnd) : Type 0 where
-  pub headline : Headline b entries reports
-  pub prints : WritesAll before now (run_text b summary (histories_of b entries)) end
 
 -- the run ended when this line's history had the greatest length, and the reports hand out the run
 pub record IsRunFull (b : BoardSeen) (entries : Histories) (reports : List LineReport)
@@ -35,17 +34,39 @@ pub record IsRunFull (b : BoardSeen) (entries : Histories) (reports : List LineR
   -- the drivers' calls were made in the order of their scripts
   pub kept : AreKept b (lines_with b entries)
 
--- what is answered and printed of a run with these histories, by how it ended; nothing is printed
--- unless the run came to its end
-abbrev pub ReportsRun : BoardSeen → Bool → Histories → List LineReport → Option (List ℕ)
-    → Option (List ℕ) → RunEnd → Type 0
-ReportsRun b summary entries reports before now ends.Done =
-    IsPrinted b summary entries reports before now writes.Done
-ReportsRun b summary entries reports before now ends.WriteFault =
-    IsPrinted b summary entries reports before now writes.Failed
-ReportsRun b summary entries reports before now (ends.LogFull line len) =
-    IsRunFull b entries reports line len
-ReportsRun b summary entries reports before now ends.NoMemory = reports ≡ []
+-- the move of the lowest actor that can move after these histories
+abbrev pub next_move : BoardSeen → Histories → Option Move
+next_move b entries = first_move b (lines_with b entries) (actors_of b)
+
+-- the run ended when a step was refused memory, and the reports hand out the run up to it
+pub record IsRunCut (b : BoardSeen) (entries : Histories) (reports : List LineReport)
+    : Type 0 where
+  pub so_far : SoFar b entries reports
+  -- the drivers' calls were made in the order of their scripts
+  pub kept : AreKept b (lines_with b entries)
+  -- an actor can move
+  pub further : IsSome (next_move b entries)
+
+-- what the reports hand out of a run with these histories, by how it ended
+abbrev pub HandsOut : BoardSeen → Histories → Result Unit StepRefused → List LineReport → Type 0
+HandsOut b entries (Ok _) reports = Headline b entries reports
+HandsOut b entries (Err (refusals.Full line len)) reports = IsRunFull b entries reports line len
+HandsOut b entries (Err refusals.NoMemory) reports = IsRunCut b entries reports
+
+-- The step that was refused memory: whose it was, and on which line; the actor's move was the next
+-- one. If there was room for one more entry, in the history that is handed out for the line and in
+-- the log, then the line may want memory for the entry that is due there. The log has the moves
+-- that were made since the threads ended.
+pub record RefusedStep (may_want : Option Entry → Type 0) (b : BoardSeen) (entries : Histories)
+    (reports : List LineReport) : Type 0 where
+  -- the lines as the threads left them, and the moves since, the newest first
+  pub before : List BoardLine
+  pub moves : List Move
+  pub settled : AreSettled b before moves entries
+  pub actor : Actor
+  pub next : next_move b entries ≡ due_move b (lines_with b entries) actor
+  pub step : WantedMemory may_want (IsHandedRoom reports) (length moves)
+      (line_for b (lines_with b entries) actor) actor
 
 -- a run with some histories, of which this holds; each run of a handler that ended in them was
 -- answered by a call, as `gave` says
@@ -55,21 +76,38 @@ pub record HasRun (gave : Run → Answer → Type 0) (b : BoardSeen) (Reports : 
   pub given : EachGiven gave (lines_with b entries)
   pub reports : Reports entries
 
--- what the whole call answers and prints, by how it ended
+-- What the whole call answers and prints, by how it ended. Nothing is printed unless the run came
+-- to
+-- its end. If memory was refused for anything but a step, nothing is handed out.
 abbrev pub RunsBoard : (gave : Run → Answer → Type 0) → BoardSeen → Bool → List LineReport
-    → Option (List ℕ) → Option (List ℕ) → RunEnd → Type 0
-RunsBoard gave b summary reports before now ends.NoMemory = reports ≡ []
-RunsBoard gave b summary reports before now ends.Done =
-    HasRun gave b (λ entries. ReportsRun b summary entries reports before now ends.Done)
-RunsBoard gave b summary reports before now ends.WriteFault =
-    HasRun gave b (λ entries. ReportsRun b summary entries reports before now ends.WriteFault)
-RunsBoard gave b summary reports before now (ends.LogFull line len) =
-    HasRun gave b (λ entries.
-    ReportsRun b summary entries reports before now (ends.LogFull line len))
+    → Option (List ℕ) → Option (List ℕ) → Result Unit PlayFailed → Type 0
+RunsBoard gave b summary reports before now (Err fails.NoMemory) = reports ≡ []
+RunsBoard gave b summary reports before now end =
+    HasRun gave b (λ entries. Answers (run_text b summary (histories_of b entries))
+    (HandsOut b entries) reports before now end)
 
--- A system of the board's lines after a run, and how settling it ended.
-pub record IsRun (b : BoardSeen) (s : SystemSeen) (end : PlayEnd) : Type 0 where
+-- If a step was refused memory, it is told which step it was; `may_want` says for which entry that
+-- is due a line may want memory though there is room.
+abbrev pub TellsStep : (Option Entry → Type 0) → BoardSeen → List LineReport
+    → Result Unit PlayFailed → Type 0
+TellsStep may_want b reports (Err (fails.Step refusals.NoMemory)) = (entries : Histories)
+    × IsRunCut b entries reports × RefusedStep may_want b entries reports
+TellsStep may_want b reports end = Unit {0}
+
+-- ---- a run that has ended
+
+-- A system of the board's lines after a run, and how settling it ended. Its log has the moves that
+-- were made since the threads ended.
+pub record IsRun (b : BoardSeen) (s : SystemSeen) (end : Result Unit StepRefused) : Type 0 where
   pub board : s.board ≡ b
   pub layout : s.layout ≡ layout_of b
-  pub came : CameOfShifts b (entries_in (board_lines s.lines))
+  pub before : List BoardLine
+  pub settled : AreSettled b before (reverse s.log) (entries_in (board_lines s.lines))
   pub ends : Ends s end
+
+-- what is answered and printed of a run with these histories, by how it ended, and of a step that
+-- was refused memory which it was
+abbrev pub ReportsRun : (Option Entry → Type 0) → BoardSeen → Bool → Histories → List LineReport
+    → Option (List ℕ) → Option (List ℕ) → Result Unit PlayFailed → Type 0
+ReportsRun may_want b summary entries = Answers (run_text b summary (histories_of b entries))
+    (HandsOutStep (HandsOut b entries) (RefusedStep may_want b entries))

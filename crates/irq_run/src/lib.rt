@@ -8,10 +8,8 @@
 //! Nothing is promised of which histories a run gives, or of the order between lines.
 #![tactic(auto)]
 
-mod ending;
 mod finishing;
 mod printing;
 mod running;
 
-pub use ending::RunEnd;
-pub use running::{RanBoard, run_and_print};
+pub use running::run_and_print;

@@ -9,11 +9,11 @@ ghost use Rattle.log_text.specs.Rows.{history_text};
 ghost use Rattle.irq_run.specs.Report.{lines_text};
 
 use irq_base::{History, LineNo, Reports};
-use irq_io::{Sink, WriteEnd, write_all};
+use irq_io::{Sink, WriteFailed, write_all};
 use kept_rows::KeptRows;
 
 /// Prints the rows of each report's history, report by report.
-pub(crate) fn print_lines<O: Sink>(out: &mut O, reports: &Reports) -> WriteEnd
+pub(crate) fn print_lines<O: Sink>(out: &mut O, reports: &Reports) -> Result<(), WriteFailed>
     requires { All HasRows reports.now.reports }
     ensures content { WritesAll (O.written out.old) (O.written out.new)
         (lines_text (map told_by reports.now.reports)) result }
@@ -24,12 +24,9 @@ pub(crate) fn print_lines<O: Sink>(out: &mut O, reports: &Reports) -> WriteEnd
         let Some(report) = reports.get(i) else {
             unreachable!();
         };
-        match print_history(out, &mut rows, report.line, &report.history) {
-            WriteEnd::Done => {}
-            WriteEnd::Failed => return WriteEnd::Failed,
-        }
+        print_history(out, &mut rows, report.line, &report.history)?;
     }
-    WriteEnd::Done
+    Ok(())
 }
 
 /// Prints the rows of a line's history, the oldest entry's first.
@@ -38,7 +35,7 @@ fn print_history<O: Sink>(
     rows: &mut KeptRows,
     line: LineNo,
     history: &History,
-) -> WriteEnd
+) -> Result<(), WriteFailed>
     requires { All IsPrintable history.now.entries }
     ensures content { WritesAll (O.written out.old) (O.written out.new)
         (history_text line history.now.entries) result }
@@ -49,10 +46,7 @@ fn print_history<O: Sink>(
             unreachable!();
         };
         let row = rows.row_of(line, &entry);
-        match write_all(out, row) {
-            WriteEnd::Done => {}
-            WriteEnd::Failed => return WriteEnd::Failed,
-        }
+        write_all(out, row)?;
     }
-    WriteEnd::Done
+    Ok(())
 }

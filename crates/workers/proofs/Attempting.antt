@@ -6,14 +6,12 @@ use Rattle.irq_base.specs.declared.entries.Entry.{Entry}
 use Rattle.irq_base.specs.declared.lines.LineDef.{LineDef}
 use Rattle.irq_laws.proofs.Chosen.{the_same}
 use Rattle.irq_line.specs.declared.answers.StepRefused.{StepRefused}
-use Rattle.irq_line.specs.declared.answers.StepRefused.TheVariants as refusals
 use Rattle.line_lock.specs.Passes.{LockSeen, IsPassOf}
 use Rattle.line_lock.specs.declared.view.Known.{Known}
 use Rattle.workers.specs.Fit.{IsPost, ArePosted}
 use Rattle.workers.specs.Seen.{PostSeen, JobSeen}
 use Rattle.workers.specs.Tries.{IsIdle, Tries, rests_after}
-use Rattle.workers.specs.Attempts.{attempt_of, FlowMoves, StepsPost}
-use Rattle.workers.specs.declared.attempts.Attempt.{Attempt}
+use Rattle.workers.specs.Attempts.{FlowMoves, StepsPost}
 use Rattle.workers.proofs.Lists.{at_set, there, there_or, within}
 use Rattle.workers.specs.Terms.{Terms}
 
@@ -48,8 +46,7 @@ rests_idle : (terms : Terms) (def : LineDef) (who : Actor) (old new : Known)
     (tried : Result (Option Entry) StepRefused) → Tries terms def who old tried new → rests_after tried ≡ true → IsIdle def who new
 rests_idle terms def who old new (Ok (Some e)) t is = cc
 rests_idle terms def who old new (Ok None) t is = t.came.0
-rests_idle terms def who old new (Err (refusals.Full number len)) t is = cc
-rests_idle terms def who old new (Err refusals.NoMemory) t is = cc
+rests_idle terms def who old new (Err refused) t is = cc
 
 -- what a step with a pass of the line asks for, and what it leaves: the contract of `Post::step`
 pub record CanStep (line : LockSeen) (post : PostSeen) : Type 0 where
@@ -123,10 +120,9 @@ module _ {lines : List LockSeen} {j : JobSeen} {place : ℕ} (h : AtHand lines j
         }))
 
     pub steps_post : (terms : Terms) {tried : Result (Option Entry) StepRefused} {after : PostSeen}
-        → Stepped terms line post tried after → {attempt : Attempt}
-        → attempt ≡ attempt_of tried
-        → StepsPost terms lines place attempt j (record h.inside { posts = slice_set h.inside.posts place after })
-    steps_post terms {tried} {after} stepped told =
+        → Stepped terms line post tried after
+        → StepsPost terms lines place tried j (record h.inside { posts = slice_set h.inside.posts place after })
+    steps_post terms {tried} {after} stepped =
         let a = h.at in
         let s : Stepped terms a.line a.post tried after = subst (λ (x : PostSeen). Stepped terms a.line x tried after) (post_is is_post)
         (subst (λ (l : LockSeen). Stepped terms l post tried after) (line_is is_line) stepped) in
@@ -135,10 +131,8 @@ module _ {lines : List LockSeen} {j : JobSeen} {place : ℕ} (h : AtHand lines j
           line = a.line;
           post = a.post;
           after = after;
-          tried = tried;
           at_line = a.at_line;
           at_post = a.at_post;
-          told = told;
           is = ap (λ (x : JobSeen). record x { posts = slice_set x.posts place after }) h.job_is;
           is_post = record {
             of_line = s.of_line;
@@ -156,9 +150,9 @@ module _ {lines : List LockSeen} {j : JobSeen} {place : ℕ} (h : AtHand lines j
 -- ---- what a try keeps
 
 module _ (terms : Terms) where
-  pub still_posted : (lines : List LockSeen) (place : ℕ) (attempt : Attempt) (old new : JobSeen) → ArePosted lines old
-      → StepsPost terms lines place attempt old new → ArePosted lines new
-  still_posted lines place attempt old new posted s =
+  pub still_posted : (lines : List LockSeen) (place : ℕ) (tried : Result (Option Entry) StepRefused) (old new : JobSeen) → ArePosted lines old
+      → StepsPost terms lines place tried old new → ArePosted lines new
+  still_posted lines place tried old new posted s =
       subst (λ (j : JobSeen). ArePosted lines j) (sym s.is) each
     where
       each : ArePosted lines (record old { posts = set old.posts place s.after })

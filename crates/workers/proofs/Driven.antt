@@ -1,5 +1,5 @@
 -- What a driver's try makes of its job.
-use Rattle.std.proofs.Common.{◌≡◌, ℕ, zero, suc, ◌+◌, ◌-◌, ◌<◌, ◌≤◌, ◌⊎◌, inl, inr, Bool, true, false, cond, IsSomeAnd}
+use Rattle.std.proofs.Common.{◌≡◌, ℕ, zero, suc, ◌+◌, ◌-◌, ◌<◌, ◌≤◌, ◌⊎◌, inl, inr, Bool, true, false, cond, IsSomeAnd, Ok}
 use Rattle.std.proofs.Common.{Option, Some, None, Result, List, [], ◌∷◌, length, map, reverse, set, slice_get, refl}
 use Rattle.std.proofs.Common.{sym, ap, ◌∙◌, subst, arith}
 use Rattle.irq_base.specs.declared.entries.Actor.{Actor}
@@ -27,10 +27,8 @@ use Rattle.workers.specs.Seen.{PostSeen, JobSeen}
 use Rattle.workers.specs.Tries.{Gains, Tries, rests_after, IsIdle}
 use Rattle.line_scripts.specs.Endings.{completes}
 use Rattle.workers.specs.Attempts.{StepsPost, KeepsPosts, IsDriven, WaitsAt, AttemptsDriver}
-use Rattle.workers.specs.declared.attempts.Attempt.{Attempt}
-use Rattle.workers.specs.declared.attempts.Attempt.TheVariants as attempts
 use Rattle.workers.proofs.Driving.{AreAmong, passed_all, up_after, alike_after}
-use Rattle.workers.proofs.Flowing.{own_more, keeps_posts, post_now, post_there, refused_is_so, moved_is, not_yet_is, nothing_gained, keeps_on}
+use Rattle.workers.proofs.Flowing.{own_more, keeps_posts, post_now, post_there, refused_is_so, nothing_gained, keeps_on}
 use Rattle.workers.proofs.Lists.{at_map, of_map, within}
 use Rattle.workers.proofs.Own.{own_are_seen, AreAlike, same_script}
 use Rattle.workers.proofs.Rooms.{room_after, room_as, room_from, stays}
@@ -92,7 +90,7 @@ module _ {board : BoardSeen} {lines : List LockSeen} (boards : AreBoards board l
 
   module _ (isb : IsBoard board) {c : ScriptCall} (at_p : slice_get board.calls j.at ≡ Some c) (mine : c.driver ≡ r)
       {place : ℕ} (place_is : IsPlaceOf lines c.line (Some place)) {terms : Terms}
-      {attempt : Attempt} {mid : JobSeen} (s : StepsPost terms lines place attempt j mid) where
+      {tried : Result (Option Entry) StepRefused} {mid : JobSeen} (s : StepsPost terms lines place tried j mid) where
     line_is : s.line.def.line ≡ c.line
     line_is = subst (λ (o : Option LockSeen). IsSomeAnd o (λ l. l.def.line ≡ c.line))
         (ap (λ (n : ℕ). slice_get lines n) (sym (k_is place)) ∙ s.at_line) place_is
@@ -116,27 +114,27 @@ module _ {board : BoardSeen} {lines : List LockSeen} (boards : AreBoards board l
     y_line : c.line ≡ (own_line s.post).def.line
     y_line = sym line_is ∙ ap (λ (x : LineDef). x.line) (sym post_def)
 
-    pub driver_rests : ((e : Entry) → attempt ≡ attempts.Moved e → ⊥) → AttemptsDriver terms board lines r attempt j mid
+    pub driver_rests : ((e : Entry) → tried ≡ Ok (Some e) → ⊥) → AttemptsDriver terms board lines r tried j mid
     driver_rests not =
         record {
-          keeps = keeps_posts terms lines place attempt j mid d.posted s;
+          keeps = keeps_posts terms lines place tried j mid d.posted s;
           up_to = subst (λ (n : ℕ). IsUpTo board.calls (own_lines mid.posts) r n) (sym at_is)
               (same_script board.calls (own_lines mid.posts) (own_lines j.posts) r j.at alike d.up_to);
           within = let w = d.within in omega (arith, w, at_is);
           rests = λ is. inr (waits is);
-          refused = refused_is_so terms lines place attempt j mid s;
-          room = room_after terms lines place attempt j mid d.posted s;
+          refused = refused_is_so terms lines place tried j mid s;
+          room = room_after terms lines place tried j mid d.posted s;
         }
       where
         same_mine : s.after.pass.knows.mine ≡ s.post.pass.knows.mine
-        same_mine = nothing_gained terms s.line.def j.actor s.post.pass.knows s.after.pass.knows s.tried attempt s.told not s.tries
+        same_mine = nothing_gained terms s.line.def j.actor s.post.pass.knows s.after.pass.knows tried not s.tries
 
         alike : AreAlike r (own_lines mid.posts) (own_lines j.posts)
         alike k x at =
             let t = of_map own_line mid.posts k x at in
             subst (λ (y : BoardLine). (z : BoardLine) × (slice_get (own_lines j.posts) k ≡ Some z) × (y.def ≡ z.def)
             × (entries_by r y.past ≡ entries_by r z.past)) t.2
-            (by_place t.0 (post_now terms lines place attempt j mid s k t.0 t.1))
+            (by_place t.0 (post_now terms lines place tried j mid s k t.0 t.1))
           where
             by_place : (t : PostSeen) → ((k ≡ place) × (t ≡ s.after))
                 ⊎ ((k ≡ place → ⊥) × (slice_get j.posts k ≡ Some t))
@@ -150,34 +148,34 @@ module _ {board : BoardSeen} {lines : List LockSeen} (boards : AreBoards board l
             )
             by_place t (inr other) = (own_line t, at_map own_line j.posts k t other.1, refl, refl)
 
-        waits : attempt ≡ attempts.NotYet → WaitsAt board mid r
+        waits : tried ≡ Ok None → WaitsAt board mid r
         waits is =
-            let idle = s.is_post.rests (s.rests ∙ ap rests_after (not_yet_is s.tried (sym is ∙ s.told))) in
+            let idle = s.is_post.rests (s.rests ∙ ap rests_after is) in
             record {
               call = c;
               place = place;
               post = s.after;
               at_call = ap (λ (n : ℕ). slice_get board.calls n) at_is ∙ at_p;
               own = mine;
-              at_post = post_there terms lines place attempt j mid s;
+              at_post = post_there terms lines place tried j mid s;
               line = ap (λ (x : LineDef). x.line) s.is_post.of_line.1 ∙ line_is;
               rests = subst (λ (x : LineDef). IsIdle x (actors.Driver r) s.after.pass.knows) (sym s.is_post.of_line.1)
                   (subst (λ (a : Actor). IsIdle s.line.def a s.after.pass.knows) d.actor idle);
             }
 
-    pub driver_moved : {e : Entry} → attempt ≡ attempts.Moved e → {last : Bool} → completes c.call e ≡ last → {new : JobSeen}
-        → new ≡ record mid { at = cond last (mid.at + 1) mid.at } → AttemptsDriver terms board lines r (attempts.Moved e) j new
+    pub driver_moved : {e : Entry} → tried ≡ Ok (Some e) → {last : Bool} → completes c.call e ≡ last → {new : JobSeen}
+        → new ≡ record mid { at = cond last (mid.at + 1) mid.at } → AttemptsDriver terms board lines r (Ok (Some e)) j new
     driver_moved {e} is {last} is_l {new} now =
         record {
-          keeps = subst (λ (x : JobSeen). KeepsPosts terms lines j x) (sym now) (same_posts (keeps_posts terms lines place attempt j mid d.posted s));
+          keeps = subst (λ (x : JobSeen). KeepsPosts terms lines j x) (sym now) (same_posts (keeps_posts terms lines place tried j mid d.posted s));
           up_to = subst (λ (x : JobSeen). IsUpTo board.calls (own_lines x.posts) r x.at) (sym now)
               (subst (λ (n : ℕ). IsUpTo board.calls (own_lines mid.posts) r (cond last (n + 1) n)) (sym at_is)
               (subst (λ (ss : List PostSeen). IsUpTo board.calls (own_lines ss) r (cond last (j.at + 1) j.at)) (sym posts_are) after));
           within = let w = within board.calls j.at c at_p in let n = ap (λ (x : JobSeen). x.at) now in fits last n w;
           rests = λ h. cc;
           refused = tt;
-          room = room_as (attempts.Moved e) j mid new (ap (λ (x : JobSeen). x.posts) now)
-              (subst (λ (t : Attempt). RoomAfter t j mid) is (room_after terms lines place attempt j mid d.posted s));
+          room = room_as (Ok (Some e)) j mid new (ap (λ (x : JobSeen). x.posts) now)
+              (subst (λ (t : Result (Option Entry) StepRefused). RoomAfter t j mid) is (room_after terms lines place tried j mid d.posted s));
         }
       where
         same_posts : KeepsPosts terms lines j mid → KeepsPosts terms lines j (record mid { at = cond last (mid.at + 1) mid.at })
@@ -189,7 +187,7 @@ module _ {board : BoardSeen} {lines : List LockSeen} (boards : AreBoards board l
 
         gains : Gains terms.gave s.line.def j.actor s.post.pass.knows e s.after.pass.knows
         gains = (subst (λ (t : Result (Option Entry) StepRefused). Tries terms s.line.def j.actor s.post.pass.knows t
-            s.after.pass.knows) (moved_is e s.tried (sym is ∙ s.told)) s.tries).came
+            s.after.pass.knows) is s.tries).came
 
         due : next s.post.pass.def gains.history (actors.Driver r) ≡ Some e
         due = ap (λ (x : LineDef). next x gains.history (actors.Driver r)) post_def
@@ -220,7 +218,7 @@ module _ {board : BoardSeen} {lines : List LockSeen} {r : DriverNo} {j : JobSeen
       (record { actor = refl; first = refl; as_many = refl; posted = d.posted; grew = posts_self terms.gave j.posts })
 
   pub driver_done : (terms : Terms) → IsDriven board lines r now → slice_get board.calls q ≡ None
-      → AttemptsDriver terms board lines r attempts.NotYet j now
+      → AttemptsDriver terms board lines r (Ok None) j now
   driver_done terms e none =
       record {
         keeps = same_posts;
@@ -236,10 +234,10 @@ module _ {board : BoardSeen} {lines : List LockSeen} {r : DriverNo} {j : JobSeen
       nothing_there (c ∷ cs) zero at = cc
       nothing_there (c ∷ cs) (suc k) at = let n = nothing_there cs k at in omega (arith, n)
 
-  pub driver_attempted : {terms : Terms} {attempt : Attempt} {new : JobSeen} {s : DriverNo} → s ≡ r
-      → AttemptsDriver terms board lines s attempt now new → AttemptsDriver terms board lines r attempt j new
-  driver_attempted {terms} {attempt} {new} same t =
-      subst (λ (x : DriverNo). AttemptsDriver terms board lines x attempt j new) same
+  pub driver_attempted : {terms : Terms} {tried : Result (Option Entry) StepRefused} {new : JobSeen} {s : DriverNo} → s ≡ r
+      → AttemptsDriver terms board lines s tried now new → AttemptsDriver terms board lines r tried j new
+  driver_attempted {terms} {tried} {new} same t =
+      subst (λ (x : DriverNo). AttemptsDriver terms board lines x tried j new) same
       (record {
         keeps = keeps_on lines j now new same_posts t.keeps;
         up_to = t.up_to;
@@ -247,6 +245,6 @@ module _ {board : BoardSeen} {lines : List LockSeen} {r : DriverNo} {j : JobSeen
         rests
             = t.rests;
         refused = t.refused;
-        room = room_from attempt j now new (stays j now (ap (λ (x : JobSeen). x.posts) is))
+        room = room_from tried j now new (stays j now (ap (λ (x : JobSeen). x.posts) is))
             t.room;
       })

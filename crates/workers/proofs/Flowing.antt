@@ -1,6 +1,6 @@
 -- A processor's tries keep that it has a flow in progress on one line at most.
 use Rattle.std.proofs.Common.{◌≡◌, ℕ, ◌+◌, ◌<◌, ◌≤◌, ◌⊎◌, inl, inr, Bool, true, false, ◌&&◌, ◌||◌, cond, IsSomeAnd, Option}
-use Rattle.std.proofs.Common.{Some, None, is_some, Result, Ok, Err, List, [], ◌∷◌, ◌++◌, length, map, reverse}
+use Rattle.std.proofs.Common.{Some, None, is_some, Result, Ok, Err, IfErr, List, [], ◌∷◌, ◌++◌, length, map, reverse}
 use Rattle.std.proofs.Common.{slice_get, refl, sym, ap, ◌∙◌, subst, arith}
 use Rattle.std.proofs.Math.ListN.{length-set}
 use Rattle.std.proofs.lemmas.List.{reverse-append}
@@ -27,9 +27,7 @@ use Rattle.workers.specs.Fit.{IsPost, ArePosted, own_past, HasOneFlow, IsInFlow,
 use Rattle.workers.specs.Grown.{PostsGrow}
 use Rattle.workers.specs.Seen.{PostSeen, JobSeen}
 use Rattle.workers.specs.Tries.{Gains, IsFull, Tries, rests_after}
-use Rattle.workers.specs.Attempts.{attempt_of, is_not_yet, StepsPost, flow_after, KeepsPosts, RefusedIsSo, StepsCpu, AttemptsCpu}
-use Rattle.workers.specs.declared.attempts.Attempt.{Attempt}
-use Rattle.workers.specs.declared.attempts.Attempt.TheVariants as attempts
+use Rattle.workers.specs.Attempts.{StepsPost, flow_after, KeepsPosts, IsRefusedOn, StepsCpu, AttemptsCpu}
 use Rattle.workers.proofs.InFlow.{flow_by, handle_cpu}
 use Rattle.workers.proofs.Lists.{at_set, set_there, two, within}
 use Rattle.workers.proofs.Manning.{map_more}
@@ -45,49 +43,47 @@ own_more old new n e is =
     ∙ reverse-append (map (λ (x : Placed). x.entry) old) (e ∷ []))
 
 pub keeps_posts : (terms : Terms) (lines : List LockSeen) (place : ℕ)
-    (attempt : Attempt) (old new : JobSeen) → ArePosted lines old
-    → StepsPost terms lines place attempt old new → KeepsPosts terms lines old new
-keeps_posts terms lines place attempt old new posted s =
+    (tried : Result (Option Entry) StepRefused) (old new : JobSeen) → ArePosted lines old
+    → StepsPost terms lines place tried old new → KeepsPosts terms lines old new
+keeps_posts terms lines place tried old new posted s =
     record {
       actor = ap (λ (j : JobSeen). j.actor) s.is;
       first = ap (λ (j : JobSeen). j.first) s.is;
       as_many = ap (λ (j : JobSeen). length j.posts) s.is ∙ length-set old.posts place s.after;
-      posted = still_posted terms lines place attempt old new posted s;
-      grew = posts_grew terms lines place attempt old new posted s;
+      posted = still_posted terms lines place tried old new posted s;
+      grew = posts_grew terms lines place tried old new posted s;
     }
 
 -- the pass that was tried, and the others
-pub post_now : (terms : Terms) (lines : List LockSeen) (place : ℕ) (attempt : Attempt) (old new : JobSeen)
-    (s : StepsPost terms lines place attempt old new) (i : ℕ) (t : PostSeen) → slice_get new.posts i ≡ Some t
+pub post_now : (terms : Terms) (lines : List LockSeen) (place : ℕ) (tried : Result (Option Entry) StepRefused) (old new : JobSeen)
+    (s : StepsPost terms lines place tried old new) (i : ℕ) (t : PostSeen) → slice_get new.posts i ≡ Some t
     → ((i ≡ place) × (t ≡ s.after)) ⊎ ((i ≡ place → ⊥) × (slice_get old.posts i ≡ Some t))
-post_now terms lines place attempt old new s i t at = at_set old.posts place s.after i t (ap (λ (j : JobSeen). slice_get j.posts i) (sym s.is) ∙ at)
+post_now terms lines place tried old new s i t at = at_set old.posts place s.after i t (ap (λ (j : JobSeen). slice_get j.posts i) (sym s.is) ∙ at)
 
-pub post_there : (terms : Terms) (lines : List LockSeen) (place : ℕ) (attempt : Attempt) (old new : JobSeen)
-    (s : StepsPost terms lines place attempt old new) → slice_get new.posts place ≡ Some s.after
-post_there terms lines place attempt old new s = ap (λ (j : JobSeen). slice_get j.posts place) s.is ∙ set_there old.posts place s.after s.post s.at_post
+pub post_there : (terms : Terms) (lines : List LockSeen) (place : ℕ) (tried : Result (Option Entry) StepRefused) (old new : JobSeen)
+    (s : StepsPost terms lines place tried old new) → slice_get new.posts place ≡ Some s.after
+post_there terms lines place tried old new s = ap (λ (j : JobSeen). slice_get j.posts place) s.is ∙ set_there old.posts place s.after s.post s.at_post
 
 -- a post rests only if nothing was due
 never_rests : (tried : Result (Option Entry) StepRefused) → (tried ≡ Ok None → ⊥) → rests_after tried ≡ false
 never_rests (Ok (Some e)) not = refl
 never_rests (Ok None) not = absurd (not refl)
-never_rests (Err (refusals.Full number len)) not = refl
-never_rests (Err refusals.NoMemory) not = refl
+never_rests (Err refused) not = refl
 
-pub refused_is_so : (terms : Terms) (lines : List LockSeen) (place : ℕ) (attempt : Attempt) (old new : JobSeen)
-    → StepsPost terms lines place attempt old new → RefusedIsSo terms new attempt
-refused_is_so terms lines place attempt old new s = subst (λ (t : Attempt). RefusedIsSo terms new t) (sym s.told) (by_tried s.tried s.tries)
+pub refused_is_so : (terms : Terms) (lines : List LockSeen) (place : ℕ) (tried : Result (Option Entry) StepRefused) (old new : JobSeen)
+    → StepsPost terms lines place tried old new → IfErr tried (IsRefusedOn terms new)
+refused_is_so terms lines place tried old new s = by_tried tried s.tries
   where
     by_tried : (tried : Result (Option Entry) StepRefused)
         → Tries terms s.line.def old.actor s.post.pass.knows tried s.after.pass.knows
-        → RefusedIsSo terms new (attempt_of tried)
-    by_tried (Ok (Some e)) t = tt
-    by_tried (Ok None) t = tt
+        → IfErr tried (IsRefusedOn terms new)
+    by_tried (Ok moved) t = tt
     by_tried (Err (refusals.Full number len)) t =
         let def : s.after.pass.def ≡ s.line.def = s.is_post.of_line.1 in
         record {
           place = place;
           post = s.after;
-          at = post_there terms lines place attempt old new s;
+          at = post_there terms lines place tried old new s;
           number = ap (λ (d : LineDef). d.line) def ∙ sym t.came.1;
           is = subst (λ (d : LineDef). IsFull d new.actor s.after.pass.knows) (sym def)
               (subst (λ (a : Actor). IsFull s.line.def a s.after.pass.knows) (sym (ap (λ (j : JobSeen). j.actor) s.is))
@@ -98,33 +94,19 @@ refused_is_so terms lines place attempt old new s = subst (λ (t : Attempt). Ref
         record {
           place = place;
           post = s.after;
-          at = post_there terms lines place attempt old new s;
+          at = post_there terms lines place tried old new s;
           is = subst (λ (d : LineDef). terms.wanted d s.after.pass.knows.seen new.actor) (sym s.is_post.of_line.1)
               (subst (λ (a : Actor). terms.wanted s.line.def s.after.pass.knows.seen a) (sym (ap (λ (j : JobSeen). j.actor) s.is)) t.came.0);
         }
 
--- ---- what was tried
-
-pub moved_is : (e : Entry) (tried : Result (Option Entry) StepRefused) → attempts.Moved e ≡ attempt_of tried → tried ≡ Ok (Some e)
-moved_is e (Ok (Some f)) is = let same : e ≡ f = cc in ap (λ (x : Entry). Ok (Some x)) (sym same)
-moved_is e (Ok None) is = cc
-moved_is e (Err (refusals.Full number len)) is = cc
-moved_is e (Err refusals.NoMemory) is = cc
-
-pub not_yet_is : (tried : Result (Option Entry) StepRefused) → attempts.NotYet ≡ attempt_of tried → tried ≡ Ok None
-not_yet_is (Ok (Some f)) is = cc
-not_yet_is (Ok None) is = refl
-not_yet_is (Err (refusals.Full number len)) is = cc
-not_yet_is (Err refusals.NoMemory) is = cc
-
 -- without an entry the pass's own stay
 pub nothing_gained : (terms : Terms) (def : LineDef) (who : Actor) (old new : Known)
-    (tried : Result (Option Entry) StepRefused) (attempt : Attempt) → attempt ≡ attempt_of tried
-    → ((e : Entry) → attempt ≡ attempts.Moved e → ⊥) → Tries terms def who old tried new → new.mine ≡ old.mine
-nothing_gained terms def who old new (Ok (Some e)) attempt told not t = absurd (not e told)
-nothing_gained terms def who old new (Ok None) attempt told not t = t.came.1
-nothing_gained terms def who old new (Err (refusals.Full number len)) attempt told not t = t.came.3
-nothing_gained terms def who old new (Err refusals.NoMemory) attempt told not t = t.came.1
+    (tried : Result (Option Entry) StepRefused) → ((e : Entry) → tried ≡ Ok (Some e) → ⊥) → Tries terms def who old tried new
+    → new.mine ≡ old.mine
+nothing_gained terms def who old new (Ok (Some e)) not t = absurd (not e refl)
+nothing_gained terms def who old new (Ok None) not t = t.came.1
+nothing_gained terms def who old new (Err (refusals.Full number len)) not t = t.came.3
+nothing_gained terms def who old new (Err refusals.NoMemory) not t = t.came.1
 
 -- ---- flows
 
@@ -159,7 +141,7 @@ module _ (terms : Terms) (lines : List LockSeen) (place : ℕ) (old mid : JobSee
   others_flow : (i : ℕ) (t : PostSeen) → (i ≡ place → ⊥) → slice_get old.posts i ≡ Some t → has_flow t.pass.def (own_past t.pass.knows.mine) ≡ false
   others_flow i t other at = one i t at (λ is. other (free i is))
 
-  module _ (attempt : Attempt) (s : StepsPost terms lines place attempt old mid) where
+  module _ (tried : Result (Option Entry) StepRefused) (s : StepsPost terms lines place tried old mid) where
     post_def : s.post.pass.def ≡ s.line.def
     post_def = (subst (λ (o : Option LockSeen). IsSomeAnd o (λ l. IsPost l old.actor s.post)) s.at_line (posted place s.post s.at_post)).of_line.1
 
@@ -167,24 +149,24 @@ module _ (terms : Terms) (lines : List LockSeen) (place : ℕ) (old mid : JobSee
     post_actor = (subst (λ (o : Option LockSeen). IsSomeAnd o (λ l. IsPost l old.actor s.post)) s.at_line (posted place s.post s.at_post)).actor
 
     -- when no entry was added
-    pub cpu_rests : ((e : Entry) → attempt ≡ attempts.Moved e → ⊥) → StepsCpu terms lines place attempt old mid
+    pub cpu_rests : ((e : Entry) → tried ≡ Ok (Some e) → ⊥) → StepsCpu terms lines place tried old mid
     cpu_rests not =
         record {
-          keeps = keeps_posts terms lines place attempt old mid posted s;
+          keeps = keeps_posts terms lines place tried old mid posted s;
           flow = one_flow;
           its = still_its;
-          moves = λ was is. due was (not_yet_is s.tried (sym is ∙ s.told));
+          moves = due;
           rests = rests;
           still = λ is. ap (λ (j : JobSeen). j.flow) s.is;
           others = others;
-          refused = refused_is_so terms lines place attempt old mid s;
-          room = room_after terms lines place attempt old mid posted s;
+          refused = refused_is_so terms lines place tried old mid s;
+          room = room_after terms lines place tried old mid posted s;
         }
       where
         one_flow : HasOneFlow mid
-        one_flow i t at none = elim (post_now terms lines place attempt old mid s i t at) [
+        one_flow i t at none = elim (post_now terms lines place tried old mid s i t at) [
           | inl here ↦
-              let mine = nothing_gained terms s.line.def old.actor s.post.pass.knows s.after.pass.knows s.tried attempt s.told not s.tries in
+              let mine = nothing_gained terms s.line.def old.actor s.post.pass.knows s.after.pass.knows tried not s.tries in
               ap (λ (x : PostSeen). has_flow x.pass.def (own_past x.pass.knows.mine)) here.1
               ∙ (ap (λ (d : LineDef). has_flow d (own_past s.after.pass.knows.mine)) (s.is_post.of_line.1 ∙ sym post_def)
               ∙ (ap (λ (ps : List Placed). has_flow s.post.pass.def (own_past ps)) mine
@@ -193,7 +175,7 @@ module _ (terms : Terms) (lines : List LockSeen) (place : ℕ) (old mid : JobSee
         ]
 
         -- on the line of the flow something was due
-        due : old.flow ≡ Some place → s.tried ≡ Ok None → ⊥
+        due : old.flow ≡ Some place → tried ≡ Ok None → ⊥
         due was none =
             let f = its place was in
             let same : f.1 ≡ s.post = the_same f.1 s.post (sym f.3 ∙ s.at_post) in
@@ -207,32 +189,32 @@ module _ (terms : Terms) (lines : List LockSeen) (place : ℕ) (old mid : JobSee
             let at_place : old.flow ≡ Some place = was ∙ ap (λ (k : ℕ). Some k) here in
             let f = its place at_place in
             let same : f.1 ≡ s.post = the_same f.1 s.post (sym f.3 ∙ s.at_post) in
-            let mine = nothing_gained terms s.line.def old.actor s.post.pass.knows s.after.pass.knows s.tried attempt s.told not s.tries in (
+            let mine = nothing_gained terms s.line.def old.actor s.post.pass.knows s.after.pass.knows tried not s.tries in (
               f.0,
               s.after,
               ap (λ (j : JobSeen). j.actor) s.is ∙ f.2,
-              ap (λ (k : ℕ). slice_get mid.posts k) here ∙ post_there terms lines place attempt old mid s,
-              s.rests ∙ never_rests s.tried (due at_place),
+              ap (λ (k : ℕ). slice_get mid.posts k) here ∙ post_there terms lines place tried old mid s,
+              s.rests ∙ never_rests tried (due at_place),
               ap (λ (d : LineDef). flow d (own_past s.after.pass.knows.mine)) (s.is_post.of_line.1 ∙ sym post_def)
                   ∙ (ap (λ (ps : List Placed). flow s.post.pass.def (own_past ps)) mine
                   ∙ subst (λ (x : PostSeen). IsInFlow x.pass.def f.0 x.pass.knows) same f.5),
             )
 
-        rests : attempt ≡ attempts.NotYet → (t : PostSeen) → slice_get mid.posts place ≡ Some t → t.rests ≡ true
-        rests is t at = elim (post_now terms lines place attempt old mid s place t at) [
-          | inl here ↦ ap (λ (x : PostSeen). x.rests) here.1 ∙ (s.rests ∙ ap rests_after (not_yet_is s.tried (sym is ∙ s.told)))
+        rests : tried ≡ Ok None → (t : PostSeen) → slice_get mid.posts place ≡ Some t → t.rests ≡ true
+        rests is t at = elim (post_now terms lines place tried old mid s place t at) [
+          | inl here ↦ ap (λ (x : PostSeen). x.rests) here.1 ∙ (s.rests ∙ ap rests_after is)
           | inr other ↦ absurd (other.0 refl)
         ]
 
         others : (i : ℕ) (t : PostSeen) → (i ≡ place → ⊥) → slice_get mid.posts i ≡ Some t → slice_get old.posts i ≡ Some t
-        others i t apart at = elim (post_now terms lines place attempt old mid s i t at) [ inl here ↦ absurd (apart here.0) | inr other ↦ other.1 ]
+        others i t apart at = elim (post_now terms lines place tried old mid s i t at) [ inl here ↦ absurd (apart here.0) | inr other ↦ other.1 ]
 
   -- when an entry was added
-  pub cpu_moved : (e : Entry) (s : StepsPost terms lines place (attempts.Moved e) old mid) (w : FlowKind) (new : JobSeen)
+  pub cpu_moved : (e : Entry) (s : StepsPost terms lines place (Ok (Some e)) old mid) (w : FlowKind) (new : JobSeen)
       → w ≡ s.line.def.flow → new ≡ record mid { flow = flow_after w e place mid.flow }
-      → StepsCpu terms lines place (attempts.Moved e) old new
+      → StepsCpu terms lines place (Ok (Some e)) old new
   cpu_moved e s w new way is =
-      let k = keeps_posts terms lines place (attempts.Moved e) old mid posted s in
+      let k = keeps_posts terms lines place (Ok (Some e)) old mid posted s in
       record {
         keeps = record {
           actor = ap (λ (j : JobSeen). j.actor) is ∙ k.actor;
@@ -248,26 +230,25 @@ module _ (terms : Terms) (lines : List LockSeen) (place : ℕ) (old mid : JobSee
         still = λ h. cc;
         others = others;
         refused = tt;
-        room = room_as (attempts.Moved e) old mid new (ap (λ (j : JobSeen). j.posts) is) (room_after terms lines place (attempts.Moved e) old mid posted s);
+        room = room_as (Ok (Some e)) old mid new (ap (λ (j : JobSeen). j.posts) is) (room_after terms lines place (Ok (Some e)) old mid posted s);
       }
     where
       post_at : (i : ℕ) (t : PostSeen) → slice_get new.posts i ≡ Some t → ((i ≡ place) × (t ≡ s.after)) ⊎ ((i ≡ place → ⊥) × (slice_get old.posts i ≡ Some t))
-      post_at i t at = post_now terms lines place (attempts.Moved e) old mid s i t (ap (λ (j : JobSeen). slice_get j.posts i) (sym is) ∙ at)
+      post_at i t at = post_now terms lines place (Ok (Some e)) old mid s i t (ap (λ (j : JobSeen). slice_get j.posts i) (sym is) ∙ at)
 
       others : (i : ℕ) (t : PostSeen) → (i ≡ place → ⊥) → slice_get new.posts i ≡ Some t → slice_get old.posts i ≡ Some t
       others i t apart at = elim (post_at i t at) [ inl here ↦ absurd (apart here.0) | inr other ↦ other.1 ]
 
       gains : Gains terms.gave s.line.def old.actor s.post.pass.knows e s.after.pass.knows
-      gains = (subst (λ (r : Result (Option Entry) StepRefused). Tries terms s.line.def old.actor s.post.pass.knows r
-          s.after.pass.knows) (moved_is e s.tried s.told) s.tries).came
+      gains = s.tries.came
 
       def_is : s.after.pass.def ≡ s.post.pass.def
-      def_is = s.is_post.of_line.1 ∙ sym (post_def (attempts.Moved e) s)
+      def_is = s.is_post.of_line.1 ∙ sym (post_def (Ok (Some e)) s)
 
       flow_is : (h c : Bool) → is_handle e ≡ h → closes s.post.pass.def e ≡ c → new.flow ≡ cond h (Some place) (cond c None old.flow)
       flow_is h c is_h is_c =
           ap (λ (j : JobSeen). j.flow) is
-          ∙ (ap (λ (v : FlowKind). flow_after v e place mid.flow) (way ∙ ap (λ (d : LineDef). d.flow) (sym (post_def (attempts.Moved e) s)))
+          ∙ (ap (λ (v : FlowKind). flow_after v e place mid.flow) (way ∙ ap (λ (d : LineDef). d.flow) (sym (post_def (Ok (Some e)) s)))
           ∙ (ap (λ (b : Bool). cond b (Some place) (cond (closes s.post.pass.def e) None mid.flow)) is_h
           ∙ (ap (λ (b : Bool). cond h (Some place) (cond b None mid.flow)) is_c
           ∙ ap (λ (j : JobSeen). cond h (Some place) (cond c None j.flow)) s.is)))
@@ -298,8 +279,8 @@ module _ (terms : Terms) (lines : List LockSeen) (place : ℕ) (old mid : JobSee
         s.after,
         ap (λ (j : JobSeen). j.actor) is ∙ (ap (λ (j : JobSeen). j.actor) s.is ∙ actor),
         ap (λ (j : JobSeen). slice_get j.posts i) is ∙
-            (ap (λ (k : ℕ). slice_get mid.posts k) here ∙ post_there terms lines place (attempts.Moved e) old mid s),
-        s.rests ∙ ap rests_after (moved_is e s.tried s.told),
+            (ap (λ (k : ℕ). slice_get mid.posts k) here ∙ post_there terms lines place (Ok (Some e)) old mid s),
+        s.rests,
         its_flow,
       )
 
@@ -346,43 +327,37 @@ keeps_on {terms} lines a b c k l =
       grew = posts_more terms.gave a.posts b.posts c.posts k.grew l.grew;
     }
 
-pub not_yet_from : (attempt : Attempt) → is_not_yet attempt ≡ true → attempt ≡ attempts.NotYet
-not_yet_from (attempts.Moved e) is = cc
-not_yet_from attempts.NotYet is = refl
-not_yet_from (attempts.Full line len) is = cc
-not_yet_from attempts.NoMemory is = cc
-
 pub rests_more : (terms : Terms) (lines : List LockSeen) (place : ℕ)
-    (attempt : Attempt) (old new : JobSeen) → attempt ≡ attempts.NotYet
-    → StepsCpu terms lines place attempt old new → ((i : ℕ) (s : PostSeen) → i < place → slice_get old.posts i ≡ Some s
+    (tried : Result (Option Entry) StepRefused) (old new : JobSeen) → tried ≡ Ok None
+    → StepsCpu terms lines place tried old new → ((i : ℕ) (s : PostSeen) → i < place → slice_get old.posts i ≡ Some s
     → s.rests ≡ true)
     → (i : ℕ) (s : PostSeen) → i < place + 1 → slice_get new.posts i ≡ Some s → s.rests ≡ true
-rests_more terms lines place attempt old new not s rest i t less at = elim (two i place less) [
+rests_more terms lines place tried old new not s rest i t less at = elim (two i place less) [
   | inl before ↦ rest i t before (s.others i t (λ same. omega (arith, same, before)) at)
   | inr here ↦ s.rests not t (ap (λ (k : ℕ). slice_get new.posts k) (sym here) ∙ at)
 ]
 
 -- a processor's attempt that did something, after tries at which nothing was due
-pub cpu_after : (terms : Terms) (lines : List LockSeen) (attempt : Attempt)
+pub cpu_after : (terms : Terms) (lines : List LockSeen) (tried : Result (Option Entry) StepRefused)
     (old mid now new : JobSeen) (place : ℕ) → KeepsPosts terms lines old mid → StaysSo old mid
-    → StepsCpu terms lines place attempt mid now → is_not_yet attempt ≡ false → new ≡ now
-    → AttemptsCpu terms lines attempt old new
-cpu_after terms lines attempt old mid now new place k stay s not same =
-    subst (λ (j : JobSeen). AttemptsCpu terms lines attempt old j) (sym same)
+    → StepsCpu terms lines place tried mid now → (tried ≡ Ok None → ⊥) → new ≡ now
+    → AttemptsCpu terms lines tried old new
+cpu_after terms lines tried old mid now new place k stay s not same =
+    subst (λ (j : JobSeen). AttemptsCpu terms lines tried old j) (sym same)
     (record {
       keeps = keeps_on lines old mid now k s.keeps;
       flow = s.flow;
       its = s.its;
-      rests = λ is. let h : true ≡ false = sym (ap is_not_yet is) ∙ not in cc;
+      rests = λ is. absurd (not is);
       refused = s.refused;
-      room = room_from attempt old mid now stay s.room;
+      room = room_from tried old mid now stay s.room;
     })
 
 -- a processor's attempt when nothing was due on any line
 pub cpu_done : (terms : Terms) (lines : List LockSeen) (old now : JobSeen) (place : ℕ)
     → KeepsPosts terms lines old now → HasOneFlow now → now.flow ≡ None
     → ((i : ℕ) (s : PostSeen) → i < place → slice_get now.posts i ≡ Some s → s.rests ≡ true) → length now.posts ≤ place
-    → StaysSo old now → AttemptsCpu terms lines attempts.NotYet old now
+    → StaysSo old now → AttemptsCpu terms lines (Ok None) old now
 cpu_done terms lines old now place k flow none rest all stay =
     record {
       keeps = k;

@@ -19,7 +19,6 @@ use Rattle.workers.specs.Given.{AreOwnGiven, IsPassGiven}
 use Rattle.workers.specs.Grown.{Grows, PostsGrow, JobGrows, JobsGrow}
 use Rattle.workers.specs.Seen.{PostSeen, JobSeen}
 use Rattle.workers.specs.Tries.{Tries}
-use Rattle.workers.specs.declared.attempts.Attempt.{Attempt}
 use Rattle.workers.proofs.Given.{tried_given}
 use Rattle.workers.proofs.Lists.{there_or, within}
 use Rattle.workers.specs.Terms.{Terms}
@@ -84,9 +83,9 @@ module _ (terms : Terms) where
   own_grow def who old new (Err (refusals.Full number len)) t = ([], t.came.3 ∙ sym (append-nil old.mine))
   own_grow def who old new (Err refusals.NoMemory) t = ([], t.came.1 ∙ sym (append-nil old.mine))
 
-  pub posts_grew : (lines : List LockSeen) (place : ℕ) (attempt : Attempt) (old new : JobSeen) → ArePosted lines old
-      → StepsPost terms lines place attempt old new → PostsGrow terms.gave old.posts new.posts
-  posts_grew lines place attempt old new posted s =
+  pub posts_grew : (lines : List LockSeen) (place : ℕ) (tried : Result (Option Entry) StepRefused) (old new : JobSeen) → ArePosted lines old
+      → StepsPost terms lines place tried old new → PostsGrow terms.gave old.posts new.posts
+  posts_grew lines place tried old new posted s =
       subst (λ (ps : List PostSeen). PostsGrow terms.gave old.posts ps) (sym (ap (λ (j : JobSeen). j.posts) s.is))
       (posts_set terms.gave old.posts place s.after s.post s.at_post
       (record {
@@ -94,7 +93,7 @@ module _ (terms : Terms) where
         def = s.is_post.of_line.1 ∙ sym was.of_line.1;
         actor = s.is_post.actor ∙ sym was.actor;
         seen = s.tries.begins;
-        mine = own_grow s.line.def old.actor s.post.pass.knows s.after.pass.knows s.tried s.tries;
+        mine = own_grow s.line.def old.actor s.post.pass.knows s.after.pass.knows tried s.tries;
         given = given;
       }))
     where
@@ -108,7 +107,7 @@ module _ (terms : Terms) where
           = subst (λ (d : LineDef). AreOwnGiven terms.gave d old.actor (reverse s.post.pass.knows.seen)) was.of_line.1 (before old.actor was.actor) in
           subst (λ (d : LineDef). AreOwnGiven terms.gave d who (reverse s.after.pass.knows.seen)) (sym s.is_post.of_line.1)
           (subst (λ (a : Actor). AreOwnGiven terms.gave s.line.def a (reverse s.after.pass.knows.seen)) (sym same)
-          (tried_given terms s.line.def old.actor s.post.pass.knows s.after.pass.knows s.tried s.tries was.own its))
+          (tried_given terms s.line.def old.actor s.post.pass.knows s.after.pass.knows tried s.tries was.own its))
 
 -- ---- all jobs
 

@@ -1,7 +1,8 @@
 -- One more job.
-use Rattle.std.proofs.Common.{◌≡◌, ℕ, suc, ◌+◌, ◌<◌, ◌≤◌, inl, inr, Bool, true, false, ◌&&◌, cond, nat_le, nat_lt}
+use Rattle.std.proofs.Common.{◌≡◌, ℕ, suc, ◌+◌, ◌<◌, ◌≤◌, inl, inr, Bool, true, false, ◌&&◌, cond, nat_le, nat_lt, Ok}
 use Rattle.std.proofs.Common.{IsSomeAnd, Option, Some, None, List, [], ◌∷◌, ◌++◌, map, filter, take, length, get_or}
 use Rattle.std.proofs.Common.{slice_get, IsPermutation, refl, sym, ap, ◌∙◌, subst, arith}
+use Rattle.workers.specs.declared.job.Work.TheVariants as works
 use Rattle.irq_base.specs.declared.devices.DeviceDef.{DeviceDef}
 use Rattle.irq_base.specs.declared.entries.Actor.{Actor}
 use Rattle.irq_base.specs.declared.entries.Actor.TheVariants as actors
@@ -31,7 +32,6 @@ use Rattle.workers.specs.Fit.{actors_on, IsFirst, AreFirsts, workers_of, Fit}
 use Rattle.workers.specs.Forks.{CanFork, IsLeft, is_within, Forks, IsSpan, AreBoards, Hires}
 use Rattle.workers.specs.Grown.{IsNewJob, HaveSeenNothing, AreNew}
 use Rattle.workers.specs.Seen.{PostSeen, JobSeen, JobsSeen}
-use Rattle.workers.specs.declared.job.PartEnd.TheVariants as part_ends
 use Rattle.workers.proofs.Lists.{of_map, within, at_snoc, there_or}
 use Rattle.workers.proofs.Manning.{map_more, taken, all_taken}
 
@@ -299,10 +299,10 @@ pub hires_one : (lines here : List LockSeen) (s : JobsSeen) (board : BoardSeen) 
     (firsts new : List PassSeen) (who : Actor) (first end : ℕ) (posts : List PostSeen)
     → here ≡ lines → record { board = board; jobs = jobs; firsts = firsts } ≡ s → AreFirsts lines s.jobs s.firsts
     → IsSpan board lines who first end → Forks here first end who firsts new posts
-    → (after : List JobSeen) → after ≡ jobs ++ record { actor = who; first = first; posts = posts; flow = None; at = 0; end = part_ends.Idle } ∷ []
+    → (after : List JobSeen) → after ≡ jobs ++ record { actor = who; first = first; posts = posts; flow = None; at = 0; end = Ok works.Idle } ∷ []
     → Hires lines who s (record { board = board; jobs = after; firsts = new })
 hires_one lines here s board jobs firsts new who first end posts same is are span f after grown =
-    let j : JobSeen = record { actor = who; first = first; posts = posts; flow = None; at = 0; end = part_ends.Idle } in
+    let j : JobSeen = record { actor = who; first = first; posts = posts; flow = None; at = 0; end = Ok works.Idle } in
     let forks : Forks lines first end who firsts new posts = subst (λ (ls : List LockSeen). Forks ls first end who firsts new posts) same f in
     record {
       job = j;
@@ -321,13 +321,13 @@ hires_one lines here s board jobs firsts new who first end posts same is are spa
 pub new_one : (lines here : List LockSeen) (s : JobsSeen) (board : BoardSeen) (jobs : List JobSeen) (firsts new : List PassSeen)
     (who : Actor) (first end : ℕ) (posts : List PostSeen) → record { board = board; jobs = jobs; firsts = firsts } ≡ s
     → Forks here first end who firsts new posts → (after : List JobSeen)
-    → after ≡ jobs ++ record { actor = who; first = first; posts = posts; flow = None; at = 0; end = part_ends.Idle } ∷ []
+    → after ≡ jobs ++ record { actor = who; first = first; posts = posts; flow = None; at = 0; end = Ok works.Idle } ∷ []
     → AreNew s → AreNew (record { board = board; jobs = after; firsts = new })
 new_one lines here s board jobs firsts new who first end posts is f after grown old =
     let nothing : HaveSeenNothing firsts = subst HaveSeenNothing (ap (λ (x : JobsSeen). x.firsts) (sym is)) old.firsts in
     record {
       jobs = new_with here who first end firsts new posts f nothing jobs after
-          (record { actor = who; first = first; posts = posts; flow = None; at = 0; end = part_ends.Idle }) grown refl refl refl
+          (record { actor = who; first = first; posts = posts; flow = None; at = 0; end = Ok works.Idle }) grown refl refl refl
           (subst (λ (js : List JobSeen). (i : ℕ) (x : JobSeen) → slice_get js i ≡ Some x → IsNewJob x)
           (ap (λ (x : JobsSeen). x.jobs) (sym is)) old.jobs);
       firsts = nothing_seen here who first end firsts new posts f nothing;

@@ -1,6 +1,7 @@
 pub mod Trying
 pub mod Searching
 pub mod Lists
+pub mod Handing
 pub mod Forking
 pub mod Manning
 pub mod Hiring

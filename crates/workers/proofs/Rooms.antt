@@ -1,6 +1,8 @@
 -- How much more the passes of jobs can see, and how many steps were made, after a try, an attempt and a shift.
 use Rattle.std.proofs.Common.{◌≡◌, ℕ, zero, suc, ◌<◌, ◌≤◌, IsSomeAnd, Option, Some, None, Result, Ok, Err, List, []}
-use Rattle.std.proofs.Common.{◌∷◌, length, get_or, set, slice_get, sym, ap, ◌∙◌, subst, arith, length-append}
+use Rattle.std.proofs.Common.{◌∷◌, length, get_or, set, slice_get, ap, ◌∙◌, subst, arith, length-append}
+use Rattle.workers.specs.declared.job.Work.{Work}
+use Rattle.workers.specs.declared.job.Work.TheVariants as works
 use Rattle.irq_base.specs.declared.entries.Entry.{Entry}
 use Rattle.irq_base.specs.declared.lines.LineDef.{LineDef}
 use Rattle.irq_laws.proofs.Chosen.{the_same}
@@ -14,11 +16,7 @@ use Rattle.workers.specs.Grown.{made_by}
 use Rattle.workers.specs.Room.{room_of, room_of_posts, room_of_jobs, RoomAfter, RoomAfterPart}
 use Rattle.workers.specs.Seen.{PostSeen, JobSeen}
 use Rattle.workers.specs.Tries.{Tries}
-use Rattle.workers.specs.Attempts.{attempt_of, StepsPost}
-use Rattle.workers.specs.declared.job.PartEnd.{PartEnd}
-use Rattle.workers.specs.declared.job.PartEnd.TheVariants as part_ends
-use Rattle.workers.specs.declared.attempts.Attempt.{Attempt}
-use Rattle.workers.specs.declared.attempts.Attempt.TheVariants as attempts
+use Rattle.workers.specs.Attempts.{StepsPost}
 use Rattle.workers.specs.Terms.{Terms}
 
 -- ---- one pass
@@ -53,9 +51,9 @@ made_same (z ∷ zs) (suc k) y x at same = let l = made_same zs k y x at same in
 
 -- ---- one try
 
-pub room_after : (terms : Terms) (lines : List LockSeen) (place : ℕ) (attempt : Attempt)
-    (old new : JobSeen) → ArePosted lines old → StepsPost terms lines place attempt old new → RoomAfter attempt old new
-room_after terms lines place attempt old new posted s = subst (λ (t : Attempt). RoomAfter t old new) (sym s.told) (by_tried s.tried s.tries)
+pub room_after : (terms : Terms) (lines : List LockSeen) (place : ℕ) (tried : Result (Option Entry) StepRefused)
+    (old new : JobSeen) → ArePosted lines old → StepsPost terms lines place tried old new → RoomAfter tried old new
+room_after terms lines place tried old new posted s = by_tried tried s.tries
   where
     posts_are : new.posts ≡ set old.posts place s.after
     posts_are = ap (λ (j : JobSeen). j.posts) s.is
@@ -87,7 +85,7 @@ room_after terms lines place attempt old new posted s = subst (λ (t : Attempt).
 
     by_tried : (tried : Result (Option Entry) StepRefused)
         → Tries terms s.line.def old.actor s.post.pass.knows tried s.after.pass.knows
-        → RoomAfter (attempt_of tried) old new
+        → RoomAfter tried old new
     by_tried (Ok (Some e)) t =
         let g = t.came in
         let l = no_shorter g.history s.post.pass.knows.seen g.onto in
@@ -114,53 +112,47 @@ pub stays : (old new : JobSeen) → new.posts ≡ old.posts → StaysSo old new
 stays old new same = (let e = ap room_of_posts same in omega (arith, e), ap made_by same)
 
 -- an attempt leaves no more room
-pub no_more_room : (attempt : Attempt) (old new : JobSeen) → RoomAfter attempt old new → room_of_posts new.posts ≤ room_of_posts old.posts
-no_more_room (attempts.Moved e) old new r = let s = r.0 in omega (arith, s)
-no_more_room attempts.NotYet old new r = r.0
-no_more_room (attempts.Full line len) old new r = r.0
-no_more_room attempts.NoMemory old new r = r.0
+pub no_more_room : (tried : Result (Option Entry) StepRefused) (old new : JobSeen) → RoomAfter tried old new → room_of_posts new.posts ≤ room_of_posts old.posts
+no_more_room (Ok (Some e)) old new r = let s = r.0 in omega (arith, s)
+no_more_room (Ok None) old new r = r.0
+no_more_room (Err refused) old new r = r.0
 
 -- after others that left no more room, and made no step
-pub room_from : (attempt : Attempt) (a b c : JobSeen) → StaysSo a b → RoomAfter attempt b c → RoomAfter attempt a c
-room_from (attempts.Moved e) a b c first r =
+pub room_from : (tried : Result (Option Entry) StepRefused) (a b c : JobSeen) → StaysSo a b → RoomAfter tried b c → RoomAfter tried a c
+room_from (Ok (Some e)) a b c first r =
     let f = first.0 in let g = first.1 in let s = r.0 in let t = r.1 in (omega (arith, f, s), omega (arith, g, t))
-room_from attempts.NotYet a b c first r = let f = first.0 in let s = r.0 in (omega (arith, f, s), r.1 ∙ first.1)
-room_from (attempts.Full line len) a b c first r = let f = first.0 in let s = r.0 in (omega (arith, f, s), r.1 ∙ first.1)
-room_from attempts.NoMemory a b c first r = let f = first.0 in let s = r.0 in (omega (arith, f, s), r.1 ∙ first.1)
+room_from (Ok None) a b c first r = let f = first.0 in let s = r.0 in (omega (arith, f, s), r.1 ∙ first.1)
+room_from (Err refused) a b c first r = let f = first.0 in let s = r.0 in (omega (arith, f, s), r.1 ∙ first.1)
 
-pub stays_first : (attempt : Attempt) (a b : JobSeen) → attempt ≡ attempts.NotYet → RoomAfter attempt a b → StaysSo a b
-stays_first attempt a b not r = subst (λ (t : Attempt). RoomAfter t a b) not r
+pub stays_first : (tried : Result (Option Entry) StepRefused) (a b : JobSeen) → tried ≡ Ok None → RoomAfter tried a b → StaysSo a b
+stays_first tried a b not r = subst (λ (t : Result (Option Entry) StepRefused). RoomAfter t a b) not r
 
-pub stays_on : (attempt : Attempt) (a b c : JobSeen) → attempt ≡ attempts.NotYet → StaysSo a b → RoomAfter attempt b c → StaysSo a c
-stays_on attempt a b c not first r = room_from attempts.NotYet a b c first (subst (λ (t : Attempt). RoomAfter t b c) not r)
+pub stays_on : (tried : Result (Option Entry) StepRefused) (a b c : JobSeen) → tried ≡ Ok None → StaysSo a b → RoomAfter tried b c → StaysSo a c
+stays_on tried a b c not first r = room_from (Ok None) a b c first (subst (λ (t : Result (Option Entry) StepRefused). RoomAfter t b c) not r)
 
 -- with the same passes there is the same room
-pub room_as : (attempt : Attempt) (old mid new : JobSeen) → new.posts ≡ mid.posts → RoomAfter attempt old mid → RoomAfter attempt old new
-room_as attempt old mid new same r = by_attempt attempt r
+pub room_as : (tried : Result (Option Entry) StepRefused) (old mid new : JobSeen) → new.posts ≡ mid.posts → RoomAfter tried old mid → RoomAfter tried old new
+room_as tried old mid new same r = by_attempt tried r
   where
-    by_attempt : (t : Attempt) → RoomAfter t old mid → RoomAfter t old new
-    by_attempt (attempts.Moved e) r = let e = ap room_of_posts same in let m = ap made_by same in
+    by_attempt : (t : Result (Option Entry) StepRefused) → RoomAfter t old mid → RoomAfter t old new
+    by_attempt (Ok (Some e)) r = let e = ap room_of_posts same in let m = ap made_by same in
         let a = r.0 in let b = r.1 in (omega (arith, e, a), omega (arith, m, b))
-    by_attempt attempts.NotYet r = let e = ap room_of_posts same in let a = r.0 in (omega (arith, e, a), ap made_by same ∙ r.1)
-    by_attempt (attempts.Full line len) r = let e = ap room_of_posts same in let a = r.0 in (omega (arith, e, a), ap made_by same ∙ r.1)
-    by_attempt attempts.NoMemory r = let e = ap room_of_posts same in let a = r.0 in (omega (arith, e, a), ap made_by same ∙ r.1)
+    by_attempt (Ok None) r = let e = ap room_of_posts same in let a = r.0 in (omega (arith, e, a), ap made_by same ∙ r.1)
+    by_attempt (Err refused) r = let e = ap room_of_posts same in let a = r.0 in (omega (arith, e, a), ap made_by same ∙ r.1)
 
 -- ---- a worker's part of a shift
 
-pub room_after_part : (end : PartEnd) (old now new : JobSeen) → new.posts ≡ now.posts → RoomAfterPart end old now → RoomAfterPart end old new
-room_after_part part_ends.Idle old now new same r = let e = ap room_of_posts same in let a = r.0 in (omega (arith, e, a), ap made_by same ∙ r.1)
-room_after_part part_ends.Busy old now new same r = let e = ap room_of_posts same in let m = ap made_by same in
+pub room_after_part : (end : Result Work StepRefused) (old now new : JobSeen) → new.posts ≡ now.posts → RoomAfterPart end old now → RoomAfterPart end old new
+room_after_part (Ok works.Idle) old now new same r = let e = ap room_of_posts same in let a = r.0 in (omega (arith, e, a), ap made_by same ∙ r.1)
+room_after_part (Ok works.Busy) old now new same r = let e = ap room_of_posts same in let m = ap made_by same in
     let a = r.0 in let b = r.1 in (omega (arith, e, a), omega (arith, m, b))
-room_after_part (part_ends.Full line len) old now new same r = let e = ap room_of_posts same in let m = ap made_by same in
-    let a = r.0 in let b = r.1 in (omega (arith, e, a), omega (arith, m, b))
-room_after_part part_ends.NoMemory old now new same r = let e = ap room_of_posts same in let m = ap made_by same in
+room_after_part (Err refused) old now new same r = let e = ap room_of_posts same in let m = ap made_by same in
     let a = r.0 in let b = r.1 in (omega (arith, e, a), omega (arith, m, b))
 
-pub no_more_after_part : (end : PartEnd) (old new : JobSeen) → RoomAfterPart end old new → room_of_posts new.posts ≤ room_of_posts old.posts
-no_more_after_part part_ends.Idle old new r = r.0
-no_more_after_part part_ends.Busy old new r = let s = r.0 in omega (arith, s)
-no_more_after_part (part_ends.Full line len) old new r = r.0
-no_more_after_part part_ends.NoMemory old new r = r.0
+pub no_more_after_part : (end : Result Work StepRefused) (old new : JobSeen) → RoomAfterPart end old new → room_of_posts new.posts ≤ room_of_posts old.posts
+no_more_after_part (Ok works.Idle) old new r = r.0
+no_more_after_part (Ok works.Busy) old new r = let s = r.0 in omega (arith, s)
+no_more_after_part (Err refused) old new r = r.0
 
 -- ---- a shift
 
@@ -177,13 +169,13 @@ all_no_more (x ∷ xs) (y ∷ ys) long each =
     omega (arith, first, rest)
 
 pub some_less : (old new : List JobSeen) (i : ℕ) (j : JobSeen) → length new ≡ length old → EachLeaves old new
-    → slice_get new i ≡ Some j → j.end ≡ part_ends.Busy → room_of_jobs new < room_of_jobs old
+    → slice_get new i ≡ Some j → j.end ≡ Ok works.Busy → room_of_jobs new < room_of_jobs old
 some_less [] [] i j long each at is = cc
 some_less [] (y ∷ ys) i j long each at is = absurd (omega (arith, long))
 some_less (x ∷ xs) [] i j long each at is = cc
 some_less (x ∷ xs) (y ∷ ys) zero j long each at is =
     let first : room_of_posts y.posts < room_of_posts x.posts
-    = (subst (λ (l : PartEnd). RoomAfterPart l x y) (ap (λ (k : JobSeen). k.end) (the_same y j at) ∙ is)
+    = (subst (λ (l : Result Work StepRefused). RoomAfterPart l x y) (ap (λ (k : JobSeen). k.end) (the_same y j at) ∙ is)
     (each 0 x (omega arith))).0 in
     let rest = all_no_more xs ys (omega (arith, long)) (λ k d less. each (suc k) d (omega (arith, less))) in
     omega (arith, first, rest)

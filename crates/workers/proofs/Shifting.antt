@@ -1,7 +1,12 @@
 -- What an attempt of each kind of actor leaves of its job.
-use Rattle.std.proofs.Common.{◌≡◌, ℕ, suc, ◌+◌, ◌<◌, ◌≤◌, inl, inr, Bool, true, false, ◌&&◌, nat_le, nat_lt, ltb-true}
+use Rattle.std.proofs.Common.{◌≡◌, ℕ, suc, ◌+◌, ◌<◌, ◌≤◌, inl, inr, Bool, true, false, ◌&&◌, nat_le, nat_lt, ltb-true, Result, Ok, Err, IfErr, IsOk, is_ok}
 use Rattle.std.proofs.Common.{ltb-false, cond, All, IsSomeAnd, Option, Some, None, List, [], ◌∷◌, ◌++◌, map, filter}
 use Rattle.std.proofs.Common.{take, drop, length, get_or, slice_get, IsPermutation, refl, sym, ap, ◌∙◌, subst, arith}
+use Rattle.irq_line.specs.declared.answers.StepRefused.TheVariants as refusals
+use Rattle.irq_line.specs.declared.answers.StepRefused.{StepRefused}
+use Rattle.workers.specs.declared.job.Work.{Work}
+use Rattle.workers.specs.declared.job.Work.TheVariants as works
+use Rattle.irq_base.specs.declared.entries.Entry.{Entry}
 use Rattle.irq_base.specs.declared.entries.Actor.{Actor}
 use Rattle.irq_base.specs.declared.entries.Actor.TheVariants as actors
 use Rattle.irq_base.specs.declared.lines.LineDef.{LineDef}
@@ -16,29 +21,23 @@ use Rattle.line_lock.specs.Passes.{LockSeen, PassSeen}
 use Rattle.workers.specs.Fit.{IsPost, ArePosted, IsPlaceOfDevice, IsManned, IsJob, works_on, actors_on, workers_of, IsFirst, AreFirsts, Fit}
 use Rattle.workers.specs.Room.{RoomAfterPart, room_of_jobs}
 use Rattle.workers.specs.Grown.{JobsGrow}
-use Rattle.workers.specs.Shifts.{IsAtRest, WorksOn, is_refused, ComesTo, AttemptsJob, EndIsSo, WorksJob, KeepsJobs}
+use Rattle.workers.specs.Shifts.{IsAtRest, WorksOn, ComesTo, AttemptsJob, EndIsSo, WorksJob, KeepsJobs}
 use Rattle.workers.specs.Shifts.{IsSomeEnd, NoneFull, NoneRefused, MadeNone}
 use Rattle.workers.specs.Shifts.{EachEndedSo, worse, IsLowestFull, SumsUp, Ends}
 use Rattle.workers.specs.Seen.{PostSeen, JobSeen, JobsSeen}
 use Rattle.workers.specs.Tries.{IsIdle, rests_after}
-use Rattle.workers.specs.Attempts.{StepsPost, KeepsPosts, RefusedIsSo, AttemptsCpu, IsDriven, AttemptsDriver}
-use Rattle.workers.specs.declared.job.PartEnd.{PartEnd}
-use Rattle.workers.specs.declared.job.PartEnd.TheVariants as part_ends
-use Rattle.workers.specs.declared.shifts.ShiftsEnd.TheVariants as ends
-use Rattle.workers.specs.declared.attempts.Attempt.{Attempt}
-use Rattle.workers.specs.declared.attempts.Attempt.TheVariants as attempts
-use Rattle.workers.proofs.Flowing.{keeps_posts, post_now, refused_is_so, not_yet_is}
+use Rattle.workers.specs.Attempts.{StepsPost, KeepsPosts, IsRefusedOn, AttemptsCpu, IsDriven, AttemptsDriver}
+use Rattle.workers.proofs.Flowing.{keeps_posts, post_now, refused_is_so}
 use Rattle.workers.proofs.Growing.{posts_self, posts_more, jobs_grew}
 use Rattle.workers.proofs.Lists.{within, there_or, two}
 use Rattle.workers.proofs.Rooms.{room_after, room_after_part, all_no_more, some_less}
 use Rattle.workers.specs.Terms.{Terms}
 
-comes : (terms : Terms) (board : BoardSeen) (j : JobSeen) (attempt : Attempt)
-    → (attempt ≡ attempts.NotYet → IsAtRest board j j.actor) → RefusedIsSo terms j attempt → ComesTo terms board j attempt
-comes terms board j (attempts.Moved e) rest refused = tt
-comes terms board j attempts.NotYet rest refused = rest refl
-comes terms board j (attempts.Full line len) rest refused = refused
-comes terms board j attempts.NoMemory rest refused = refused
+comes : (terms : Terms) (board : BoardSeen) (j : JobSeen) (tried : Result (Option Entry) StepRefused)
+    → (tried ≡ Ok None → IsAtRest board j j.actor) → IfErr tried (IsRefusedOn terms j) → ComesTo terms board j tried
+comes terms board j (Ok (Some e)) rest refused = tt
+comes terms board j (Ok None) rest refused = rest refl
+comes terms board j (Err why) rest refused = refused
 
 -- a pass that rests
 idle_of : (lines : List LockSeen) (j : JobSeen) → ArePosted lines j → (i : ℕ) (s : PostSeen)
@@ -50,12 +49,12 @@ idle_of lines j posted i s at rests = by_line (slice_get lines (j.first + i)) (p
     by_line (Some l) is = subst (λ (d : LineDef). IsIdle d j.actor s.pass.knows) (sym is.of_line.1) (is.rests rests)
 
 module _ (terms : Terms) (board : BoardSeen) (lines : List LockSeen)
-    (attempt : Attempt) (old new : JobSeen) (job : IsJob board lines old) where
+    (tried : Result (Option Entry) StepRefused) (old new : JobSeen) (job : IsJob board lines old) where
   manned_as : (a : Actor) → old.actor ≡ a → IsManned board lines old a
   manned_as a is = subst (λ (b : Actor). IsManned board lines old b) is job.manned
 
-  works : (k : KeepsPosts terms lines old new) (a : Actor) → old.actor ≡ a → IsManned board lines new a → WorksOn terms board lines old new
-  works k a is manned = record {
+  worked : (k : KeepsPosts terms lines old new) (a : Actor) → old.actor ≡ a → IsManned board lines new a → WorksOn terms board lines old new
+  worked k a is manned = record {
     actor = k.actor;
     first = k.first;
     as_many = k.as_many;
@@ -69,49 +68,49 @@ module _ (terms : Terms) (board : BoardSeen) (lines : List LockSeen)
   }
 
   pub thread_attempted : (dev : DevNo) → old.actor ≡ actors.Thread dev
-      → StepsPost terms lines 0 attempt old new → AttemptsJob terms board lines attempt old new
+      → StepsPost terms lines 0 tried old new → AttemptsJob terms board lines tried old new
   thread_attempted dev is s =
       record {
-        works = works k (actors.Thread dev) is (
+        works = worked k (actors.Thread dev) is (
           let l = k.as_many in let o = m.0 in
               omega (arith, l, o),
           subst (λ (n : ℕ). IsPlaceOfDevice board lines dev n) (sym k.first) m.1,
         );
-        came = comes terms board new attempt rest (refused_is_so terms lines 0 attempt old new s);
-        room = room_after terms lines 0 attempt old new job.posted s;
+        came = comes terms board new tried rest (refused_is_so terms lines 0 tried old new s);
+        room = room_after terms lines 0 tried old new job.posted s;
       }
     where
       k : KeepsPosts terms lines old new
-      k = keeps_posts terms lines 0 attempt old new job.posted s
+      k = keeps_posts terms lines 0 tried old new job.posted s
 
       m : IsManned board lines old (actors.Thread dev)
       m = manned_as (actors.Thread dev) is
 
-      rest : attempt ≡ attempts.NotYet → IsAtRest board new new.actor
+      rest : tried ≡ Ok None → IsAtRest board new new.actor
       rest not = subst (λ (a : Actor). IsAtRest board new a) (sym (k.actor ∙ is)) each
         where
           each : (i : ℕ) (t : PostSeen) → slice_get new.posts i ≡ Some t → IsIdle t.pass.def (actors.Thread dev) t.pass.knows
-          each i t at = elim (post_now terms lines 0 attempt old new s i t at) [
+          each i t at = elim (post_now terms lines 0 tried old new s i t at) [
             | inl here ↦
                 subst (λ (a : Actor). IsIdle t.pass.def a t.pass.knows) (k.actor ∙ is)
                 (idle_of lines new k.posted i t at (ap (λ (x : PostSeen). x.rests) here.1
-                ∙ (s.rests ∙ ap rests_after (not_yet_is s.tried (sym not ∙ s.told)))))
+                ∙ (s.rests ∙ ap rests_after not)))
             | inr other ↦ absurd (other.0 (let w = within new.posts i t at in let l = k.as_many in let o = m.0 in omega (arith, w, l, o)))
           ]
 
-  pub cpu_attempted : (c : CpuNo) → old.actor ≡ actors.Cpu c → AttemptsCpu terms lines attempt old new
-      → AttemptsJob terms board lines attempt old new
+  pub cpu_attempted : (c : CpuNo) → old.actor ≡ actors.Cpu c → AttemptsCpu terms lines tried old new
+      → AttemptsJob terms board lines tried old new
   cpu_attempted c is t =
       record {
-        works = works t.keeps (actors.Cpu c) is (t.keeps.first ∙ m.0, t.keeps.as_many ∙ m.1, t.flow, t.its);
-        came = comes terms board new attempt rest t.refused;
+        works = worked t.keeps (actors.Cpu c) is (t.keeps.first ∙ m.0, t.keeps.as_many ∙ m.1, t.flow, t.its);
+        came = comes terms board new tried rest t.refused;
         room = t.room;
       }
     where
       m : IsManned board lines old (actors.Cpu c)
       m = manned_as (actors.Cpu c) is
 
-      rest : attempt ≡ attempts.NotYet → IsAtRest board new new.actor
+      rest : tried ≡ Ok None → IsAtRest board new new.actor
       rest not = subst (λ (a : Actor). IsAtRest board new a) (sym (t.keeps.actor ∙ is)) each
         where
           each : (i : ℕ) (s : PostSeen) → slice_get new.posts i ≡ Some s → IsIdle s.pass.def (actors.Cpu c) s.pass.knows
@@ -123,13 +122,13 @@ module _ (terms : Terms) (board : BoardSeen) (lines : List LockSeen)
       let m = manned_as (actors.Driver r) is in
       record { actor = is; posted = job.posted; first = m.0; as_many = m.1; up_to = m.2; within = m.3 }
 
-  pub job_driven : (r : DriverNo) → old.actor ≡ actors.Driver r → AttemptsDriver terms board lines r attempt old new
-      → AttemptsJob terms board lines attempt old new
+  pub job_driven : (r : DriverNo) → old.actor ≡ actors.Driver r → AttemptsDriver terms board lines r tried old new
+      → AttemptsJob terms board lines tried old new
   job_driven r is t =
       let m = manned_as (actors.Driver r) is in
       record {
-        works = works t.keeps (actors.Driver r) is (t.keeps.first ∙ m.0, t.keeps.as_many ∙ m.1, t.up_to, t.within);
-        came = comes terms board new attempt (λ not. subst (λ (a : Actor). IsAtRest board new a) (sym (t.keeps.actor ∙ is)) (t.rests not)) t.refused;
+        works = worked t.keeps (actors.Driver r) is (t.keeps.first ∙ m.0, t.keeps.as_many ∙ m.1, t.up_to, t.within);
+        came = comes terms board new tried (λ not. subst (λ (a : Actor). IsAtRest board new a) (sym (t.keeps.actor ∙ is)) (t.rests not)) t.refused;
         room = t.room;
       }
 
@@ -149,7 +148,7 @@ works_more {terms} board lines a b c v w =
       grew = posts_more terms.gave a.posts b.posts c.posts v.grew w.grew;
     }
 
-module _ (board : BoardSeen) (lines : List LockSeen) (now : JobSeen) (end : PartEnd) where
+module _ (board : BoardSeen) (lines : List LockSeen) (now : JobSeen) (end : Result Work StepRefused) where
   manned_ended : (a : Actor) → IsManned board lines now a → IsManned board lines (record now { end = end }) a
   manned_ended (actors.Thread dev) m = m
   manned_ended (actors.Cpu c) m = m
@@ -173,12 +172,12 @@ module _ (board : BoardSeen) (lines : List LockSeen) (now : JobSeen) (end : Part
     })
   ]
 
-  end_so : (terms : Terms) (l : PartEnd) → EndIsSo terms board now l
+  end_so : (terms : Terms) (l : Result Work StepRefused) → EndIsSo terms board now l
       → EndIsSo terms board (record now { end = end }) l
-  end_so terms part_ends.Idle is = rest_ended now.actor is
-  end_so terms part_ends.Busy is = tt
-  end_so terms (part_ends.Full line len) is = record { place = is.place; post = is.post; at = is.at; number = is.number; is = is.is; log = is.log }
-  end_so terms part_ends.NoMemory is = record { place = is.place; post = is.post; at = is.at; is = is.is }
+  end_so terms (Ok works.Idle) is = rest_ended now.actor is
+  end_so terms (Ok works.Busy) is = tt
+  end_so terms (Err (refusals.Full line len)) is = record { place = is.place; post = is.post; at = is.at; number = is.number; is = is.is; log = is.log }
+  end_so terms (Err refusals.NoMemory) is = record { place = is.place; post = is.post; at = is.at; is = is.is }
 
   pub job_ended : IsJob board lines now → IsJob board lines (record now { end = end })
   job_ended j = record { posted = j.posted; manned = manned_ended now.actor j.manned }
@@ -277,6 +276,10 @@ all_jobs lines s fit k d less = fit.each k (get_or s.jobs k d) (there_or s.jobs 
 
 -- ---- what is said of all jobs
 
+-- a part that ended at a full line ended at no other
+le_same : {end : Result Work StepRefused} {a b : LineNo} {m n : ℕ} → end ≡ Err (refusals.Full a m) → end ≡ Err (refusals.Full b n) → a.0 ≤ b.0
+le_same {end} {a} {b} is other = let e : a ≡ b = cc in let f = ap (λ (l : LineNo). l.0) e in omega (arith, f)
+
 -- one job more
 module _ (jobs : List JobSeen) (n : ℕ) (job : JobSeen) (at : slice_get jobs n ≡ Some job) where
   more : {P : JobSeen → Type 0} → ((k : ℕ) (j : JobSeen) → k < n → slice_get jobs k ≡ Some j → P j) → P job
@@ -287,128 +290,118 @@ module _ (jobs : List JobSeen) (n : ℕ) (job : JobSeen) (at : slice_get jobs n 
   ]
 
   -- none found a full line, and this job neither
-  none_more : NoneFull jobs n → ((other : LineNo) (len : ℕ) → job.end ≡ part_ends.Full other len → ⊥) → NoneFull jobs (n + 1)
-  none_more old here k j other len less at_j = more {P = λ x. (other : LineNo) (len : ℕ) → x.end ≡ part_ends.Full other len
+  none_more : NoneFull jobs n → ((other : LineNo) (len : ℕ) → job.end ≡ Err (refusals.Full other len) → ⊥) → NoneFull jobs (n + 1)
+  none_more old here k j other len less at_j = more {P = λ x. (other : LineNo) (len : ℕ) → x.end ≡ Err (refusals.Full other len)
       → ⊥} (λ k j less at other len. old k j other len less at) here k j less at_j other len
 
-  idle_none : ((k : ℕ) (j : JobSeen) → k < n → slice_get jobs k ≡ Some j → j.end ≡ part_ends.Idle) → NoneFull jobs n
-  idle_none old k j other len less at_j is = let h : part_ends.Idle ≡ part_ends.Full other len = sym (old k j less at_j) ∙ is in cc
+  idle_none : ((k : ℕ) (j : JobSeen) → k < n → slice_get jobs k ≡ Some j → j.end ≡ Ok works.Idle) → NoneFull jobs n
+  idle_none old k j other len less at_j is = let h : Ok works.Idle ≡ Err (refusals.Full other len) = sym (old k j less at_j) ∙ is in cc
 
-  first_full : (b : LineNo) (m : ℕ) → job.end ≡ part_ends.Full b m → NoneFull jobs n → IsLowestFull jobs (n + 1) b m
+  first_full : (b : LineNo) (m : ℕ) → job.end ≡ Err (refusals.Full b m) → NoneFull jobs n → IsLowestFull jobs (n + 1) b m
   first_full b m is none =
       record {
         place = n;
         job = job;
         at = at;
         end = is;
-        lowest = λ k j other len less at_j. more {P = λ x. (other : LineNo) (len : ℕ) → x.end ≡ part_ends.Full other len
+        lowest = λ k j other len less at_j. more {P = λ x. (other : LineNo) (len : ℕ) → x.end ≡ Err (refusals.Full other len)
             → b.0 ≤ other.0} (λ k j less at other len h. absurd (none k j other len less at h))
-            (λ other len h. let same : part_ends.Full b m ≡ part_ends.Full other len = sym is ∙ h in le_same b other m len same) k j less at_j other len;
+            (λ other len h. le_same is h) k j less at_j other len;
       }
-    where
-      le_same : (a b : LineNo) (m n : ℕ) → part_ends.Full a m ≡ part_ends.Full b n → a.0 ≤ b.0
-      le_same a b m n h = let e : a ≡ b = cc in let f = ap (λ (l : LineNo). l.0) e in omega (arith, f)
 
   full_on : (a : LineNo) (m : ℕ) → IsLowestFull jobs n a m
-      → ((other : LineNo) (len : ℕ) → job.end ≡ part_ends.Full other len → a.0 ≤ other.0) → IsLowestFull jobs (n + 1) a m
+      → ((other : LineNo) (len : ℕ) → job.end ≡ Err (refusals.Full other len) → a.0 ≤ other.0) → IsLowestFull jobs (n + 1) a m
   full_on a m f here =
       record {
         place = f.place;
         job = f.job;
         at = f.at;
         end = f.end;
-        lowest = λ k j other len less at_j. more {P = λ x. (other : LineNo) (len : ℕ) → x.end ≡ part_ends.Full other len
+        lowest = λ k j other len less at_j. more {P = λ x. (other : LineNo) (len : ℕ) → x.end ≡ Err (refusals.Full other len)
             → a.0 ≤ other.0} (λ k j less at other len. f.lowest k j other len less at) here k j less at_j other len;
       }
 
-  lower_full : (a b : LineNo) (m l : ℕ) → b.0 < a.0 → job.end ≡ part_ends.Full b l → IsLowestFull jobs n a m → IsLowestFull jobs (n + 1) b l
+  lower_full : (a b : LineNo) (m l : ℕ) → b.0 < a.0 → job.end ≡ Err (refusals.Full b l) → IsLowestFull jobs n a m → IsLowestFull jobs (n + 1) b l
   lower_full a b m l less is f =
       record {
         place = n;
         job = job;
         at = at;
         end = is;
-        lowest = λ k j other len before at_j. more {P = λ x. (other : LineNo) (len : ℕ) → x.end ≡ part_ends.Full other len → b.0 ≤ other.0}
+        lowest = λ k j other len before at_j. more {P = λ x. (other : LineNo) (len : ℕ) → x.end ≡ Err (refusals.Full other len) → b.0 ≤ other.0}
             (λ k j before at other len h. let g = f.lowest k j other len before at h in omega (arith, g, less))
-            (λ other len h. let same : part_ends.Full b l ≡ part_ends.Full other len = sym is ∙ h in le_same b other l len same) k j before at_j other len;
+            (λ other len h. le_same is h) k j before at_j other len;
       }
-    where
-      le_same : (a b : LineNo) (m n : ℕ) → part_ends.Full a m ≡ part_ends.Full b n → a.0 ≤ b.0
-      le_same a b m n h = let e : a ≡ b = cc in let f = ap (λ (l : LineNo). l.0) e in omega (arith, f)
 
-  no_full : (l : PartEnd) → job.end ≡ l → ((other : LineNo) (len : ℕ) → l ≡ part_ends.Full other len → ⊥)
-      → (other : LineNo) (len : ℕ) → job.end ≡ part_ends.Full other len → ⊥
+  no_full : (l : Result Work StepRefused) → job.end ≡ l → ((other : LineNo) (len : ℕ) → l ≡ Err (refusals.Full other len) → ⊥)
+      → (other : LineNo) (len : ℕ) → job.end ≡ Err (refusals.Full other len) → ⊥
   no_full l is none other len h = none other len (sym is ∙ h)
 
   -- nobody was refused
-  not_refused : NoneRefused jobs n → is_refused job.end ≡ false → NoneRefused jobs (n + 1)
-  not_refused old here = more {P = λ x. is_refused x.end ≡ false} old here
+  not_refused : NoneRefused jobs n → IsOk job.end → NoneRefused jobs (n + 1)
+  not_refused old here = more {P = λ x. IsOk x.end} old here
 
-  idle_not_refused : ((k : ℕ) (j : JobSeen) → k < n → slice_get jobs k ≡ Some j → j.end ≡ part_ends.Idle) → NoneRefused jobs n
-  idle_not_refused old k j less at_j = ap is_refused (old k j less at_j)
+  idle_not_refused : ((k : ℕ) (j : JobSeen) → k < n → slice_get jobs k ≡ Some j → j.end ≡ Ok works.Idle) → NoneRefused jobs n
+  idle_not_refused old k j less at_j = ap is_ok (old k j less at_j)
 
   refused_not_full : NoneRefused jobs n → NoneFull jobs n
-  refused_not_full old k j other len less at_j is = let h : true ≡ false = sym (ap is_refused is) ∙ old k j less at_j in cc
+  refused_not_full old k j other len less at_j is = let h : false ≡ true = sym (ap is_ok is) ∙ old k j less at_j in cc
 
-  some_here : (l : PartEnd) → job.end ≡ l → IsSomeEnd jobs (n + 1) l
+  some_here : (l : Result Work StepRefused) → job.end ≡ l → IsSomeEnd jobs (n + 1) l
   some_here l is = record { place = n; job = job; below = omega arith; at = at; is = is }
 
-  some_before : (l : PartEnd) → IsSomeEnd jobs n l → IsSomeEnd jobs (n + 1) l
+  some_before : (l : Result Work StepRefused) → IsSomeEnd jobs n l → IsSomeEnd jobs (n + 1) l
   some_before l s = record { place = s.place; job = s.job; below = let b = s.below in omega (arith, b); at = s.at; is = s.is }
 
-  pub sums_more : (all l : PartEnd) → job.end ≡ l → SumsUp jobs n all → SumsUp jobs (n + 1) (worse all l)
-  sums_more (part_ends.Full a m) (part_ends.Full b k) is f = by_test (nat_lt b.0 a.0) refl
+  -- a full line and one more answer
+  full_and : (a : LineNo) (m : ℕ) (l : Result Work StepRefused) → job.end ≡ l
+      → ((other : LineNo) (len : ℕ) → l ≡ Err (refusals.Full other len) → ⊥) → IsLowestFull jobs n a m → IsLowestFull jobs (n + 1) a m
+  full_and a m l is none f = full_on a m f (λ other len h. absurd (no_full l is none other len h))
+
+  pub sums_more : (all l : Result Work StepRefused) → job.end ≡ l → SumsUp jobs n all → SumsUp jobs (n + 1) (worse all l)
+  sums_more (Err (refusals.Full a m)) (Err (refusals.Full b k)) is f = by_test (nat_lt b.0 a.0) refl
     where
-      by_test : (t : Bool) → nat_lt b.0 a.0 ≡ t → SumsUp jobs (n + 1) (cond t (part_ends.Full b k) (part_ends.Full a m))
+      by_test : (t : Bool) → nat_lt b.0 a.0 ≡ t
+          → SumsUp jobs (n + 1) (Err (cond t (refusals.Full b k) (refusals.Full a m)))
       by_test true less = lower_full a b m k (ltb-true b.0 a.0 less) is f
-      by_test false not = full_on a m f (λ other len h. let same : part_ends.Full b k ≡ part_ends.Full other len = sym is ∙ h in
-          le_line other len same (ltb-false b.0 a.0 not))
-        where
-          le_line : (other : LineNo) (len : ℕ) → part_ends.Full b k ≡ part_ends.Full other len → a.0 ≤ b.0 → a.0 ≤ other.0
-          le_line other len h le = let e : b ≡ other = cc in let f = ap (λ (l : LineNo). l.0) e in omega (arith, f, le)
-  sums_more (part_ends.Full a m) part_ends.Idle is f = full_on a m f (λ other len h. absurd (no_full part_ends.Idle is (λ o k g. cc) other len h))
-  sums_more (part_ends.Full a m) part_ends.Busy is f = full_on a m f (λ other len h. absurd (no_full part_ends.Busy is (λ o k g. cc) other len h))
-  sums_more (part_ends.Full a m) part_ends.NoMemory is f = full_on a m f (λ other len h. absurd (no_full part_ends.NoMemory is (λ o k g. cc) other len h))
-  sums_more part_ends.Idle (part_ends.Full b k) is f = first_full b k is (idle_none f)
-  sums_more part_ends.Busy (part_ends.Full b k) is f = first_full b k is (refused_not_full f.1)
-  sums_more part_ends.NoMemory (part_ends.Full b k) is f = first_full b k is f.1
-  sums_more part_ends.Idle part_ends.Idle is f = more {P = λ x. x.end ≡ part_ends.Idle} f is
-  sums_more part_ends.Idle part_ends.Busy is f = (some_here part_ends.Busy is, not_refused (idle_not_refused f) (ap is_refused is))
-  sums_more part_ends.Idle part_ends.NoMemory is f = (some_here part_ends.NoMemory is, none_more (idle_none f) (no_full part_ends.NoMemory is (λ o k g. cc)))
-  sums_more part_ends.Busy part_ends.Idle is f = (some_before part_ends.Busy f.0, not_refused f.1 (ap is_refused is))
-  sums_more part_ends.Busy part_ends.Busy is f = (some_before part_ends.Busy f.0, not_refused f.1 (ap is_refused is))
-  sums_more part_ends.Busy part_ends.NoMemory is f = (
-    some_here part_ends.NoMemory is,
-    none_more (refused_not_full f.1)
-        (no_full part_ends.NoMemory is (λ o k g. cc)),
-  )
-  sums_more part_ends.NoMemory part_ends.Idle is f = (some_before part_ends.NoMemory f.0, none_more f.1 (no_full part_ends.Idle is (λ o k g. cc)))
-  sums_more part_ends.NoMemory part_ends.Busy is f = (some_before part_ends.NoMemory f.0, none_more f.1 (no_full part_ends.Busy is (λ o k g. cc)))
-  sums_more part_ends.NoMemory part_ends.NoMemory is f = (some_before part_ends.NoMemory f.0, none_more f.1 (no_full part_ends.NoMemory is (λ o k g. cc)))
+      by_test false not = full_on a m f (λ other len h. let le = ltb-false b.0 a.0 not in let same = le_same is h in omega (arith, le, same))
+  sums_more (Err (refusals.Full a m)) (Err refusals.NoMemory) is f = full_and a m (Err refusals.NoMemory) is (λ o k g. cc) f
+  sums_more (Err (refusals.Full a m)) (Ok work) is f = full_and a m (Ok work) is (λ o k g. cc) f
+  sums_more (Err refusals.NoMemory) (Err (refusals.Full b k)) is f = first_full b k is f.1
+  sums_more (Err refusals.NoMemory) (Err refusals.NoMemory) is f =
+      (some_before (Err refusals.NoMemory) f.0, none_more f.1 (no_full (Err refusals.NoMemory) is (λ o k g. cc)))
+  sums_more (Err refusals.NoMemory) (Ok work) is f = (some_before (Err refusals.NoMemory) f.0, none_more f.1 (no_full (Ok work) is (λ o k g. cc)))
+  sums_more (Ok works.Idle) (Err (refusals.Full b k)) is f = first_full b k is (idle_none f)
+  sums_more (Ok works.Idle) (Err refusals.NoMemory) is f =
+      (some_here (Err refusals.NoMemory) is, none_more (idle_none f) (no_full (Err refusals.NoMemory) is (λ o k g. cc)))
+  sums_more (Ok works.Idle) (Ok works.Idle) is f = more {P = λ x. x.end ≡ Ok works.Idle} f is
+  sums_more (Ok works.Idle) (Ok works.Busy) is f = (some_here (Ok works.Busy) is, not_refused (idle_not_refused f) (ap is_ok is))
+  sums_more (Ok works.Busy) (Err (refusals.Full b k)) is f = first_full b k is (refused_not_full f.1)
+  sums_more (Ok works.Busy) (Err refusals.NoMemory) is f =
+      (some_here (Err refusals.NoMemory) is, none_more (refused_not_full f.1) (no_full (Err refusals.NoMemory) is (λ o k g. cc)))
+  sums_more (Ok works.Busy) (Ok work) is f = (some_before (Ok works.Busy) f.0, not_refused f.1 (ap is_ok is))
 
 -- ---- how shifts end
 
 module _ (terms : Terms) (s : JobsSeen) (end : EachEndedSo terms s) where
-  pub quiet : SumsUp s.jobs (length s.jobs) part_ends.Idle → Ends terms s ends.Quiet
-  quiet all i j at = subst (λ (l : PartEnd). EndIsSo terms s.board j l) (all i j (within s.jobs i j at) at) (end i j at)
+  pub quiet : SumsUp s.jobs (length s.jobs) (Ok works.Idle) → Ends terms s (Ok tt)
+  quiet all i j at = subst (λ (l : Result Work StepRefused). EndIsSo terms s.board j l) (all i j (within s.jobs i j at) at) (end i j at)
 
-  pub full_for : (line : LineNo) (len : ℕ) → SumsUp s.jobs (length s.jobs) (part_ends.Full line len) → Ends terms s (ends.Full line len)
-  full_for line len f =
+  pub refused_for : (refused : StepRefused) → SumsUp s.jobs (length s.jobs) (Err refused) → Ends terms s (Err refused)
+  refused_for (refusals.Full line len) f =
       record {
         place = f.place;
         job = f.job;
         at = f.at;
-        is = subst (λ (l : PartEnd). EndIsSo terms s.board f.job l) f.end (end f.place f.job f.at);
+        is = subst (λ (l : Result Work StepRefused). EndIsSo terms s.board f.job l) f.end (end f.place f.job f.at);
         lowest = λ k j other m at is. f.lowest k j other m (within s.jobs k j at) at is;
       }
-
-  pub wanted_for : SumsUp s.jobs (length s.jobs) part_ends.NoMemory → Ends terms s ends.NoMemory
-  wanted_for f =
+  refused_for refusals.NoMemory f =
       record {
         place = f.0.place;
         job = f.0.job;
         at = f.0.at;
-        is = subst (λ (l : PartEnd). EndIsSo terms s.board f.0.job l) f.0.is (end f.0.place f.0.job f.0.at);
+        is = subst (λ (l : Result Work StepRefused). EndIsSo terms s.board f.0.job l) f.0.is (end f.0.place f.0.job f.0.at);
         none_full = f.1;
       }
 
@@ -457,18 +450,18 @@ module _ {terms : Terms} {lines : List LockSeen} {old new : JobsSeen} (s : OneSh
   pub shift_room : room_of_jobs new.jobs ≤ room_of_jobs old.jobs
   shift_room = all_no_more old.jobs new.jobs s.as_many (λ k d less. (s.keeps k d less).room)
 
-  pub shift_busy : SumsUp new.jobs (length new.jobs) part_ends.Busy → room_of_jobs new.jobs < room_of_jobs old.jobs
+  pub shift_busy : SumsUp new.jobs (length new.jobs) (Ok works.Busy) → room_of_jobs new.jobs < room_of_jobs old.jobs
   shift_busy f = some_less old.jobs new.jobs f.0.place f.0.job s.as_many (λ k d less. (s.keeps k d less).room) f.0.at f.0.is
 
   pub shift_grew : JobsGrow terms.gave old.jobs new.jobs
   shift_grew = jobs_grew old.jobs new.jobs s.as_many (λ k d less. let v = (s.keeps k d less).works in
       record { actor = v.actor; first = v.first; as_many = v.as_many; posts = v.grew })
 
-  pub shift_idle : SumsUp new.jobs (length new.jobs) part_ends.Idle → MadeNone old.jobs new.jobs
+  pub shift_idle : SumsUp new.jobs (length new.jobs) (Ok works.Idle) → MadeNone old.jobs new.jobs
   shift_idle all k d less =
       let n = s.as_many in
       let here : k < length new.jobs = omega (arith, less, n) in
-      (subst (λ (l : PartEnd). RoomAfterPart l (get_or old.jobs k d) (get_or new.jobs k d))
+      (subst (λ (l : Result Work StepRefused). RoomAfterPart l (get_or old.jobs k d) (get_or new.jobs k d))
       (all k (get_or new.jobs k d) here (there_or new.jobs k d here)) (s.keeps k d less).room).1
 
 pub whole_again : {A : Type 0} (n : ℕ) (xs ys : List A) → n ≡ length xs → take n (xs ++ drop (length xs) ys) ≡ xs

@@ -1,15 +1,16 @@
 -- One sweep of a shift after another.
-use Rattle.std.proofs.Common.{◌≡◌, ℕ, ◌+◌, ◌<◌, ◌≤◌, inl, inr, false, All, List, length, get_or, set, sym, ◌∙◌, subst, arith}
+use Rattle.std.proofs.Common.{◌≡◌, ℕ, ◌+◌, ◌<◌, ◌≤◌, inl, inr, All, List, length, get_or, set, sym, ◌∙◌, subst, arith, Result, Ok, Err}
 use Rattle.std.proofs.lemmas.List.{get_or-set_same, get_or-set_other, get_or_default}
+use Rattle.irq_line.specs.declared.answers.StepRefused.{StepRefused}
+use Rattle.workers.specs.declared.job.Work.{Work}
+use Rattle.workers.specs.declared.job.Work.TheVariants as works
 use Rattle.board_def.specs.Seen.{BoardSeen}
 use Rattle.line_lock.specs.Passes.{LockSeen}
 use Rattle.workers.specs.Fit.{IsJob}
 use Rattle.workers.specs.Room.{RoomAfterPart, room_of_posts}
 use Rattle.workers.specs.Grown.{made_by}
-use Rattle.workers.specs.Shifts.{WorksOn, EndIsSo, is_refused, with_earlier, GoesOn, GoOnJobs, KeepsJobs}
+use Rattle.workers.specs.Shifts.{WorksOn, EndIsSo, with_earlier, GoesOn, GoOnJobs, KeepsJobs}
 use Rattle.workers.specs.Seen.{JobSeen}
-use Rattle.workers.specs.declared.job.PartEnd.{PartEnd}
-use Rattle.workers.specs.declared.job.PartEnd.TheVariants as part_ends
 use Rattle.workers.proofs.Lists.{two}
 use Rattle.workers.proofs.Shifting.{works_first, works_more, job_ended, ended_at}
 use Rattle.workers.specs.Terms.{Terms}
@@ -17,53 +18,49 @@ use Rattle.workers.specs.Terms.{Terms}
 -- ---- one job
 
 -- what is left to do goes on from here
-further : (start old now : JobSeen) (end : PartEnd) → room_of_posts old.posts ≤ room_of_posts start.posts
+further : (start old now : JobSeen) (end : Result Work StepRefused) → room_of_posts old.posts ≤ room_of_posts start.posts
     → made_by start.posts ≡ made_by old.posts → RoomAfterPart end old now → RoomAfterPart end start now
-further start old now part_ends.Idle a m r = let s = r.0 in (omega (arith, a, s), r.1 ∙ sym m)
-further start old now part_ends.Busy a m r = let s = r.0 in let t = r.1 in (omega (arith, a, s), omega (arith, m, t))
-further start old now (part_ends.Full line len) a m r = let s = r.0 in let t = r.1 in (omega (arith, a, s), omega (arith, m, t))
-further start old now part_ends.NoMemory a m r = let s = r.0 in let t = r.1 in (omega (arith, a, s), omega (arith, m, t))
+further start old now (Ok works.Idle) a m r = let s = r.0 in (omega (arith, a, s), r.1 ∙ sym m)
+further start old now (Ok works.Busy) a m r = let s = r.0 in let t = r.1 in (omega (arith, a, s), omega (arith, m, t))
+further start old now (Err refused) a m r = let s = r.0 in let t = r.1 in (omega (arith, a, s), omega (arith, m, t))
 
 -- the room that is left since the shift's start
-since_start : (start old now : JobSeen) (before end : PartEnd) → is_refused before ≡ false → RoomAfterPart before start old
+since_start : (start old now : JobSeen) (before : Work) (end : Result Work StepRefused) → RoomAfterPart (Ok before) start old
     → RoomAfterPart end old now → RoomAfterPart (with_earlier before end) start now
-since_start start old now part_ends.Busy part_ends.Idle not a b = let c = a.0 in let d = a.1 in let s = b.0 in let t = b.1 in
+since_start start old now works.Busy (Ok works.Idle) a b = let c = a.0 in let d = a.1 in let s = b.0 in let t = b.1 in
     (omega (arith, c, s), omega (arith, d, t))
-since_start start old now part_ends.Busy part_ends.Busy not a b = let c = a.0 in let d = a.1 in let s = b.0 in let t = b.1 in
+since_start start old now works.Busy (Ok works.Busy) a b = let c = a.0 in let d = a.1 in let s = b.0 in let t = b.1 in
     (omega (arith, c, s), omega (arith, d, t))
-since_start start old now part_ends.Busy (part_ends.Full line len) not a b = let c = a.0 in let d = a.1 in let s = b.0 in let t = b.1 in
+since_start start old now works.Busy (Err refused) a b = let c = a.0 in let d = a.1 in let s = b.0 in let t = b.1 in
     (omega (arith, c, s), omega (arith, d, t))
-since_start start old now part_ends.Busy part_ends.NoMemory not a b = let c = a.0 in let d = a.1 in let s = b.0 in let t = b.1 in
-    (omega (arith, c, s), omega (arith, d, t))
-since_start start old now part_ends.Idle end not a b = further start old now end a.0 (sym a.1) b
-since_start start old now (part_ends.Full line len) end not a b = cc
-since_start start old now part_ends.NoMemory end not a b = cc
+since_start start old now works.Idle (Ok works.Idle) a b = further start old now (Ok works.Idle) a.0 (sym a.1) b
+since_start start old now works.Idle (Ok works.Busy) a b = further start old now (Ok works.Busy) a.0 (sym a.1) b
+since_start start old now works.Idle (Err refused) a b = further start old now (Err refused) a.0 (sym a.1) b
 
 module _ (terms : Terms) (board : BoardSeen) (lines : List LockSeen) where
-  so : (now : JobSeen) (before end : PartEnd) → EndIsSo terms board now end → EndIsSo terms board now (with_earlier before end)
-  so now part_ends.Busy part_ends.Idle is = tt
-  so now part_ends.Busy part_ends.Busy is = is
-  so now part_ends.Busy (part_ends.Full line len) is = is
-  so now part_ends.Busy part_ends.NoMemory is = is
-  so now part_ends.Idle end is = is
-  so now (part_ends.Full line len) end is = is
-  so now part_ends.NoMemory end is = is
+  so : (now : JobSeen) (before : Work) (end : Result Work StepRefused) → EndIsSo terms board now end
+      → EndIsSo terms board now (with_earlier before end)
+  so now works.Busy (Ok works.Idle) is = tt
+  so now works.Idle (Ok works.Idle) is = is
+  so now before (Ok works.Busy) is = tt
+  so now before (Err refused) is = is
 
-  pub goes_on : (old now new : JobSeen) (end : PartEnd) → is_refused old.end ≡ false → WorksOn terms board lines old now → EndIsSo terms board now end
-      → RoomAfterPart end old now → new ≡ record now { end = with_earlier old.end end } → GoesOn terms board lines old new
-  goes_on old now new end not w is room same =
+  pub goes_on : (old now new : JobSeen) (before : Work) (end : Result Work StepRefused) → old.end ≡ Ok before → WorksOn terms board lines old now
+      → EndIsSo terms board now end → RoomAfterPart end old now → new ≡ record now { end = with_earlier before end }
+      → GoesOn terms board lines old new
+  goes_on old now new before end was w is room same =
       record {
         works = subst (WorksOn terms board lines old) (sym same)
             (record {
               actor = w.actor;
               first = w.first;
               as_many = w.as_many;
-              job = job_ended board lines now (with_earlier old.end end) w.job;
+              job = job_ended board lines now (with_earlier before end) w.job;
               grew = w.grew;
             });
-        since = λ start before. ended_at board lines now (with_earlier old.end end) terms start new
-            (works_more board lines start old now before.works w) (so now old.end end is)
-            (since_start start old now old.end end not before.room room) same;
+        since = λ start first. ended_at board lines now (with_earlier before end) terms start new
+            (works_more board lines start old now first.works w) (so now before end is)
+            (since_start start old now before end (subst (λ (l : Result Work StepRefused). RoomAfterPart l start old) was first.room) room) same;
       }
 
   pub goes_first : (j : JobSeen) → IsJob board lines j → GoesOn terms board lines j j

@@ -1,6 +1,6 @@
 -- What a worker's attempt comes to.
-use Rattle.std.specs.Prelude.{◌≡◌, ℕ, ◌+◌, ◌≤◌, ◌⊎◌, Bool, true, false, ◌&&◌, ◌||◌, Option, Some}
-use Rattle.std.specs.Prelude.{None, Result, Ok, Err, List, length, slice_get, slice_set}
+use Rattle.std.specs.Prelude.{◌≡◌, ℕ, ◌+◌, ◌≤◌, ◌⊎◌, true, false, ◌&&◌, ◌||◌, Option, Some}
+use Rattle.std.specs.Prelude.{None, Result, Ok, IfErr, List, length, slice_get, slice_set}
 use Rattle.std.specs.Prelude.{if◌then◌else◌}
 use Rattle.irq_base.specs.declared.entries.Actor.TheVariants as actors
 use Rattle.irq_base.specs.declared.entries.Entry.{Entry}
@@ -23,15 +23,7 @@ use Rattle.workers.specs.Grown.{PostsGrow}
 use Rattle.workers.specs.Room.{RoomAfter}
 use Rattle.workers.specs.Seen.{PostSeen, JobSeen}
 use Rattle.workers.specs.Tries.{IsIdle, IsFull, Tries, rests_after}
-use Rattle.workers.specs.declared.attempts.Attempt.{Attempt}
-use Rattle.workers.specs.declared.attempts.Attempt.TheVariants as attempts
 use Rattle.workers.specs.Terms.{Terms}
-
-abbrev pub attempt_of : Result (Option Entry) StepRefused → Attempt
-attempt_of (Ok (Some e)) = attempts.Moved e
-attempt_of (Ok None) = attempts.NotYet
-attempt_of (Err (refusals.Full line len)) = attempts.Full line len
-attempt_of (Err refusals.NoMemory) = attempts.NoMemory
 
 -- if a processor has its flow on the line, its try there never answers that nothing is due
 abbrev pub FlowMoves : LineDef → Known → Result (Option Entry) StepRefused → Type 0
@@ -44,10 +36,6 @@ abbrev pub flow_after : FlowKind → Entry → ℕ → Option ℕ → Option ℕ
 flow_after flow e place before =
     if is_handle e then Some place
     else (if is_leave e || (is_eoi_flow flow && is_again e) then None else before)
-
-abbrev pub is_not_yet : Attempt → Bool
-is_not_yet attempts.NotYet = true
-is_not_yet _ = false
 
 -- the job has the same actor, and as many passes of the same lines, all right, which have seen as
 -- much or more
@@ -95,15 +83,13 @@ pub record WaitsAt (board : BoardSeen) (j : JobSeen) (r : DriverNo) : Type 0 whe
 -- the terms say when memory may be refused, and what the handlers gave
 module _ (terms : Terms) where
   -- a try with the pass at index `place`: the pass is right afterwards, and all else is as it was
-  pub record StepsPost (lines : List LockSeen) (place : ℕ) (attempt : Attempt) (old new : JobSeen)
-      : Type 0 where
+  pub record StepsPost (lines : List LockSeen) (place : ℕ)
+      (tried : Result (Option Entry) StepRefused) (old new : JobSeen) : Type 0 where
     pub line : LockSeen
     pub post : PostSeen
     pub after : PostSeen
-    pub tried : Result (Option Entry) StepRefused
     pub at_line : slice_get lines (old.first + place) ≡ Some line
     pub at_post : slice_get old.posts place ≡ Some post
-    pub told : attempt ≡ attempt_of tried
     pub is : new ≡ record old { posts = slice_set old.posts place after }
     pub is_post : IsPost line old.actor after
     pub tries : Tries terms line.def old.actor post.pass.knows tried after.pass.knows
@@ -117,59 +103,57 @@ module _ (terms : Terms) where
     pub at : slice_get j.posts place ≡ Some post
     pub is : terms.wanted post.pass.def post.pass.knows.seen j.actor
 
-  abbrev pub RefusedIsSo : JobSeen → Attempt → Type 0
-  RefusedIsSo j (attempts.Full line len) = IsFullOn j line len
-  RefusedIsSo j attempts.NoMemory = IsWantedOn j
-  RefusedIsSo j _ = Unit {0}
+  -- the actor's step was refused: a line was full, or memory was refused
+  abbrev pub IsRefusedOn : JobSeen → StepRefused → Type 0
+  IsRefusedOn j (refusals.Full line len) = IsFullOn j line len
+  IsRefusedOn j refusals.NoMemory = IsWantedOn j
 
   -- a processor's try: it has a flow on at most one line; if nothing was due, the post says so, and
   -- the flow is as it was; the other passes are as they were; on the line of its flow something was
   -- due
-  pub record StepsCpu (lines : List LockSeen) (place : ℕ) (attempt : Attempt) (old new : JobSeen)
-      : Type 0 where
+  pub record StepsCpu (lines : List LockSeen) (place : ℕ)
+      (tried : Result (Option Entry) StepRefused) (old new : JobSeen) : Type 0 where
     pub keeps : KeepsPosts terms lines old new
     pub flow : HasOneFlow new
     pub its : HasItsFlow new
-    pub moves : old.flow ≡ Some place → attempt ≡ attempts.NotYet → ⊥
-    pub rests : attempt ≡ attempts.NotYet → (s : PostSeen) → slice_get new.posts place ≡ Some s
+    pub moves : old.flow ≡ Some place → tried ≡ Ok None → ⊥
+    pub rests : tried ≡ Ok None → (s : PostSeen) → slice_get new.posts place ≡ Some s
         → s.rests ≡ true
-    pub still : attempt ≡ attempts.NotYet → new.flow ≡ old.flow
+    pub still : tried ≡ Ok None → new.flow ≡ old.flow
     pub others : (i : ℕ) (s : PostSeen) → (i ≡ place → ⊥) → slice_get new.posts i ≡ Some s
         → slice_get old.posts i ≡ Some s
-    pub refused : RefusedIsSo new attempt
-    pub room : RoomAfter attempt old new
+    pub refused : IfErr tried (IsRefusedOn new)
+    pub room : RoomAfter tried old new
 
   -- a processor's try on the line of its last step, or none: it has a flow on at most one line; if
   -- nothing was due, the flow is as it was
-  pub record TriesLast (lines : List LockSeen) (attempt : Attempt) (old new : JobSeen)
-      : Type 0 where
+  pub record TriesLast (lines : List LockSeen) (tried : Result (Option Entry) StepRefused)
+      (old new : JobSeen) : Type 0 where
     pub keeps : KeepsPosts terms lines old new
     pub flow : HasOneFlow new
     pub its : HasItsFlow new
-    pub still : attempt ≡ attempts.NotYet → new.flow ≡ old.flow
-    pub refused : RefusedIsSo new attempt
-    pub room : RoomAfter attempt old new
+    pub still : tried ≡ Ok None → new.flow ≡ old.flow
+    pub refused : IfErr tried (IsRefusedOn new)
+    pub room : RoomAfter tried old new
 
   -- a processor's attempt: if nothing was due, all its posts say so
-  pub record AttemptsCpu (lines : List LockSeen) (attempt : Attempt) (old new : JobSeen)
-      : Type 0 where
+  pub record AttemptsCpu (lines : List LockSeen) (tried : Result (Option Entry) StepRefused)
+      (old new : JobSeen) : Type 0 where
     pub keeps : KeepsPosts terms lines old new
     pub flow : HasOneFlow new
     pub its : HasItsFlow new
-    pub rests : attempt ≡ attempts.NotYet → (i : ℕ) (s : PostSeen) → slice_get new.posts i ≡ Some s
+    pub rests : tried ≡ Ok None → (i : ℕ) (s : PostSeen) → slice_get new.posts i ≡ Some s
         → s.rests ≡ true
-    pub refused : RefusedIsSo new attempt
-    pub room : RoomAfter attempt old new
+    pub refused : IfErr tried (IsRefusedOn new)
+    pub room : RoomAfter tried old new
 
-  -- a driver's attempt: its entries are its script's calls up to its place; if nothing was due,
-  -- it is
-  -- past all calls, or waits at one
+  -- a driver's attempt: its entries are its script's calls up to its place; if nothing was due, it
+  -- is past all calls, or waits at one
   pub record AttemptsDriver (board : BoardSeen) (lines : List LockSeen) (r : DriverNo)
-      (attempt : Attempt)
-      (old new : JobSeen) : Type 0 where
+      (tried : Result (Option Entry) StepRefused) (old new : JobSeen) : Type 0 where
     pub keeps : KeepsPosts terms lines old new
     pub up_to : IsUpTo board.calls (own_lines new.posts) r new.at
     pub within : new.at ≤ length board.calls
-    pub rests : attempt ≡ attempts.NotYet → (length board.calls ≤ new.at) ⊎ WaitsAt board new r
-    pub refused : RefusedIsSo new attempt
-    pub room : RoomAfter attempt old new
+    pub rests : tried ≡ Ok None → (length board.calls ≤ new.at) ⊎ WaitsAt board new r
+    pub refused : IfErr tried (IsRefusedOn new)
+    pub room : RoomAfter tried old new

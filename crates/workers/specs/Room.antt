@@ -1,11 +1,12 @@
 -- How many more entries the workers' passes can see, and how many steps were made.
-use Rattle.std.specs.Prelude.{◌≡◌, ℕ, ◌+◌, ◌-◌, ◌<◌, ◌≤◌, List, [], ◌∷◌, length}
+use Rattle.std.specs.Prelude.{◌≡◌, ℕ, ◌+◌, ◌-◌, ◌<◌, ◌≤◌, Option, Some, Result, Ok, List, []}
+use Rattle.std.specs.Prelude.{◌∷◌, length}
+use Rattle.irq_line.specs.declared.answers.StepRefused.{StepRefused}
+use Rattle.workers.specs.declared.job.Work.{Work}
+use Rattle.workers.specs.declared.job.Work.TheVariants as works
+use Rattle.irq_base.specs.declared.entries.Entry.{Entry}
 use Rattle.workers.specs.Grown.{made_by}
 use Rattle.workers.specs.Seen.{PostSeen, JobSeen}
-use Rattle.workers.specs.declared.job.PartEnd.{PartEnd}
-use Rattle.workers.specs.declared.job.PartEnd.TheVariants as part_ends
-use Rattle.workers.specs.declared.attempts.Attempt.{Attempt}
-use Rattle.workers.specs.declared.attempts.Attempt.TheVariants as attempts
 
 -- how many entries a pass has yet to see, until it has seen a history of the greatest length
 abbrev pub room_of : PostSeen → ℕ
@@ -22,18 +23,18 @@ room_of_jobs (j ∷ rest) = room_of_posts j.posts + room_of_jobs rest
 
 -- an attempt that added an entry leaves less room, and one more step is made; another leaves no
 -- more room, and no step is made
-abbrev pub RoomAfter : Attempt → JobSeen → JobSeen → Type 0
-RoomAfter (attempts.Moved e) old new = (room_of_posts new.posts < room_of_posts old.posts)
+abbrev pub RoomAfter : Result (Option Entry) StepRefused → JobSeen → JobSeen → Type 0
+RoomAfter (Ok (Some e)) old new = (room_of_posts new.posts < room_of_posts old.posts)
     × (made_by old.posts < made_by new.posts)
 RoomAfter _ old new = (room_of_posts new.posts ≤ room_of_posts old.posts)
     × (made_by new.posts ≡ made_by old.posts)
 
 -- a worker's part of a shift leaves no more room, and less if it made a step: some pass has seen
 -- more then; it made none if it ended idle
-abbrev pub RoomAfterPart : PartEnd → JobSeen → JobSeen → Type 0
-RoomAfterPart part_ends.Busy old new = (room_of_posts new.posts < room_of_posts old.posts)
+abbrev pub RoomAfterPart : Result Work StepRefused → JobSeen → JobSeen → Type 0
+RoomAfterPart (Ok works.Busy) old new = (room_of_posts new.posts < room_of_posts old.posts)
     × (made_by old.posts < made_by new.posts)
-RoomAfterPart part_ends.Idle old new = (room_of_posts new.posts ≤ room_of_posts old.posts)
+RoomAfterPart (Ok works.Idle) old new = (room_of_posts new.posts ≤ room_of_posts old.posts)
     × (made_by new.posts ≡ made_by old.posts)
 RoomAfterPart _ old new = (room_of_posts new.posts ≤ room_of_posts old.posts)
     × (made_by old.posts ≤ made_by new.posts)

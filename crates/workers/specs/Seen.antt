@@ -1,9 +1,10 @@
 -- What is seen of workers' jobs.
-use Rattle.std.specs.Prelude.{ℕ, Bool, Option, List}
+use Rattle.std.specs.Prelude.{ℕ, Bool, Option, List, Result}
+use Rattle.irq_line.specs.declared.answers.StepRefused.{StepRefused}
+use Rattle.workers.specs.declared.job.Work.{Work}
 use Rattle.irq_base.specs.declared.entries.Actor.{Actor}
 use Rattle.board_def.specs.Seen.{BoardSeen}
 use Rattle.line_lock.specs.Passes.{PassSeen}
-use Rattle.workers.specs.declared.job.PartEnd.{PartEnd}
 
 -- a pass, and whether its actor is known to have nothing due on what the pass has seen
 pub record PostSeen : Type 0 where
@@ -19,7 +20,7 @@ pub record JobSeen : Type 0 where
   pub posts : List PostSeen
   pub flow : Option ℕ
   pub at : ℕ
-  pub end : PartEnd
+  pub end : Result Work StepRefused
 
 -- the board that is run, the jobs, and the first pass of each line
 pub record JobsSeen : Type 0 where

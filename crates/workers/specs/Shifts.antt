@@ -1,7 +1,11 @@
 -- What attempts, workers and shifts leave of jobs.
-use Rattle.std.specs.Prelude.{◌≡◌, ℕ, ◌<◌, ◌≤◌, ◌⊎◌, Bool, true, false, Some, List, length}
-use Rattle.std.specs.Prelude.{slice_get}
-use Rattle.std.specs.Prelude.{slice_index_or, nat_lt, if◌then◌else◌}
+use Rattle.std.specs.Prelude.{◌≡◌, ℕ, ◌<◌, ◌≤◌, ◌⊎◌, IsOk, Option, Some, None, Result, Ok, Err}
+use Rattle.std.specs.Prelude.{List, length, slice_get, slice_index_or, nat_lt, if◌then◌else◌}
+use Rattle.irq_line.specs.declared.answers.StepRefused.TheVariants as refusals
+use Rattle.irq_line.specs.declared.answers.StepRefused.{StepRefused}
+use Rattle.workers.specs.declared.job.Work.{Work}
+use Rattle.workers.specs.declared.job.Work.TheVariants as works
+use Rattle.irq_base.specs.declared.entries.Entry.{Entry}
 use Rattle.irq_base.specs.declared.entries.Actor.{Actor}
 use Rattle.irq_base.specs.declared.entries.Actor.TheVariants as actors
 use Rattle.irq_base.specs.declared.numbers.LineNo.{LineNo}
@@ -12,13 +16,7 @@ use Rattle.workers.specs.Grown.{PostsGrow, made_by}
 use Rattle.workers.specs.Room.{RoomAfter, RoomAfterPart}
 use Rattle.workers.specs.Seen.{PostSeen, JobSeen, JobsSeen}
 use Rattle.workers.specs.Tries.{IsIdle}
-use Rattle.workers.specs.Attempts.{WaitsAt, IsFullOn, IsWantedOn}
-use Rattle.workers.specs.declared.job.PartEnd.{PartEnd}
-use Rattle.workers.specs.declared.job.PartEnd.TheVariants as part_ends
-use Rattle.workers.specs.declared.shifts.ShiftsEnd.{ShiftsEnd}
-use Rattle.workers.specs.declared.shifts.ShiftsEnd.TheVariants as ends
-use Rattle.workers.specs.declared.attempts.Attempt.{Attempt}
-use Rattle.workers.specs.declared.attempts.Attempt.TheVariants as attempts
+use Rattle.workers.specs.Attempts.{WaitsAt, IsFullOn, IsRefusedOn, IsWantedOn}
 use Rattle.workers.specs.Terms.{Terms}
 
 -- Nothing is due of the actor. For a thread or a processor: on what each of its passes has seen.
@@ -39,38 +37,30 @@ pub record WorksOn (terms : Terms) (board : BoardSeen) (lines : List LockSeen) (
   pub job : IsJob board lines new
   pub grew : PostsGrow terms.gave old.posts new.posts
 
--- how a worker's part of a shift ended that had ended as `before`, and then as `end` of its next
+-- how a worker's part of a shift ended that had come to `before`, and then as `end` of its next
 -- attempts
-abbrev pub with_earlier : PartEnd → PartEnd → PartEnd
-with_earlier part_ends.Busy part_ends.Idle = part_ends.Busy
+abbrev pub with_earlier : Work → Result Work StepRefused → Result Work StepRefused
+with_earlier before (Ok works.Idle) = Ok before
 with_earlier before end = end
-
--- a full line or want of memory ended the worker's part
-abbrev pub is_refused : PartEnd → Bool
-is_refused (part_ends.Full line len) = true
-is_refused part_ends.NoMemory = true
-is_refused _ = false
 
 -- the terms say when memory may be refused, and what the handlers gave
 module _ (terms : Terms) where
-  abbrev pub ComesTo : BoardSeen → JobSeen → Attempt → Type 0
-  ComesTo board j attempts.NotYet = IsAtRest board j j.actor
-  ComesTo board j (attempts.Full line len) = IsFullOn j line len
-  ComesTo board j attempts.NoMemory = IsWantedOn terms j
-  ComesTo board j (attempts.Moved e) = Unit {0}
+  abbrev pub ComesTo : BoardSeen → JobSeen → Result (Option Entry) StepRefused → Type 0
+  ComesTo board j (Ok None) = IsAtRest board j j.actor
+  ComesTo board j (Ok (Some e)) = Unit {0}
+  ComesTo board j (Err refused) = IsRefusedOn terms j refused
 
-  pub record AttemptsJob (board : BoardSeen) (lines : List LockSeen) (attempt : Attempt)
-      (old new : JobSeen) : Type 0 where
+  pub record AttemptsJob (board : BoardSeen) (lines : List LockSeen)
+      (tried : Result (Option Entry) StepRefused) (old new : JobSeen) : Type 0 where
     pub works : WorksOn terms board lines old new
-    pub came : ComesTo board new attempt
-    pub room : RoomAfter attempt old new
+    pub came : ComesTo board new tried
+    pub room : RoomAfter tried old new
 
   -- what is true of a job once its part of a shift ended so
-  abbrev pub EndIsSo : BoardSeen → JobSeen → PartEnd → Type 0
-  EndIsSo board j part_ends.Idle = IsAtRest board j j.actor
-  EndIsSo board j part_ends.Busy = Unit {0}
-  EndIsSo board j (part_ends.Full line len) = IsFullOn j line len
-  EndIsSo board j part_ends.NoMemory = IsWantedOn terms j
+  abbrev pub EndIsSo : BoardSeen → JobSeen → Result Work StepRefused → Type 0
+  EndIsSo board j (Ok works.Idle) = IsAtRest board j j.actor
+  EndIsSo board j (Ok works.Busy) = Unit {0}
+  EndIsSo board j (Err refused) = IsRefusedOn terms j refused
 
   pub record WorksJob (board : BoardSeen) (lines : List LockSeen) (old new : JobSeen) : Type 0 where
     pub works : WorksOn terms board lines old new
@@ -97,30 +87,32 @@ module _ (terms : Terms) where
 
 -- ---- how shifts end
 
--- of two workers' answers the one that comes first: the lower full line, then that memory was
--- refused, then that a step was made
-abbrev pub worse : PartEnd → PartEnd → PartEnd
-worse (part_ends.Full a m) (part_ends.Full b n) =
-    if nat_lt b.0 a.0 then part_ends.Full b n else part_ends.Full a m
-worse (part_ends.Full a m) _ = part_ends.Full a m
-worse _ (part_ends.Full b n) = part_ends.Full b n
-worse part_ends.NoMemory _ = part_ends.NoMemory
-worse _ part_ends.NoMemory = part_ends.NoMemory
-worse part_ends.Busy _ = part_ends.Busy
-worse _ part_ends.Busy = part_ends.Busy
-worse part_ends.Idle part_ends.Idle = part_ends.Idle
+-- of two refusals the one that comes first: the lower full line, then that memory was refused
+abbrev pub worse_refusal : StepRefused → StepRefused → StepRefused
+worse_refusal (refusals.Full a m) (refusals.Full b n) =
+    if nat_lt b.0 a.0 then refusals.Full b n else refusals.Full a m
+worse_refusal (refusals.Full a m) refusals.NoMemory = refusals.Full a m
+worse_refusal refusals.NoMemory second = second
+
+-- of two workers' answers the one that comes first: a refusal, then that a step was made
+abbrev pub worse : Result Work StepRefused → Result Work StepRefused → Result Work StepRefused
+worse (Err first) (Err second) = Err (worse_refusal first second)
+worse (Err first) (Ok work) = Err first
+worse (Ok work) (Err second) = Err second
+worse (Ok works.Busy) (Ok work) = Ok works.Busy
+worse (Ok works.Idle) (Ok work) = Ok work
 
 -- the part of one of the first n jobs ended at this full line, and of none of them at a lower one
 pub record IsLowestFull (jobs : List JobSeen) (n : ℕ) (line : LineNo) (len : ℕ) : Type 0 where
   pub place : ℕ
   pub job : JobSeen
   pub at : slice_get jobs place ≡ Some job
-  pub end : job.end ≡ part_ends.Full line len
+  pub end : job.end ≡ Err (refusals.Full line len)
   pub lowest : (k : ℕ) (j : JobSeen) (other : LineNo) (m : ℕ) → k < n → slice_get jobs k ≡ Some j
-      → j.end ≡ part_ends.Full other m → line.0 ≤ other.0
+      → j.end ≡ Err (refusals.Full other m) → line.0 ≤ other.0
 
 -- the part of one of the first n jobs ended so
-pub record IsSomeEnd (jobs : List JobSeen) (n : ℕ) (end : PartEnd) : Type 0 where
+pub record IsSomeEnd (jobs : List JobSeen) (n : ℕ) (end : Result Work StepRefused) : Type 0 where
   pub place : ℕ
   pub job : JobSeen
   pub below : place < n
@@ -130,20 +122,20 @@ pub record IsSomeEnd (jobs : List JobSeen) (n : ℕ) (end : PartEnd) : Type 0 wh
 -- the part of none of the first n jobs ended at a full line; below, none was refused memory either
 abbrev pub NoneFull : List JobSeen → ℕ → Type 0
 NoneFull jobs n = (k : ℕ) (j : JobSeen) (other : LineNo) (m : ℕ) → k < n → slice_get jobs k ≡ Some j
-    → j.end ≡ part_ends.Full other m → ⊥
+    → j.end ≡ Err (refusals.Full other m) → ⊥
 
 abbrev pub NoneRefused : List JobSeen → ℕ → Type 0
 NoneRefused jobs n =
-    (k : ℕ) (j : JobSeen) → k < n → slice_get jobs k ≡ Some j → is_refused j.end ≡ false
+    (k : ℕ) (j : JobSeen) → k < n → slice_get jobs k ≡ Some j → IsOk j.end
 
 -- The answer for the first n jobs: all are idle; or this is the lowest full line; or there is no
 -- full line, and one was refused memory; or none was refused, and one made a step.
-abbrev pub SumsUp : List JobSeen → ℕ → PartEnd → Type 0
-SumsUp jobs n part_ends.Idle =
-    (k : ℕ) (j : JobSeen) → k < n → slice_get jobs k ≡ Some j → j.end ≡ part_ends.Idle
-SumsUp jobs n (part_ends.Full line len) = IsLowestFull jobs n line len
-SumsUp jobs n part_ends.NoMemory = IsSomeEnd jobs n part_ends.NoMemory × NoneFull jobs n
-SumsUp jobs n part_ends.Busy = IsSomeEnd jobs n part_ends.Busy × NoneRefused jobs n
+abbrev pub SumsUp : List JobSeen → ℕ → Result Work StepRefused → Type 0
+SumsUp jobs n (Ok works.Idle) =
+    (k : ℕ) (j : JobSeen) → k < n → slice_get jobs k ≡ Some j → j.end ≡ Ok works.Idle
+SumsUp jobs n (Err (refusals.Full line len)) = IsLowestFull jobs n line len
+SumsUp jobs n (Err refusals.NoMemory) = IsSomeEnd jobs n (Err refusals.NoMemory) × NoneFull jobs n
+SumsUp jobs n (Ok works.Busy) = IsSomeEnd jobs n (Ok works.Busy) × NoneRefused jobs n
 
 -- no worker made a step
 abbrev pub MadeNone : List JobSeen → List JobSeen → Type 0
@@ -158,21 +150,20 @@ pub record IsFullFor (s : JobsSeen) (line : LineNo) (len : ℕ) : Type 0 where
   pub is : IsFullOn job line len
   -- no worker stopped at a full line with a lower number
   pub lowest : (k : ℕ) (j : JobSeen) (other : LineNo) (m : ℕ) → slice_get s.jobs k ≡ Some j
-      → j.end ≡ part_ends.Full other m → line.0 ≤ other.0
+      → j.end ≡ Err (refusals.Full other m) → line.0 ≤ other.0
 
 -- memory was refused to one of the workers, and none stopped at a full line
-pub record IsWantedFor (terms : Terms) (s : JobsSeen)
-    : Type 0 where
+pub record IsWantedFor (terms : Terms) (s : JobsSeen) : Type 0 where
   pub place : ℕ
   pub job : JobSeen
   pub at : slice_get s.jobs place ≡ Some job
   pub is : IsWantedOn terms job
   pub none_full : NoneFull s.jobs (length s.jobs)
 
--- Quiet: nothing is due of any actor. Full: a step is due on this line, the lowest at which a
--- worker stopped. NoMemory: memory was refused, and the line may have wanted it.
-abbrev pub Ends : (terms : Terms) → JobsSeen → ShiftsEnd → Type 0
-Ends terms s ends.Quiet =
+-- Nothing is due of any actor. Or, `Full`: a step is due on this line, the lowest at which a worker
+-- stopped. Or, `NoMemory`: memory was refused, and the line may have wanted it.
+abbrev pub Ends : (terms : Terms) → JobsSeen → Result Unit StepRefused → Type 0
+Ends terms s (Ok _) =
     (i : ℕ) (j : JobSeen) → slice_get s.jobs i ≡ Some j → IsAtRest s.board j j.actor
-Ends terms s (ends.Full line len) = IsFullFor s line len
-Ends terms s ends.NoMemory = IsWantedFor terms s
+Ends terms s (Err (refusals.Full line len)) = IsFullFor s line len
+Ends terms s (Err refusals.NoMemory) = IsWantedFor terms s

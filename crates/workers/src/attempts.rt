@@ -1,29 +1,16 @@
 //! A worker's attempts.
 ghost use Rattle.std.specs.Prelude.{◌≡◌, ◌<◌, ℕ, true, Some, None, length, slice_get};
 ghost use Rattle.workers.specs.Fit.{ArePosted, HasOneFlow, HasItsFlow};
-ghost use Rattle.workers.specs.Attempts.{StepsPost, StepsCpu, TriesLast, AttemptsCpu, attempt_of};
-ghost use Rattle.workers.specs.Attempts.{flow_after, is_not_yet};
+ghost use Rattle.workers.specs.Attempts.{StepsPost, StepsCpu, TriesLast, AttemptsCpu};
+ghost use Rattle.workers.specs.Attempts.{flow_after};
 ghost use Rattle.workers.specs.Terms.{terms_of};
 
 use crate::job::Job;
 use crate::lines::SharedLines;
 use callbacks::SharedHandler;
-use irq_base::{CpuEntry, Entry, FlowKind, LineNo, TakeAnswer};
+use irq_base::{CpuEntry, Entry, FlowKind, TakeAnswer};
 use irq_line::{IrqLine, StepRefused};
 use std::sync::Wait;
-
-/// What an attempt came to.
-#[derive(Clone, Copy)]
-pub(crate) enum Attempt {
-    /// It added this entry.
-    Moved(Entry),
-    /// Nothing is due of the actor on what it has seen.
-    NotYet,
-    /// A step is due on this line, and the line's history has the greatest length, `len`.
-    Full { line: LineNo, len: u32 },
-    /// Memory was needed and refused.
-    NoMemory,
-}
 
 impl<L: IrqLine> Job<L> {
     /// Tries the actor's next step with the pass at index `place`.
@@ -33,7 +20,7 @@ impl<L: IrqLine> Job<L> {
         lines: &SharedLines<L>,
         place: usize,
         handlers: &H,
-    ) -> Attempt
+    ) -> Result<Option<Entry>, StepRefused>
         requires posted { ArePosted lines.now self.old }
         requires place { place < length self.old.posts }
         ensures { StepsPost (terms_of L.seen L.may_want (H.gave handlers.now))
@@ -43,8 +30,7 @@ impl<L: IrqLine> Job<L> {
         let k = self.first + place;
         let line = &all[k];
         let post = &mut self.posts[place];
-        let tried = post.step(rt, line, handlers);
-        attempt_of(tried)
+        post.step(rt, line, handlers)
     }
 
     /// Tries a processor's next step with the pass at index `place`. The processor has no flow in
@@ -55,7 +41,7 @@ impl<L: IrqLine> Job<L> {
         lines: &SharedLines<L>,
         place: usize,
         handlers: &H,
-    ) -> Attempt
+    ) -> Result<Option<Entry>, StepRefused>
         requires posted { ArePosted lines.now self.old }
         requires place { place < length self.old.posts }
         requires flow { HasOneFlow self.old }
@@ -64,12 +50,12 @@ impl<L: IrqLine> Job<L> {
         ensures { StepsCpu (terms_of L.seen L.may_want (H.gave handlers.now))
             lines.now place result self.old self.new }
     {
-        let attempt = self.try_post(rt, lines, place, handlers);
-        if let Attempt::Moved(entry) = attempt {
+        let moved = self.try_post(rt, lines, place, handlers)?;
+        if let Some(entry) = moved {
             let flow = lines.flow_at(self.first, place);
             self.flow = flow_after(flow, &entry, place, self.flow);
         }
-        attempt
+        Ok(moved)
     }
 
     /// A processor's attempt. If it has a flow in progress, it steps on the flow's line, where
@@ -80,7 +66,7 @@ impl<L: IrqLine> Job<L> {
         rt: &R,
         lines: &SharedLines<L>,
         handlers: &H,
-    ) -> Attempt
+    ) -> Result<Option<Entry>, StepRefused>
         requires posted { ArePosted lines.now self.old }
         requires flow { HasOneFlow self.old }
         requires its { HasItsFlow self.old }
@@ -90,18 +76,16 @@ impl<L: IrqLine> Job<L> {
         if let Some(place) = self.flow {
             return self.step_cpu(rt, lines, place, handlers);
         }
-        match self.try_last(rt, lines, handlers) {
-            Attempt::NotYet => {}
-            other => return other,
+        if let Some(entry) = self.try_last(rt, lines, handlers)? {
+            return Ok(Some(entry));
         }
         for place in 0..self.posts.len() {
-            let attempt = self.step_cpu(rt, lines, place, handlers);
-            if !is_not_yet(attempt) {
+            if let Some(entry) = self.step_cpu(rt, lines, place, handlers)? {
                 self.last = place;
-                return attempt;
+                return Ok(Some(entry));
             }
         }
-        Attempt::NotYet
+        Ok(None)
     }
 
     /// Tries a processor's next step with the pass with which it made its last one, where it is
@@ -111,7 +95,7 @@ impl<L: IrqLine> Job<L> {
         rt: &R,
         lines: &SharedLines<L>,
         handlers: &H,
-    ) -> Attempt
+    ) -> Result<Option<Entry>, StepRefused>
         requires posted { ArePosted lines.now self.old }
         requires flow { HasOneFlow self.old }
         requires its { HasItsFlow self.old }
@@ -121,19 +105,9 @@ impl<L: IrqLine> Job<L> {
     {
         let last = self.last;
         if last >= self.posts.len() {
-            return Attempt::NotYet;
+            return Ok(None);
         }
         self.step_cpu(rt, lines, last, handlers)
-    }
-}
-
-/// Whether nothing was due.
-pub(crate) fn is_not_yet(attempt: Attempt) -> bool
-    ensures { result ≡ is_not_yet attempt }
-{
-    match attempt {
-        Attempt::NotYet => true,
-        _ => false,
     }
 }
 
@@ -160,17 +134,5 @@ pub(crate) fn flow_after(
         | CpuEntry::End { .. }
         | CpuEntry::Begin { .. }
         | CpuEntry::Return { .. } => before,
-    }
-}
-
-/// What an attempt answers, by what the try on its line answered.
-fn attempt_of(tried: Result<Option<Entry>, StepRefused>) -> Attempt
-    ensures { result ≡ attempt_of tried }
-{
-    match tried {
-        Ok(Some(entry)) => Attempt::Moved(entry),
-        Ok(None) => Attempt::NotYet,
-        Err(StepRefused::Full { line, len }) => Attempt::Full { line, len },
-        Err(StepRefused::NoMemory) => Attempt::NoMemory,
     }
 }

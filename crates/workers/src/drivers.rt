@@ -6,13 +6,12 @@ ghost use Rattle.workers.specs.Forks.{AreBoards};
 ghost use Rattle.workers.specs.Attempts.{IsDriven, AttemptsDriver};
 ghost use Rattle.workers.specs.Terms.{terms_of};
 
-use crate::attempts::Attempt;
 use crate::job::Job;
 use crate::lines::SharedLines;
 use board_def::{Board, ScriptCall};
 use callbacks::SharedHandler;
-use irq_base::DriverNo;
-use irq_line::IrqLine;
+use irq_base::{DriverNo, Entry};
+use irq_line::{IrqLine, StepRefused};
 use line_scripts::completes;
 use std::sync::Wait;
 
@@ -25,7 +24,7 @@ impl<L: IrqLine> Job<L> {
         lines: &SharedLines<L>,
         driver: DriverNo,
         handlers: &H,
-    ) -> Attempt
+    ) -> Result<Option<Entry>, StepRefused>
         requires boards { AreBoards board.now lines.now }
         requires driven { IsDriven board.now lines.now driver self.old }
         ensures { AttemptsDriver (terms_of L.seen L.may_want (H.gave handlers.now))
@@ -33,7 +32,7 @@ impl<L: IrqLine> Job<L> {
     {
         self.at = next_call(board.calls(), lines, driver, self.at);
         let Some(call) = board.call(self.at) else {
-            return Attempt::NotYet;
+            return Ok(None);
         };
         let Some(place) = lines.place_of(call.line) else {
             unreachable!()
@@ -50,7 +49,7 @@ impl<L: IrqLine> Job<L> {
         call: ScriptCall,
         place: usize,
         handlers: &H,
-    ) -> Attempt
+    ) -> Result<Option<Entry>, StepRefused>
         requires boards { AreBoards board.now lines.now }
         requires driven { IsDriven board.now lines.now call.driver self.old }
         requires call { slice_get board.now.calls self.old.at ≡ Some call }
@@ -59,13 +58,13 @@ impl<L: IrqLine> Job<L> {
             board.now lines.now call.driver result self.old self.new }
     {
         board.is_board();
-        let attempt = self.try_post(rt, lines, place, handlers);
-        if let Attempt::Moved(entry) = attempt {
+        let moved = self.try_post(rt, lines, place, handlers)?;
+        if let Some(entry) = moved {
             if completes(call.call, &entry) {
                 self.at += 1;
             }
         }
-        attempt
+        Ok(moved)
     }
 }
 

@@ -1,20 +1,16 @@
 //! What a worker does, and how it went.
 use crate::post::Post;
-use irq_base::{Actor, LineNo};
-use irq_line::IrqLine;
+use irq_base::Actor;
+use irq_line::{IrqLine, StepRefused};
 use std::marker::Model;
 
-/// How a worker's part of a shift of threads ended.
+/// What a worker did in its part of a shift of threads, if no step was refused.
 #[derive(Clone, Copy, PartialEq, Eq)]
-pub(crate) enum PartEnd {
+pub(crate) enum Work {
     /// It made no step: its actor has nothing due on what it has seen.
     Idle,
     /// It made a step.
     Busy,
-    /// A step was due on this line, and the line's history has the greatest length, `len`.
-    Full { line: LineNo, len: u32 },
-    /// Memory was needed and refused.
-    NoMemory,
 }
 
 /// The work of one actor: its passes, and where it is.
@@ -34,7 +30,7 @@ pub(crate) struct Job<L: IrqLine> {
     /// How many attempts it has had in this run.
     pub(crate) attempts: u64,
     /// How its part of the last shift ended.
-    pub(crate) end: PartEnd,
+    pub(crate) end: Result<Work, StepRefused>,
 }
 
 impl<L: IrqLine> Model for Job<L> {

@@ -13,7 +13,7 @@ ghost use Rattle.workers.specs.Grown.{AreNew, HaveSeenNothing};
 use crate::crew::make_crew;
 use crate::dealing::{deal, jobs_a_thread};
 use crate::forks::fork_all;
-use crate::job::{Job, PartEnd};
+use crate::job::{Job, Work};
 use crate::lines::SharedLines;
 use board_def::Board;
 use irq_base::{Actor, NoMemory};
@@ -137,7 +137,7 @@ impl<'b, L: IrqLine> Jobs<'b, L> {
             last: 0,
             at: 0,
             attempts: 0,
-            end: PartEnd::Idle,
+            end: Ok(Work::Idle),
         })?;
         Ok(())
     }

@@ -27,4 +27,4 @@ pub use gate::{Gate, NoGate};
 pub use gathers::gather;
 pub use jobs::{Jobs, share};
 pub use lines::SharedLines;
-pub use shifts::{ShiftsEnd, run_shifts};
+pub use shifts::run_shifts;

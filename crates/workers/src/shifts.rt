@@ -1,48 +1,44 @@
 //! Shifts of threads over the jobs.
-ghost use Rattle.std.specs.Prelude.{◌≡◌, ◌<◌, ◌≤◌, ℕ, Some, All, length, slice_get};
+ghost use Rattle.std.specs.Prelude.{◌≡◌, ◌<◌, ◌≤◌, ℕ, Some, Ok, All, length, slice_get};
 ghost use Rattle.workers.specs.Fit.{Fit, IsJob};
 ghost use Rattle.workers.specs.Forks.{AreBoards};
 ghost use Rattle.workers.specs.Room.{room_of_jobs};
 ghost use Rattle.workers.specs.Grown.{JobsGrow};
 ghost use Rattle.workers.specs.Shifts.{EachEndedSo, Ends, KeepsJobs, MadeNone, SumsUp, worse};
+ghost use Rattle.workers.specs.Shifts.{worse_refusal};
 ghost use Rattle.workers.specs.Seen.{JobSeen};
-ghost use Rattle.workers.specs.declared.job.PartEnd.TheVariants as part_ends;
+ghost use Rattle.workers.specs.declared.job.Work.TheVariants as works;
 ghost use Rattle.workers.specs.Terms.{terms_of};
 
 use crate::gate::Gate;
-use crate::job::{Job, PartEnd};
+use crate::job::{Job, Work};
 use crate::jobs::Jobs;
 use crate::lines::SharedLines;
 use crate::sweeps::work_on;
 use board_def::Board;
 use callbacks::SharedHandler;
-use irq_base::LineNo;
-use irq_line::IrqLine;
+use irq_line::{IrqLine, StepRefused};
 use std::sync::Wait;
 use std::sync::atomic::{AtomicU64, Ordering};
 use std::thread::{self, Threads};
 
-/// How the shifts ended.
-#[derive(Clone, Copy, PartialEq, Eq)]
-pub enum ShiftsEnd {
-    /// A shift made no step, since nothing was due of any actor on what it had seen.
-    Quiet,
-    /// A step was due on this line, and the line's history has the greatest length, `len`. Of
-    /// several such lines it is the lowest.
-    Full { line: LineNo, len: u32 },
-    /// Memory was needed and refused, and no worker stopped at a full line.
-    NoMemory,
-}
-
-/// Makes shifts of all jobs, until a shift makes no step, or a worker is refused. The jobs fit the
-/// lines. The shifts come to an end: in each shift but the last some pass sees more entries than
-/// before, and no pass can see more than a history of the greatest length.
+/// Makes shifts of all jobs, until a shift makes no step, since nothing was due of any actor on
+/// what it had seen, or a worker's step is refused. The jobs fit the lines. The shifts come to an
+/// end: in each shift but the last some pass sees more entries than before, and no pass can see
+/// more than a history of the greatest length. The error is `Full` if a worker stopped at a full
+/// line, of several such lines with the lowest; else it is `NoMemory`.
 pub fn run_shifts<
     R: Threads + Wait + Sync,
     L: IrqLine + Send + Sync,
     G: Gate + Sync,
     H: SharedHandler + Sync,
->(rt: &R, lines: &SharedLines<L>, jobs: &mut Jobs<'_, L>, gate: &G, handlers: &H) -> ShiftsEnd
+>(
+    rt: &R,
+    lines: &SharedLines<L>,
+    jobs: &mut Jobs<'_, L>,
+    gate: &G,
+    handlers: &H,
+) -> Result<(), StepRefused>
     requires { Fit lines.now jobs.old }
     ensures board { jobs.new.board ≡ jobs.old.board }
     ensures fit { Fit lines.now jobs.new }
@@ -55,11 +51,9 @@ pub fn run_shifts<
     let mut pause = Pause { left: 0, next: 1 };
     loop {
         let used_up = AtomicU64::new(0);
-        match jobs.one_shift(rt, lines, size, &used_up, gate, handlers) {
-            PartEnd::Idle => return ShiftsEnd::Quiet,
-            PartEnd::Busy => {}
-            PartEnd::Full { line, len } => return ShiftsEnd::Full { line, len },
-            PartEnd::NoMemory => return ShiftsEnd::NoMemory,
+        match jobs.one_shift(rt, lines, size, &used_up, gate, handlers)? {
+            Work::Idle => return Ok(()),
+            Work::Busy => {}
         }
         let all = jobs.jobs.len();
         let paid = pays(used_up.load(Ordering::SeqCst), all.div_ceil(size.max(1)));
@@ -153,7 +147,7 @@ impl<'b, L: IrqLine + Send + Sync> Jobs<'b, L> {
         used_up: &AtomicU64,
         gate: &G,
         handlers: &H,
-    ) -> PartEnd
+    ) -> Result<Work, StepRefused>
         requires { Fit lines.now self.old }
         ensures board { self.new.board ≡ self.old.board }
         ensures fit { Fit lines.now self.new }
@@ -161,9 +155,9 @@ impl<'b, L: IrqLine + Send + Sync> Jobs<'b, L> {
         ensures all { SumsUp self.new.jobs (length self.new.jobs) result }
         ensures grew { JobsGrow (H.gave handlers.now) self.old.jobs self.new.jobs }
         ensures firsts { self.new.firsts ≡ self.old.firsts }
-        ensures idle { result ≡ part_ends.Idle → MadeNone self.old.jobs self.new.jobs }
+        ensures idle { result ≡ Ok works.Idle → MadeNone self.old.jobs self.new.jobs }
         ensures room { room_of_jobs self.new.jobs ≤ room_of_jobs self.old.jobs }
-        ensures busy { result ≡ part_ends.Busy
+        ensures busy { result ≡ Ok works.Busy
             → room_of_jobs self.new.jobs < room_of_jobs self.old.jobs }
     {
         let jobs = self.jobs.as_mut_slice();
@@ -174,10 +168,10 @@ impl<'b, L: IrqLine + Send + Sync> Jobs<'b, L> {
 
 /// How the workers' parts of a shift ended, as one answer: a full line comes first, the lowest of
 /// several; then that memory was refused; then that a step was made; then that none was.
-fn end_of_all<L: IrqLine>(jobs: &[Job<L>]) -> PartEnd
+fn end_of_all<L: IrqLine>(jobs: &[Job<L>]) -> Result<Work, StepRefused>
     ensures { SumsUp jobs.now (length jobs.now) result }
 {
-    let mut all = PartEnd::Idle;
+    let mut all = Ok(Work::Idle);
     for i in 0..jobs.len() {
         let job = &jobs[i];
         all = worse(all, job.end);
@@ -185,16 +179,31 @@ fn end_of_all<L: IrqLine>(jobs: &[Job<L>]) -> PartEnd
     all
 }
 
-/// Of two ends the worse, in the order of `end_of_all`.
-pub(crate) fn worse(first: PartEnd, second: PartEnd) -> PartEnd
+/// Of two ends the one that comes first in the order of `end_of_all`.
+pub(crate) fn worse(
+    first: Result<Work, StepRefused>,
+    second: Result<Work, StepRefused>,
+) -> Result<Work, StepRefused>
     ensures { result ≡ worse first second }
 {
     match (first, second) {
-        (PartEnd::Full { line: a, .. }, PartEnd::Full { line: b, .. }) if b.0 < a.0 => second,
-        (PartEnd::Full { .. }, _) => first,
-        (_, PartEnd::Full { .. }) => second,
-        (PartEnd::NoMemory, _) | (_, PartEnd::NoMemory) => PartEnd::NoMemory,
-        (PartEnd::Busy, _) | (_, PartEnd::Busy) => PartEnd::Busy,
-        (PartEnd::Idle, PartEnd::Idle) => PartEnd::Idle,
+        (Err(a), Err(b)) => Err(worse_refusal(a, b)),
+        (Err(_), Ok(_)) => first,
+        (Ok(_), Err(_)) => second,
+        (Ok(Work::Busy), Ok(_)) => first,
+        (Ok(Work::Idle), Ok(_)) => second,
+    }
+}
+
+/// Of two refusals the one that comes first in the order of `end_of_all`.
+fn worse_refusal(first: StepRefused, second: StepRefused) -> StepRefused
+    ensures { result ≡ worse_refusal first second }
+{
+    let StepRefused::Full { line: a, .. } = first else {
+        return second;
+    };
+    match second {
+        StepRefused::Full { line: b, .. } if b.0 < a.0 => second,
+        StepRefused::Full { .. } | StepRefused::NoMemory => first,
     }
 }

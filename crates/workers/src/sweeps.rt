@@ -5,18 +5,17 @@ ghost use Rattle.workers.specs.Forks.{AreBoards};
 ghost use Rattle.workers.specs.Room.{RoomAfterPart};
 ghost use Rattle.workers.specs.Shifts.{GoesOn, GoOnJobs, KeepsJobs, EndIsSo, AttemptsJob};
 ghost use Rattle.workers.specs.Shifts.{WorksJob};
-ghost use Rattle.workers.specs.Shifts.{WorksOn, is_refused, with_earlier};
+ghost use Rattle.workers.specs.Shifts.{WorksOn, with_earlier};
 ghost use Rattle.workers.specs.Terms.{terms_of};
 
-use crate::attempts::Attempt;
 use crate::gate::Gate;
-use crate::job::{Job, PartEnd};
+use crate::job::{Job, Work};
 use crate::lines::SharedLines;
 use crate::shifts::worse;
 use board_def::Board;
 use callbacks::SharedHandler;
-use irq_base::Actor;
-use irq_line::IrqLine;
+use irq_base::{Actor, Entry};
+use irq_line::{IrqLine, StepRefused};
 use std::hint::spin_loop;
 use std::sync::Wait;
 use std::sync::atomic::{AtomicU64, Ordering};
@@ -49,7 +48,7 @@ impl<L: IrqLine> Job<L> {
         board: &Board,
         lines: &SharedLines<L>,
         handlers: &H,
-    ) -> Attempt
+    ) -> Result<Option<Entry>, StepRefused>
         requires boards { AreBoards board.now lines.now }
         requires job { IsJob board.now lines.now self.old }
         ensures { AttemptsJob (terms_of L.seen L.may_want (H.gave handlers.now))
@@ -70,7 +69,7 @@ impl<L: IrqLine> Job<L> {
         lines: &SharedLines<L>,
         gate: &G,
         handlers: &H,
-    ) -> Attempt
+    ) -> Result<Option<Entry>, StepRefused>
         requires boards { AreBoards board.now lines.now }
         requires job { IsJob board.now lines.now self.old }
         ensures { AttemptsJob (terms_of L.seen L.may_want (H.gave handlers.now))
@@ -90,7 +89,7 @@ impl<L: IrqLine> Job<L> {
         most: u32,
         gate: &G,
         handlers: &H,
-    ) -> PartEnd
+    ) -> Result<Work, StepRefused>
         requires boards { AreBoards board.now lines.now }
         requires job { IsJob board.now lines.now self.old }
         requires some { 0 < most }
@@ -101,15 +100,13 @@ impl<L: IrqLine> Job<L> {
         ensures room { RoomAfterPart result self.old self.new }
     {
         for steps in 0..most {
-            match self.attempt_at_gate(rt, board, lines, gate, handlers) {
-                Attempt::Moved(_) => {}
-                Attempt::NotYet if steps > 0 => return PartEnd::Busy,
-                Attempt::NotYet => return PartEnd::Idle,
-                Attempt::Full { line, len } => return PartEnd::Full { line, len },
-                Attempt::NoMemory => return PartEnd::NoMemory,
+            match self.attempt_at_gate(rt, board, lines, gate, handlers)? {
+                Some(_) => {}
+                None if steps > 0 => return Ok(Work::Busy),
+                None => return Ok(Work::Idle),
             }
         }
-        PartEnd::Busy
+        Ok(Work::Busy)
     }
 
     /// The first that a worker does in a shift.
@@ -132,8 +129,8 @@ impl<L: IrqLine> Job<L> {
     }
 
     /// What a worker does later in the shift, and how this went. If it made a step before, its
-    /// part ends as one with a step, also if there is nothing more to do. A worker whose part ended
-    /// at a full line or for want of memory does nothing more.
+    /// part ends as one with a step, also if there is nothing more to do. A worker whose step was
+    /// refused does nothing more.
     fn go_on<R: Wait, G: Gate, H: SharedHandler>(
         &mut self,
         rt: &R,
@@ -142,17 +139,14 @@ impl<L: IrqLine> Job<L> {
         most: u32,
         gate: &G,
         handlers: &H,
-    ) -> PartEnd
+    ) -> Result<Work, StepRefused>
         requires boards { AreBoards board.now lines.now }
         requires job { IsJob board.now lines.now self.old }
         requires some { 0 < most }
         ensures { GoesOn (terms_of L.seen L.may_want (H.gave handlers.now))
             board.now lines.now self.old self.new }
     {
-        let before = self.end;
-        if is_refused(before) {
-            return before;
-        }
+        let before = self.end?;
         let end = self.make_attempts(rt, board, lines, most, gate, handlers);
         self.end = with_earlier(before, end);
         end
@@ -160,22 +154,12 @@ impl<L: IrqLine> Job<L> {
 }
 
 /// How a part ended, by how it stood (`before`) and how the attempts after that ended.
-fn with_earlier(before: PartEnd, end: PartEnd) -> PartEnd
+fn with_earlier(before: Work, end: Result<Work, StepRefused>) -> Result<Work, StepRefused>
     ensures { result ≡ with_earlier before end }
 {
     match end {
-        PartEnd::Idle if before == PartEnd::Busy => before,
+        Ok(Work::Idle) => Ok(before),
         _ => end,
-    }
-}
-
-/// Whether a full line or want of memory ended the worker's part.
-fn is_refused(end: PartEnd) -> bool
-    ensures { result ≡ is_refused end }
-{
-    match end {
-        PartEnd::Full { .. } | PartEnd::NoMemory => true,
-        PartEnd::Idle | PartEnd::Busy => false,
     }
 }
 
@@ -204,7 +188,7 @@ pub(crate) fn work_on<R: Wait, L: IrqLine, G: Gate, H: SharedHandler>(
     };
     sweep_first(rt, board, lines, jobs, at_once, gate, handlers);
     for _ in 0..most / at_once {
-        if look(rt, board, lines, jobs, at_once, gate, handlers) != PartEnd::Busy {
+        if look(rt, board, lines, jobs, at_once, gate, handlers) != Ok(Work::Busy) {
             return;
         }
     }
@@ -220,7 +204,7 @@ fn look<R: Wait, L: IrqLine, G: Gate, H: SharedHandler>(
     at_once: u32,
     gate: &G,
     handlers: &H,
-) -> PartEnd
+) -> Result<Work, StepRefused>
     requires boards { AreBoards board.now lines.now }
     requires jobs { All (IsJob board.now lines.now) jobs.old }
     requires some { 0 < at_once }
@@ -234,7 +218,7 @@ fn look<R: Wait, L: IrqLine, G: Gate, H: SharedHandler>(
     };
     for _ in 0..looks {
         let end = sweep(rt, board, lines, jobs, at_once, gate, handlers);
-        if end != PartEnd::Idle {
+        if end != Ok(Work::Idle) {
             return end;
         }
         spin_loop();
@@ -272,14 +256,14 @@ fn sweep<R: Wait, L: IrqLine, G: Gate, H: SharedHandler>(
     at_once: u32,
     gate: &G,
     handlers: &H,
-) -> PartEnd
+) -> Result<Work, StepRefused>
     requires boards { AreBoards board.now lines.now }
     requires jobs { All (IsJob board.now lines.now) jobs.old }
     requires some { 0 < at_once }
     ensures { GoOnJobs (terms_of L.seen L.may_want (H.gave handlers.now))
         board.now lines.now jobs.old jobs.new }
 {
-    let mut all = PartEnd::Idle;
+    let mut all = Ok(Work::Idle);
     for i in 0..jobs.len() {
         let end = jobs[i].go_on(rt, board, lines, at_once, gate, handlers);
         all = worse(all, end);

@@ -1,12 +1,11 @@
-use Rattle.std.proofs.Common.{◌≡◌, take}
+use Rattle.std.proofs.Common.{◌≡◌, take, Ok}
 use Rattle.std.specs.List.{flat_map}
 use Rattle.irq_io.specs.Whole.{WritesAll}
-use Rattle.irq_io.specs.declared.whole.WriteEnd.TheVariants as ends
 use Rattle.log_text.specs.Rows.{entry_text}
 use Rattle.irq_run.proofs.printing.print_history.Given as goal
 
 abbrev pub invariant-loop-i : goal.invariant-loop-i
 invariant-loop-i g l = record {
-  content : WritesAll (g.O.Sink.written l.fn.out) (g.O.Sink.written l.out) (flat_map (entry_text l.line) (take l.i l.history.entries)) ends.Done;
+  content : WritesAll (g.O.Sink.written l.fn.out) (g.O.Sink.written l.out) (flat_map (entry_text l.line) (take l.i l.history.entries)) (Ok tt);
   faults : g.O.Sink.faults l.out ≡ g.O.Sink.faults l.fn.out;
 }

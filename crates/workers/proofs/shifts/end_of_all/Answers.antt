@@ -1,7 +1,8 @@
-use Rattle.std.proofs.Common.{◌≡◌, Some, slice_get, sym, ap, subst, ◌+◌, ◌∙◌}
+use Rattle.std.proofs.Common.{◌≡◌, Some, slice_get, sym, ap, subst, ◌+◌, ◌∙◌, Result}
+use Rattle.irq_line.specs.declared.answers.StepRefused.{StepRefused}
+use Rattle.workers.specs.declared.job.Work.{Work}
 use Rattle.workers.specs.Shifts.{SumsUp}
 use Rattle.workers.specs.Seen.{JobSeen}
-use Rattle.workers.specs.declared.job.PartEnd.{PartEnd}
 use Rattle.workers.proofs.Lists.{there_or}
 use Rattle.workers.proofs.Shifting.{sums_more}
 use Rattle.workers.proofs.shifts.end_of_all.Goals as goal
@@ -12,5 +13,5 @@ loop-i-preserved g c =
     = there_or c.args.jobs.now c.loop-i.i c.index-jobs-i.result c.loop-i-test.true
     ∙ ap (λ (j : JobSeen). Some j) (sym c.index-jobs-i.is) in
     let its = ap (λ (j : JobSeen). j.end) (sym c.job.view_is) in
-    subst (λ (l : PartEnd). SumsUp c.args.jobs.now (c.loop-i.i + 1) l) (sym c.worse-all.ensures)
+    subst (λ (l : Result Work StepRefused). SumsUp c.args.jobs.now (c.loop-i.i + 1) l) (sym c.worse-all.ensures)
     (sums_more c.args.jobs.now c.loop-i.i c.index-jobs-i.result at c.loop-i.all c.job.inside.end its c.loop-i.invariant)

@@ -1,34 +1,33 @@
-use Rattle.std.proofs.Common.{arith, ◌∙◌}
+use Rattle.std.proofs.Common.{Result, Ok, length, sym, subst, arith, ◌∙◌}
+use Rattle.irq_line.specs.declared.answers.StepRefused.{StepRefused}
+use Rattle.workers.specs.Shifts.{Ends, SumsUp}
+use Rattle.workers.specs.declared.job.Work.{Work}
+use Rattle.workers.proofs.Handing.{handed_on}
 use Rattle.workers.proofs.Growing.{jobs_more}
-use Rattle.workers.proofs.Shifting.{quiet, full_for, wanted_for}
+use Rattle.workers.proofs.Shifting.{quiet, refused_for}
 use Rattle.workers.specs.Terms.{terms_of}
 use Rattle.workers.proofs.shifts.run_shifts.Goals as goal
 
 pub returns-in-Idle-clause-end : goal.returns-in-Idle-clause-end
-returns-in-Idle-clause-end g c = quiet (terms_of g.L.IrqLine.seen g.L.IrqLine.may_want
-    (g.H.SharedHandler.gave c.args.handlers.now)) c.one_shift.new.self c.one_shift.ensures.ends c.in-Idle.ensures.all
+returns-in-Idle-clause-end g c =
+    quiet (terms_of g.L.IrqLine.seen g.L.IrqLine.may_want (g.H.SharedHandler.gave c.args.handlers.now))
+    c.one_shift.new.self c.one_shift.ensures.ends
+    (subst (λ (w : Work). SumsUp c.one_shift.new.self.jobs (length c.one_shift.new.self.jobs) (Ok w)) c.in-Idle.is c.in_ok-one_shift.ensures.all)
 
-pub returns-in-Full-clause-end : goal.returns-in-Full-clause-end
-returns-in-Full-clause-end g c = full_for (terms_of g.L.IrqLine.seen g.L.IrqLine.may_want (g.H.SharedHandler.gave c.args.handlers.now)) c.one_shift.new.self
-    c.one_shift.ensures.ends c.in-Full.line c.in-Full.len c.in-Full.ensures.all
-
-pub returns-in-NoMemory-clause-end : goal.returns-in-NoMemory-clause-end
-returns-in-NoMemory-clause-end g c = wanted_for (terms_of g.L.IrqLine.seen g.L.IrqLine.may_want
-    (g.H.SharedHandler.gave c.args.handlers.now)) c.one_shift.new.self
-    c.one_shift.ensures.ends c.in-NoMemory.ensures.all
+pub returns-in_err-one_shift-clause-end : goal.returns-in_err-one_shift-clause-end
+returns-in_err-one_shift-clause-end g c =
+    subst (λ (end : Result Unit StepRefused). Ends (terms_of g.L.IrqLine.seen g.L.IrqLine.may_want (g.H.SharedHandler.gave c.args.handlers.now))
+    c.one_shift.new.self end) (sym (handed_on c.from_residual.ensures.1))
+    (refused_for (terms_of g.L.IrqLine.seen g.L.IrqLine.may_want (g.H.SharedHandler.gave c.args.handlers.now))
+    c.one_shift.new.self c.one_shift.ensures.ends c.in_err-one_shift.field-0.0 c.in_err-one_shift.ensures.all)
 
 pub returns-in-Idle-clause-grew : goal.returns-in-Idle-clause-grew
 returns-in-Idle-clause-grew g c =
     jobs_more c.args.jobs.now.jobs c.loop-used_up.jobs.jobs c.one_shift.new.self.jobs
     c.loop-used_up.invariant.grew c.one_shift.ensures.grew
 
-pub returns-in-Full-clause-grew : goal.returns-in-Full-clause-grew
-returns-in-Full-clause-grew g c =
-    jobs_more c.args.jobs.now.jobs c.loop-used_up.jobs.jobs c.one_shift.new.self.jobs
-    c.loop-used_up.invariant.grew c.one_shift.ensures.grew
-
-pub returns-in-NoMemory-clause-grew : goal.returns-in-NoMemory-clause-grew
-returns-in-NoMemory-clause-grew g c =
+pub returns-in_err-one_shift-clause-grew : goal.returns-in_err-one_shift-clause-grew
+returns-in_err-one_shift-clause-grew g c =
     jobs_more c.args.jobs.now.jobs c.loop-used_up.jobs.jobs c.one_shift.new.self.jobs
     c.loop-used_up.invariant.grew c.one_shift.ensures.grew
 

@@ -1,4 +1,6 @@
-use Rattle.std.proofs.Common.{refl, arith}
+use Rattle.std.proofs.Common.{Option, Ok, refl, subst, arith}
+use Rattle.irq_base.specs.declared.entries.Entry.{Entry}
+use Rattle.workers.specs.Room.{RoomAfter}
 use Rattle.workers.proofs.Shifting.{works_first, works_more}
 use Rattle.workers.proofs.job.Job.make_attempts.Goals as goal
 
@@ -12,30 +14,27 @@ loop-steps-init g c = record {
   more = λ some. omega (arith, some);
 }
 
-pub returns-in-NotYet-clause-works : goal.returns-in-NotYet-clause-works
-returns-in-NotYet-clause-works g c =
+pub returns-in-None-clause-works : goal.returns-in-None-clause-works
+returns-in-None-clause-works g c =
     works_more c.args.board.now c.args.lines.now c.args.self.now c.loop-steps.self c.attempt_at_gate.new.self
     c.loop-steps.invariant.works c.attempt_at_gate.ensures.works
 
-pub returns-in-NotYet-2-clause-works : goal.returns-in-NotYet-2-clause-works
-returns-in-NotYet-2-clause-works g c =
+pub returns-in-None-2-clause-works : goal.returns-in-None-2-clause-works
+returns-in-None-2-clause-works g c =
     works_more c.args.board.now c.args.lines.now c.args.self.now c.loop-steps.self c.attempt_at_gate.new.self
     c.loop-steps.invariant.works c.attempt_at_gate.ensures.works
 
-pub returns-in-Full-clause-works : goal.returns-in-Full-clause-works
-returns-in-Full-clause-works g c =
-    works_more c.args.board.now c.args.lines.now c.args.self.now c.loop-steps.self c.attempt_at_gate.new.self
-    c.loop-steps.invariant.works c.attempt_at_gate.ensures.works
-
-pub returns-in-NoMemory-clause-works : goal.returns-in-NoMemory-clause-works
-returns-in-NoMemory-clause-works g c =
+pub returns-in_err-attempt_at_gate-clause-works : goal.returns-in_err-attempt_at_gate-clause-works
+returns-in_err-attempt_at_gate-clause-works g c =
     works_more c.args.board.now c.args.lines.now c.args.self.now c.loop-steps.self c.attempt_at_gate.new.self
     c.loop-steps.invariant.works c.attempt_at_gate.ensures.works
 
 pub loop-steps-preserved : goal.loop-steps-preserved
 loop-steps-preserved g c =
-    let room = c.in-Moved.ensures.room.0 in
-    let made = c.in-Moved.ensures.room.1 in
+    let moved = subst (λ (o : Option Entry). RoomAfter (Ok o) c.loop-steps.self c.attempt_at_gate.new.self) c.in-Some.is
+    c.in_ok-attempt_at_gate.ensures.room in
+    let room = moved.0 in
+    let made = moved.1 in
     let room_before = c.loop-steps.invariant.room in
     let made_before = c.loop-steps.invariant.made in
     record {

@@ -18,14 +18,14 @@ offset_bounds-all-k g c = let w = in_here (here g (goal.at.offset_bounds-all-k g
 pub bounds-all-k : goal.bounds-all-k
 bounds-all-k g c = in_here (here g (goal.at.bounds-all-k g c).After-self)
 
-pub step-tried-requires : goal.step-tried-requires
-step-tried-requires g c =
-    let can = can_step (here g (goal.at.step-tried-requires g c).After-self) c.index-all-k.is c.index_mut-post.ensures.value in
+pub step-requires : goal.step-requires
+step-requires g c =
+    let can = can_step (here g (goal.at.step-requires g c).After-self) c.index-all-k.is c.index_mut-post.ensures.value in
     record { line = can.of_line; idle = can.idle; actor = can.actor; known = can.known }
 
 pub returns : goal.returns
 returns g c =
-    let e = c.step-tried.ensures in
+    let e = c.step.ensures in
     steps_post (here g (goal.at.returns g c).After-self) c.index-all-k.is c.index_mut-post.ensures.value
     (terms_of g.L.IrqLine.seen g.L.IrqLine.may_want (g.H.SharedHandler.gave c.args.handlers.now))
-    (record { of_line = e.line; idle = e.idle; actor = e.actor; rests = e.rests; tries = e.tries; flows = e.flows }) c.attempt_of.ensures
+    (record { of_line = e.line; idle = e.idle; actor = e.actor; rests = e.rests; tries = e.tries; flows = e.flows })

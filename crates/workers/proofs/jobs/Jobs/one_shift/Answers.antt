@@ -1,9 +1,10 @@
-use Rattle.std.proofs.Common.{◌≡◌, List, ◌++◌, take, drop, length, subst, arith}
+use Rattle.std.proofs.Common.{◌≡◌, List, ◌++◌, take, drop, length, subst, arith, Result, Ok}
+use Rattle.irq_line.specs.declared.answers.StepRefused.{StepRefused}
+use Rattle.workers.specs.declared.job.Work.{Work}
+use Rattle.workers.specs.declared.job.Work.TheVariants as works
 use Rattle.workers.specs.Shifts.{SumsUp}
 use Rattle.workers.specs.Seen.{JobSeen}
 use Rattle.workers.specs.Terms.{terms_of}
-use Rattle.workers.specs.declared.job.PartEnd.{PartEnd}
-use Rattle.workers.specs.declared.job.PartEnd.TheVariants as part_ends
 use Rattle.workers.proofs.Shifting.{OneShift, one_shift, shift_may, shift_fit, shift_ended, shift_room, shift_busy, shift_grew, shift_idle, whole_again}
 use Rattle.workers.proofs.jobs.Jobs.one_shift.Given as given
 use Rattle.workers.proofs.jobs.Jobs.one_shift.Goals as goal
@@ -39,8 +40,8 @@ returns-clause-room g c = shift_room (shifted g (goal.at.returns-clause-room g c
 pub returns-clause-busy : goal.returns-clause-busy
 returns-clause-busy g c = λ is.
     shift_busy (shifted g (goal.at.returns-clause-busy g c).After-shift)
-    (subst (λ (js : List JobSeen). SumsUp js (length js) part_ends.Busy) c.as_slice.ensures.value
-    (subst (λ (l : PartEnd). SumsUp c.as_slice.result.now (length c.as_slice.result.now) l) is c.end_of_all.ensures))
+    (subst (λ (js : List JobSeen). SumsUp js (length js) (Ok works.Busy)) c.as_slice.ensures.value
+    (subst (λ (l : Result Work StepRefused). SumsUp c.as_slice.result.now (length c.as_slice.result.now) l) is c.end_of_all.ensures))
 
 pub returns-clause-grew : goal.returns-clause-grew
 returns-clause-grew g c = shift_grew (shifted g (goal.at.returns-clause-grew g c).After-shift)
@@ -48,5 +49,5 @@ returns-clause-grew g c = shift_grew (shifted g (goal.at.returns-clause-grew g c
 pub returns-clause-idle : goal.returns-clause-idle
 returns-clause-idle g c = λ is.
     shift_idle (shifted g (goal.at.returns-clause-idle g c).After-shift)
-    (subst (λ (js : List JobSeen). SumsUp js (length js) part_ends.Idle) c.as_slice.ensures.value
-    (subst (λ (l : PartEnd). SumsUp c.as_slice.result.now (length c.as_slice.result.now) l) is c.end_of_all.ensures))
+    (subst (λ (js : List JobSeen). SumsUp js (length js) (Ok works.Idle)) c.as_slice.ensures.value
+    (subst (λ (l : Result Work StepRefused). SumsUp c.as_slice.result.now (length c.as_slice.result.now) l) is c.end_of_all.ensures))
