@@ -1,6 +1,5 @@
 -- What is told of a system in which its board was played.
-use Rattle.std.proofs.Common.{◌≡◌, ℕ, ◌++◌, Bool, true, Option, Result, Ok, Err, List, map, refl, sym, subst}
-use Rattle.irq_base.specs.declared.devices.Run.{Run}
+use Rattle.std.proofs.Common.{◌≡◌, ℕ, ◌++◌, true, Option, Result, Ok, Err, List, map, sym, subst}
 use Rattle.irq_base.specs.declared.entries.Entry.{Entry}
 use Rattle.irq_base.specs.declared.reporting.LineReport.{LineReport}
 use Rattle.irq_line.specs.declared.answers.StepRefused.{StepRefused}
@@ -10,8 +9,8 @@ use Rattle.board_def.specs.Seen.{BoardSeen}
 use Rattle.board_report.specs.Headline.{LineHistory, told_by}
 use Rattle.board_report.specs.Totals.{totals_text}
 use Rattle.log_text.specs.LayoutRows.{layout_rows}
-use Rattle.irq_play.specs.Headline.{CutShort, HandsOut, RefusedStep}
-use Rattle.irq_play.specs.Played.{HandsOutSystem, PlaysBoard, TellsStep, runs_of_moves}
+use Rattle.irq_play.specs.Headline.{CutShort, RefusedStep}
+use Rattle.irq_play.specs.Played.{HandsOutSystem, TellsStep}
 use Rattle.irq_play.specs.Report.{report_text}
 use Rattle.play_report.proofs.Answered as answered
 use Rattle.play_report.proofs.Answered.{answers_as, of_some, printed, without_step}
