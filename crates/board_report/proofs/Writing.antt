@@ -16,7 +16,8 @@ nothing None = tt
 nothing (Some old) = ap Some (sym (append-nil old))
 
 -- what was written, and what is written after it
-pub and_then : (a b c : Option (List ℕ)) (xs ys : List ℕ) (end : Result Unit WriteFailed) → WritesAll a b xs (Ok tt) → WritesAll b c ys end → WritesAll a c (xs ++ ys) end
+pub and_then : (a b c : Option (List ℕ)) (xs ys : List ℕ) (end : Result Unit WriteFailed) → WritesAll a b xs (Ok tt)
+    → WritesAll b c ys end → WritesAll a c (xs ++ ys) end
 and_then None b c xs ys end h k = tt
 and_then (Some old) b c xs ys (Ok _) h k =
     subst (λ (o : Option (List ℕ)). WritesAll o c ys (Ok tt)) h k ∙ ap Some (append_assoc old xs ys)

@@ -1,5 +1,5 @@
 -- On a board of one line each legal history of the line is a play by itself: its entries' actors make it.
-use Rattle.std.proofs.Common.{◌≡◌, ℕ, suc, ◌+◌, ◌<◌, ◌≤◌, Bool, true, false, ◌&&◌, cond, nat_le, leb-false, is_some, Option, Some, None}
+use Rattle.std.proofs.Common.{◌≡◌, ℕ, suc, ◌+◌, ◌<◌, ◌≤◌, Bool, true, false, ◌&&◌, cond, nat_le, leb-false, is_some, Option, Some, None, Result, Ok, Err}
 use Rattle.std.proofs.Common.{List, [], ◌∷◌, ◌++◌, length, map, slice_get, take, drop, reverse, zero, refl, sym, ap, subst, ◌∙◌, arith, append_assoc}
 use Rattle.std.specs.Prelude.{IsSome, IsSomeAnd}
 use Rattle.std.proofs.lemmas.List.{reverse-append, length-reverse, length-take-le}
@@ -12,6 +12,8 @@ use Rattle.irq_base.specs.declared.entries.Entry.{Entry}
 use Rattle.irq_base.specs.declared.lines.LineDef.{LineDef}
 use Rattle.irq_base.specs.declared.numbers.DriverNo.{DriverNo}
 use Rattle.irq_base.specs.declared.numbers.LineNo.{LineNo}
+use Rattle.irq_line.specs.declared.answers.StepRefused.{StepRefused}
+use Rattle.irq_line.specs.declared.answers.StepRefused.TheVariants as refusals
 use Rattle.irq_laws.specs.Kept.{complete_by}
 use Rattle.irq_model.specs.Kinds.{same_line, same_driver}
 use Rattle.irq_model.specs.Legal.{IsLegalPast}
@@ -208,14 +210,14 @@ module _ (s : SystemSeen) (picks : List Actor) (line : LineNo) (es : List Entry)
       omega (arith, is, many, lt, room)
 
   -- a turn of its actor makes it, unless memory is refused
-  abbrev pub IsNext : Entry → Turn → Type 0
-  IsNext e (turns.Moved of entry) = (of ≡ line) × (entry ≡ e)
-  IsNext e turns.NotYet = ⊥
-  IsNext e (turns.Full of len) = ⊥
-  IsNext e turns.NoMemory = Unit {0}
+  abbrev pub IsNext : Entry → Result Turn StepRefused → Type 0
+  IsNext e (Ok (turns.Moved of entry)) = (of ≡ line) × (entry ≡ e)
+  IsNext e (Ok turns.NotYet) = ⊥
+  IsNext e (Err (refusals.Full of len)) = ⊥
+  IsNext e (Err refusals.NoMemory) = Unit {0}
 
   pub turns_next : (e : Entry) → slice_get es k ≡ Some e → (actor mover : Actor) → actor ≡ actor_of e → (IsSome (move_of s actor) → mover ≡ actor)
-      → (t : Turn) (new : SystemSeen) → Turns s mover t new → IsNext e t
+      → (t : Result Turn StepRefused) (new : SystemSeen) → Turns s mover t new → IsNext e t
   turns_next e is actor mover who first t new turn = by t turn
     where
       due : move_of s actor ≡ Some (line, e)
@@ -224,16 +226,16 @@ module _ (s : SystemSeen) (picks : List Actor) (line : LineNo) (es : List Entry)
       its : move_of s mover ≡ Some (line, e)
       its = ap (λ (a : Actor). move_of s a) (first (subst IsSome (sym due) refl)) ∙ due
 
-      by : (t : Turn) → Turns s mover t new → IsNext e t
-      by (turns.Moved of entry) m =
+      by : (t : Result Turn StepRefused) → Turns s mover t new → IsNext e t
+      by (Ok (turns.Moved of entry)) m =
           let same : ◌≡◌ {A = Move} (of, entry) (line, e) = same_Some (of, entry) (line, e) (sym m.is ∙ its) in
           (ap (λ (x : Move). x.0) same, ap (λ (x : Move). x.1) same)
-      by turns.NotYet m = none-some (line, e) (sym m.0 ∙ its)
-      by (turns.Full of len) m =
+      by (Ok turns.NotYet) m = none-some (line, e) (sym m.0 ∙ its)
+      by (Err (refusals.Full of len)) m =
           let same : m.0.move ≡ (line, e) = same_Some m.0.move (line, e) (sym m.0.is ∙ its) in
           let its_line : of ≡ line = sym m.0.of_line ∙ ap (λ (x : Move). x.0) same in
           let has = subst (λ (l : LineNo). IsSomeAnd (find_line (board_lines s.lines) l) (λ x. length x.past ≡ len)) its_line m.0.length in
           let room = room_alone len (slice_get_within es k e is) has in
           let full : len ≡ s.board.log = m.0.log in
           omega (arith, room, full)
-      by turns.NoMemory m = tt
+      by (Err refusals.NoMemory) m = tt

@@ -1,5 +1,5 @@
 -- A play that is made pick by pick.
-use Rattle.std.proofs.Common.{◌≡◌, ℕ, zero, suc, ◌+◌, ◌<◌, Bool, true, false, cond, Some, List, [], ◌∷◌, ◌++◌, length}
+use Rattle.std.proofs.Common.{◌≡◌, ℕ, zero, suc, ◌+◌, ◌<◌, Bool, true, false, cond, Some, List, [], ◌∷◌, ◌++◌, length, Result, Ok, Err}
 use Rattle.std.proofs.Common.{reverse, take, slice_get, add-one, refl, sym, ap, ◌∙◌, subst}
 use Rattle.std.proofs.lemmas.Option.{none-some}
 use Rattle.std.proofs.lemmas.List.{append_assoc, reverse-append}
@@ -7,6 +7,8 @@ use Rattle.irq_base.specs.declared.devices.Run.{Run}
 use Rattle.irq_base.specs.declared.entries.Actor.{Actor}
 use Rattle.irq_base.specs.declared.entries.Entry.{Entry}
 use Rattle.irq_base.specs.declared.numbers.LineNo.{LineNo}
+use Rattle.irq_line.specs.declared.answers.StepRefused.{StepRefused}
+use Rattle.irq_line.specs.declared.answers.StepRefused.TheVariants as refusals
 use Rattle.irq_model.specs.Kinds.{same_line}
 use Rattle.board_def.specs.Seen.{BoardSeen}
 use Rattle.board_play.specs.Lines.{BoardLine, Move, part, defs_of, lines_of, lines_after}
@@ -109,17 +111,17 @@ module _ {H : Type 0} (hears : H → Run → H → Type 0) (first before : H) (o
       runs = runs;
     }
 
-    by_turn : (a : Actor) (t : Turn) → Turns old a t new → Heard hears (runs_of new.board (reverse new.log)) first after → IsHeardNow
-    by_turn a (turns.Moved of e) moves runs = record {
+    by_turn : (a : Actor) (t : Result Turn StepRefused) → Turns old a t new → Heard hears (runs_of new.board (reverse new.log)) first after → IsHeardNow
+    by_turn a (Ok (turns.Moved of e)) moves runs = record {
       picks = a ∷ reverse picks;
       picked = picked_more old new picks a line es of e made moves;
       runs = runs;
     }
-    by_turn a turns.NotYet turn runs = still runs turn.1
-    by_turn a (turns.Full of len) turn runs = still runs turn.1
-    by_turn a turns.NoMemory turn runs = still runs turn.1
+    by_turn a (Ok turns.NotYet) turn runs = still runs turn.1
+    by_turn a (Err (refusals.Full of len)) turn runs = still runs turn.1
+    by_turn a (Err refusals.NoMemory) turn runs = still runs turn.1
 
-    pub heard_after : (a : Actor) (t : Turn) → Turns old a t new → Heard hears (runs_by_turn old t) before after → IsHeardNow
+    pub heard_after : (a : Actor) (t : Result Turn StepRefused) → Turns old a t new → Heard hears (runs_by_turn old t) before after → IsHeardNow
     heard_after a t turn heard =
         by_turn a t turn (heard_turned hears old new (move_of old a) t (step_of_turn old new a t turn) made.lines first before after so_far heard)
 

@@ -20,7 +20,7 @@ use crate::others::{is_elsewhere, others_of};
 use board_core::{System, Turn};
 use callbacks::Handler;
 use irq_base::{Actor, Entry, LineNo, NoMemory};
-use irq_line::IrqLine;
+use irq_line::{IrqLine, StepRefused};
 use std::alloc::Global;
 
 /// How many picks make a play at most.
@@ -34,24 +34,24 @@ fn turn_of<L: IrqLine, H: Handler>(
     actor: Actor,
     others: &[Actor],
     handlers: &mut H,
-) -> (Actor, Turn)
+) -> (Actor, Result<Turn, StepRefused>)
     ensures turns { Turns system.old result.0 result.1 system.new }
     ensures heard { Heard H.hears (runs_by_turn system.old result.1) handlers.old handlers.new }
     ensures first { IsSome (move_of system.old actor) → result.0 ≡ actor }
 {
     match system.turn(actor, handlers) {
-        Turn::NotYet => {}
+        Ok(Turn::NotYet) => {}
         turn => return (actor, turn),
     }
     for other in others {
         if is_elsewhere(system, line, *other) {
             match system.turn(*other, handlers) {
-                Turn::NotYet => {}
+                Ok(Turn::NotYet) => {}
                 turn => return (*other, turn),
             }
         }
     }
-    (actor, Turn::NotYet)
+    (actor, Ok(Turn::NotYet))
 }
 
 /// Whether the entry stands at index `place` of the history.
@@ -97,8 +97,9 @@ pub fn play_to<L: IrqLine, H: Handler>(
             return Ok(false);
         }
         let actor = wanted[made].actor();
-        match turn_of(system, line, actor, others.as_slice(), handlers) {
-            (mover, Turn::Moved { line: of, entry }) => {
+        let (mover, turn) = turn_of(system, line, actor, others.as_slice(), handlers);
+        match turn {
+            Ok(Turn::Moved { line: of, entry }) => {
                 picks.push(mover)?;
                 if line == of {
                     if !is_at(wanted, made, entry) {
@@ -107,9 +108,9 @@ pub fn play_to<L: IrqLine, H: Handler>(
                     made += 1;
                 }
             }
-            (_, Turn::NotYet) => return Ok(false),
-            (_, Turn::Full { .. }) => return Ok(false),
-            (_, Turn::NoMemory) => return Err(NoMemory),
+            Ok(Turn::NotYet) => return Ok(false),
+            Err(StepRefused::Full { .. }) => return Ok(false),
+            Err(StepRefused::NoMemory) => return Err(NoMemory),
         }
     }
     Ok(true)

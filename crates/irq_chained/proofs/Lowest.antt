@@ -1,6 +1,6 @@
 -- The lowest actor that has a step of the chain: the lowest thread that can move; else processor 0;
 -- else the lowest driver that can move.
-use Rattle.std.proofs.Common.{◌≡◌, ◌⊎◌, inl, inr, ℕ, zero, suc, ◌+◌, ◌<◌, ◌≤◌, ◌==◌, Bool, false, cond, IsSome, Option}
+use Rattle.std.proofs.Common.{◌≡◌, ◌⊎◌, inl, inr, ℕ, zero, suc, ◌+◌, ◌<◌, ◌≤◌, ◌==◌, Bool, false, cond, IsSome, Option, Result, Ok, Err}
 use Rattle.std.proofs.Common.{Some, None, List, [], ◌∷◌, ◌++◌, length, map, slice_get, refl, sym, ap, ◌∙◌, subst, arith}
 use Rattle.std.proofs.lemmas.Bool.Decides.{nat_tests}
 use Rattle.std.proofs.lemmas.Option.{slice_get_within}
@@ -11,6 +11,8 @@ use Rattle.irq_base.specs.declared.entries.Actor.TheVariants as actors
 use Rattle.irq_base.specs.declared.numbers.CpuNo.{CpuNo}
 use Rattle.irq_base.specs.declared.numbers.DevNo.{DevNo}
 use Rattle.irq_base.specs.declared.numbers.DriverNo.{DriverNo}
+use Rattle.irq_line.specs.declared.answers.StepRefused.{StepRefused}
+use Rattle.irq_line.specs.declared.answers.StepRefused.TheVariants as refusals
 use Rattle.irq_laws.proofs.Chosen.{the_same}
 use Rattle.play_laws.specs.Actors.{count_up}
 use Rattle.board_def.specs.Rules.{IsBoard}
@@ -23,7 +25,7 @@ use Rattle.board_core.specs.Turns.{move_of}
 use Rattle.board_core.proofs.LowestMover.{at_first, either_at}
 use Rattle.irq_chained.specs.Chain.{chain_next, child, cpu_0, first_step, lines_in, of_cpu_0, open_status, or_step}
 use Rattle.irq_chained.specs.Seen.{DemuxSeen, IsDemux, seen_of}
-use Rattle.irq_chained.specs.Turned.{IsOther, TurnsBy, lowest_driver_of, lowest_of, next_of}
+use Rattle.irq_chained.specs.Turned.{IsOther, IsRefused, TurnsBy, lowest_driver_of, lowest_of, next_of}
 use Rattle.irq_chained.specs.declared.chain.ChainEntry.{ChainEntry}
 use Rattle.irq_chained.specs.declared.chain.ChainTurn.{ChainTurn}
 use Rattle.irq_chained.specs.declared.chain.ChainTurn.TheVariants as turns
@@ -197,19 +199,18 @@ module _ {s : SystemSeen} {ms : List Mark} {walk : Option Walk} {parent : Cell} 
 
 -- ---- what a turn of processor 0 says of the lowest
 
-pub lowest_turn : (old new : DemuxSeen) (due rest : Option ChainEntry) (turn : ChainTurn) → TurnsBy old due turn new
-    → (turn ≡ turns.NotYet → ⊥) → TurnsBy old (or_step due rest) turn new
-lowest_turn old new due rest (turns.Moved e) t not = record { is = some due e t.is; room = t.room; board = t.board; layout = t.layout; log = t.log }
+some_first : (o rest : Option ChainEntry) (e : ChainEntry) → o ≡ Some e → or_step o rest ≡ Some e
+some_first None rest e is = cc
+some_first (Some f) rest e is = is
+
+pub lowest_turn : (old new : DemuxSeen) (due rest : Option ChainEntry) (turn : Result ChainTurn StepRefused) → TurnsBy old due turn new
+    → (turn ≡ Ok turns.NotYet → ⊥) → TurnsBy old (or_step due rest) turn new
+lowest_turn old new due rest (Ok (turns.Moved e)) t not =
+    record { is = some_first due rest e t.is; room = t.room; board = t.board; layout = t.layout; log = t.log }
+lowest_turn old new due rest (Ok turns.NotYet) t not = absurd (not refl)
+lowest_turn old new due rest (Err refused) t not = (by_refusal refused t.0, t.1)
   where
-    some : (o : Option ChainEntry) (e : ChainEntry) → o ≡ Some e → or_step o rest ≡ Some e
-    some None e is = cc
-    some (Some f) e is = is
-lowest_turn old new due rest turns.NotYet t not = absurd (not refl)
-lowest_turn old new due rest (turns.Full line len) t not =
-    let f = t.0 in
-    (record { step = f.step; is = some due f.step f.is; move = f.move; tells = f.tells; of_line = f.of_line; length = f.length; log = f.log }, t.1)
-  where
-    some : (o : Option ChainEntry) (e : ChainEntry) → o ≡ Some e → or_step o rest ≡ Some e
-    some None e is = cc
-    some (Some f) e is = is
-lowest_turn old new due rest turns.NoMemory t not = t
+    by_refusal : (refused : StepRefused) → IsRefused old due refused → IsRefused old (or_step due rest) refused
+    by_refusal (refusals.Full line len) f =
+        record { step = f.step; is = some_first due rest f.step f.is; move = f.move; tells = f.tells; of_line = f.of_line; length = f.length; log = f.log }
+    by_refusal refusals.NoMemory somebody = somebody

@@ -1,5 +1,5 @@
 -- A play of a demultiplexer, step by step, and that it ends.
-use Rattle.std.proofs.Common.{◌≡◌, ℕ, ◌+◌, ◌*◌, ◌<◌, ◌≤◌, ◌==◌, Bool, true, false, cond, IfSome, IsSome, IsSomeAnd, is_some, Option}
+use Rattle.std.proofs.Common.{◌≡◌, ℕ, ◌+◌, ◌*◌, ◌<◌, ◌≤◌, ◌==◌, Bool, true, false, cond, IfSome, IsSomeAnd, is_some, Option, Result, Ok, Err}
 use Rattle.std.proofs.Common.{Some, None, List, [], ◌∷◌, length, reverse, get_or, drop, refl, sym, ap, ◌∙◌, subst}
 use Rattle.std.proofs.Common.{arith, add-one}
 use Rattle.std.proofs.Math.Seq.{drop-cons}
@@ -9,6 +9,8 @@ use Rattle.irq_base.specs.declared.entries.Actor.TheVariants as actors
 use Rattle.irq_base.specs.declared.entries.Entry.{Entry}
 use Rattle.irq_base.specs.declared.numbers.CpuNo.{CpuNo}
 use Rattle.irq_base.specs.declared.numbers.LineNo.{LineNo}
+use Rattle.irq_line.specs.declared.answers.StepRefused.{StepRefused}
+use Rattle.irq_line.specs.declared.answers.StepRefused.TheVariants as refusals
 use Rattle.irq_laws.proofs.Chosen.{the_same}
 use Rattle.board_def.specs.Seen.{BoardSeen}
 use Rattle.board_play.specs.Lines.{BoardLine, Move, defs_of, find_line, lines_after, part}
@@ -17,14 +19,13 @@ use Rattle.board_play.proofs.Members.{found, past_at}
 use Rattle.board_play.proofs.Moving.{lines_more}
 use Rattle.board_ready.specs.Sets.{has}
 use Rattle.board_core.specs.Firsts.{is_take_due}
-use Rattle.board_core.specs.declared.turns.PlayEnd.TheVariants as ends
 use Rattle.play_orders.specs.Orders.{IsMade, moves_in}
 use Rattle.irq_chained.specs.Chain.{IsChainLegal, chain_next, chain_order, children, choice_by, cpu_0, first_left}
 use Rattle.irq_chained.specs.Chain.{child, in_chain, lines_in, of_cpu_0, open_status, or_choice, or_exit, status_of}
 use Rattle.irq_chained.specs.Chain.{stepper_of, told, with_left}
 use Rattle.irq_chained.specs.Promise.{IsWalked}
 use Rattle.irq_chained.specs.Seen.{DemuxSeen}
-use Rattle.irq_chained.specs.Turned.{Goes, HasRoomFor, IsFullFor, IsPlay, IsUnderway, TurnsBy, lines_now, lowest_of, next_of}
+use Rattle.irq_chained.specs.Turned.{Goes, HasRoomFor, IsPlay, IsRefused, IsUnderway, TurnsBy, lines_now, lowest_of, next_of}
 use Rattle.irq_chained.specs.declared.chain.ChainEntry.{ChainEntry}
 use Rattle.irq_chained.specs.declared.chain.ChainEntry.TheVariants as steps
 use Rattle.irq_chained.specs.declared.chain.ChainTurn.{ChainTurn}
@@ -89,11 +90,14 @@ at_pick d picks i x within u =
     ∙ ap (λ (n : ℕ). get_or picks i x ∷ drop n picks) (sym (add-one i)) in
     subst (λ (rest : List Actor). IsUnderway d picks rest) next u
 
--- a full line ends the play
-is_full : (d : DemuxSeen) (picks rest after : List Actor) (due : Option ChainEntry) (line : LineNo) (len : ℕ)
-    → IsUnderway d picks rest → IsFullFor d due line len
-    → ((e : ChainEntry) → due ≡ Some e → choice_of d rest ≡ Some (e, after)) → IsPlay d picks (ends.Full line len)
-is_full d picks rest after due line len u full next = (
+-- a step that was refused ends the play
+is_stopped : (d : DemuxSeen) (picks rest after : List Actor) (due : Option ChainEntry) (refused : StepRefused)
+    → IsUnderway d picks rest → IsRefused d due refused
+    → ((e : ChainEntry) → due ≡ Some e → choice_of d rest ≡ Some (e, after)) → IsPlay d picks (Err refused)
+is_stopped d picks rest after due refusals.NoMemory u somebody next =
+    let can = chain_next d.board (reverse d.log) in
+    (u.left, u.made, ap (λ (o : Option (ChainEntry × List Actor)). is_some o) u.next ∙ some_choice can (actors_of d.board) rest somebody)
+is_stopped d picks rest after due (refusals.Full line len) u full next = (
   (
     u.left,
     u.made,
@@ -112,28 +116,26 @@ is_full d picks rest after due line len u full next = (
 
 -- a turn, where this step was due
 pub record Turned (old new : DemuxSeen) (due : Option ChainEntry) : Type 0 where
-  pub turn : ChainTurn
+  pub turn : Result ChainTurn StepRefused
   pub turns : TurnsBy old due turn new
 
-abbrev pub a_turn : {old new : DemuxSeen} {due : Option ChainEntry} (turn : ChainTurn) → TurnsBy old due turn new → Turned old new due
+abbrev pub a_turn : {old new : DemuxSeen} {due : Option ChainEntry} (turn : Result ChainTurn StepRefused) → TurnsBy old due turn new → Turned old new due
 a_turn turn turns = record { turn = turn; turns = turns }
 
-same_board : (old new : DemuxSeen) (due : Option ChainEntry) (turn : ChainTurn) → TurnsBy old due turn new → new.board ≡ old.board
-same_board old new due (turns.Moved e) t = t.board
-same_board old new due turns.NotYet t = ap (λ (d : DemuxSeen). d.board) t.1
-same_board old new due (turns.Full line len) t = ap (λ (d : DemuxSeen). d.board) t.1
-same_board old new due turns.NoMemory t = ap (λ (d : DemuxSeen). d.board) t.1
+same_board : (old new : DemuxSeen) (due : Option ChainEntry) (turn : Result ChainTurn StepRefused) → TurnsBy old due turn new → new.board ≡ old.board
+same_board old new due (Ok (turns.Moved e)) t = t.board
+same_board old new due (Ok turns.NotYet) t = ap (λ (d : DemuxSeen). d.board) t.1
+same_board old new due (Err refused) t = ap (λ (d : DemuxSeen). d.board) t.1
 
-same_layout : (old new : DemuxSeen) (due : Option ChainEntry) (turn : ChainTurn) → TurnsBy old due turn new → new.layout ≡ old.layout
-same_layout old new due (turns.Moved e) t = t.layout
-same_layout old new due turns.NotYet t = ap (λ (d : DemuxSeen). d.layout) t.1
-same_layout old new due (turns.Full line len) t = ap (λ (d : DemuxSeen). d.layout) t.1
-same_layout old new due turns.NoMemory t = ap (λ (d : DemuxSeen). d.layout) t.1
+same_layout : (old new : DemuxSeen) (due : Option ChainEntry) (turn : Result ChainTurn StepRefused) → TurnsBy old due turn new → new.layout ≡ old.layout
+same_layout old new due (Ok (turns.Moved e)) t = t.layout
+same_layout old new due (Ok turns.NotYet) t = ap (λ (d : DemuxSeen). d.layout) t.1
+same_layout old new due (Err refused) t = ap (λ (d : DemuxSeen). d.layout) t.1
 
 module _ {old new : DemuxSeen} {due : Option ChainEntry} (t : Turned old new due) where
   -- what holds if that was answered
-  pub answered : (turn : ChainTurn) → t.turn ≡ turn → TurnsBy old due turn new
-  answered turn same = subst (λ (x : ChainTurn). TurnsBy old due x new) same t.turns
+  pub answered : (turn : Result ChainTurn StepRefused) → t.turn ≡ turn → TurnsBy old due turn new
+  answered turn same = subst (λ (x : Result ChainTurn StepRefused). TurnsBy old due x new) same t.turns
 
   pub keeps_board : new.board ≡ old.board
   keeps_board = same_board old new due t.turn t.turns
@@ -141,27 +143,18 @@ module _ {old new : DemuxSeen} {due : Option ChainEntry} (t : Turned old new due
   pub keeps_layout : new.layout ≡ old.layout
   keeps_layout = same_layout old new due t.turn t.turns
 
-  pub refused : {picks rest : List Actor} → IsUnderway old picks rest → t.turn ≡ turns.NoMemory → IsPlay new picks ends.NoMemory
-  refused {picks} {rest} u same =
-      let wanted : IsSome (lowest_of old) × (new ≡ old) = answered turns.NoMemory same in
-      let can = chain_next old.board (reverse old.log) in
-      let next : IsSome (choice_of old u.left) = ap (λ (o : Option (ChainEntry × List Actor)). is_some o) u.next
-      ∙ some_choice can (actors_of old.board) rest wanted.0 in
-      subst (λ (d : DemuxSeen). IsPlay d picks ends.NoMemory) (sym wanted.1) (u.left, u.made, next)
-
   -- where the step is the play's next one
   goes_on : {picks rest : List Actor} (after : List Actor) {e : ChainEntry} → IsUnderway old picks rest
-      → ((e : ChainEntry) → due ≡ Some e → choice_of old rest ≡ Some (e, after)) → t.turn ≡ turns.Moved e → IsUnderway new picks after
+      → ((e : ChainEntry) → due ≡ Some e → choice_of old rest ≡ Some (e, after)) → t.turn ≡ Ok (turns.Moved e) → IsUnderway new picks after
   goes_on {picks} {rest} after {e} u next same =
-      let goes : Goes old due e new = answered (turns.Moved e) same in
+      let goes : Goes old due e new = answered (Ok (turns.Moved e)) same in
       more old new due e picks rest after u goes (next e goes.is)
 
-  ends_full : {picks rest : List Actor} (after : List Actor) {line : LineNo} {len : ℕ} → IsUnderway old picks rest
-      → ((e : ChainEntry) → due ≡ Some e → choice_of old rest ≡ Some (e, after)) → t.turn ≡ turns.Full line len
-      → IsPlay new picks (ends.Full line len)
-  ends_full {picks} {rest} after {line} {len} u next same =
-      let full : IsFullFor old due line len × (new ≡ old) = answered (turns.Full line len) same in
-      subst (λ (d : DemuxSeen). IsPlay d picks (ends.Full line len)) (sym full.1) (is_full old picks rest after due line len u full.0 next)
+  stops : {picks rest : List Actor} (after : List Actor) {refused : StepRefused} → IsUnderway old picks rest
+      → ((e : ChainEntry) → due ≡ Some e → choice_of old rest ≡ Some (e, after)) → t.turn ≡ Err refused → IsPlay new picks (Err refused)
+  stops {picks} {rest} after {refused} u next same =
+      let was : IsRefused old due refused × (new ≡ old) = answered (Err refused) same in
+      subst (λ (d : DemuxSeen). IsPlay d picks (Err refused)) (sym was.1) (is_stopped old picks rest after due refused u was.0 next)
 
 -- ---- the pick at a place
 
@@ -173,21 +166,19 @@ module _ {old new : DemuxSeen} {picks : List Actor} {i : ℕ} (x : Actor) (withi
   abbrev after : List Actor
   after = drop (i + 1) picks
 
-  pub pick_done : ((line : LineNo) (len : ℕ) → t.turn ≡ turns.Full line len → ⊥) → (t.turn ≡ turns.NoMemory → ⊥) → IsUnderway new picks after
-  pick_done full none = by_turn t.turn refl
+  pub pick_done : {done : ChainTurn} → t.turn ≡ Ok done → IsUnderway new picks after
+  pick_done {done} is = by_turn done is
     where
-      by_turn : (turn : ChainTurn) → t.turn ≡ turn → IsUnderway new picks after
+      by_turn : (done : ChainTurn) → t.turn ≡ Ok done → IsUnderway new picks after
       by_turn (turns.Moved e) same = goes_on t after (at_pick old picks i x within u) (λ e due. with_step old pick after e due) same
       by_turn turns.NotYet same =
-          let rests : (next_of old pick ≡ None) × (new ≡ old) = answered t turns.NotYet same in
+          let rests : (next_of old pick ≡ None) × (new ≡ old) = answered t (Ok turns.NotYet) same in
           let v = at_pick old picks i x within u in
           subst (λ (d : DemuxSeen). IsUnderway d picks after) (sym rests.1)
           (record { left = v.left; made = v.made; next = v.next ∙ passed_over old pick after rests.0 })
-      by_turn (turns.Full line len) same = absurd (full line len same)
-      by_turn turns.NoMemory same = absurd (none same)
 
-  pub pick_full : {line : LineNo} {len : ℕ} → t.turn ≡ turns.Full line len → IsPlay new picks (ends.Full line len)
-  pick_full same = ends_full t after (at_pick old picks i x within u) (λ e due. with_step old pick after e due) same
+  pub pick_stops : {refused : StepRefused} → t.turn ≡ Err refused → IsPlay new picks (Err refused)
+  pick_stops same = stops t after (at_pick old picks i x within u) (λ e due. with_step old pick after e due) same
 
 -- ---- the lowest
 
@@ -195,17 +186,16 @@ pub lowest_next : (d : DemuxSeen) (e : ChainEntry) → lowest_of d ≡ Some e �
 lowest_next d e is = ap (λ (o : Option ChainEntry). with_left [] o) is
 
 module _ {old new : DemuxSeen} (t : Turned old new (lowest_of old)) where
-  pub lowest_moved : {picks : List Actor} {e : ChainEntry} → IsUnderway old picks [] → t.turn ≡ turns.Moved e → IsUnderway new picks []
+  pub lowest_moved : {picks : List Actor} {e : ChainEntry} → IsUnderway old picks [] → t.turn ≡ Ok (turns.Moved e) → IsUnderway new picks []
   lowest_moved u same = goes_on t [] u (lowest_next old) same
 
-  pub lowest_done : {picks : List Actor} → IsUnderway old picks [] → t.turn ≡ turns.NotYet → IsPlay new picks ends.Done
+  pub lowest_done : {picks : List Actor} → IsUnderway old picks [] → t.turn ≡ Ok turns.NotYet → IsPlay new picks (Ok tt)
   lowest_done {picks} u same =
-      let rests : (lowest_of old ≡ None) × (new ≡ old) = answered t turns.NotYet same in
-      subst (λ (d : DemuxSeen). IsPlay d picks ends.Done) (sym rests.1) (u.left, u.made, u.next ∙ ap (λ (o : Option ChainEntry). with_left [] o) rests.0)
+      let rests : (lowest_of old ≡ None) × (new ≡ old) = answered t (Ok turns.NotYet) same in
+      subst (λ (d : DemuxSeen). IsPlay d picks (Ok tt)) (sym rests.1) (u.left, u.made, u.next ∙ ap (λ (o : Option ChainEntry). with_left [] o) rests.0)
 
-  pub lowest_full : {picks : List Actor} {line : LineNo} {len : ℕ} → IsUnderway old picks [] → t.turn ≡ turns.Full line len
-      → IsPlay new picks (ends.Full line len)
-  lowest_full u same = ends_full t [] u (lowest_next old) same
+  pub lowest_stops : {picks : List Actor} {refused : StepRefused} → IsUnderway old picks [] → t.turn ≡ Err refused → IsPlay new picks (Err refused)
+  lowest_stops u same = stops t [] u (lowest_next old) same
 
 -- ---- it ends: an enter and an exit use up no room, but never follow one another at once
 
@@ -326,8 +316,8 @@ measure_falls old new due e legal a next goes =
         omega (arith, less, after, most)
 
 pub lowest_falls : {old new : DemuxSeen} (t : Turned old new (lowest_of old)) {e : ChainEntry} → IsChainLegal old.board (reverse old.log)
-    → t.turn ≡ turns.Moved e → measure new < measure old
+    → t.turn ≡ Ok (turns.Moved e) → measure new < measure old
 lowest_falls {old} {new} t {e} legal same =
-    let goes : Goes old (lowest_of old) e new = answered t (turns.Moved e) same in
+    let goes : Goes old (lowest_of old) e new = answered t (Ok (turns.Moved e)) same in
     let a = first_is_some (chain_next old.board (reverse old.log)) (actors_of old.board) e goes.is in
     measure_falls old new (lowest_of old) e legal a.0 a.1 goes

@@ -1,11 +1,12 @@
 -- Turns of a demultiplexer, and what comes next in an open chain, of what is seen of it.
-use Rattle.std.proofs.Common.{reverse}
+use Rattle.std.proofs.Common.{reverse, Result}
 use Rattle.std.proofs.Common.{◌≡◌, ℕ, ◌<◌, ◌≤◌, IsSome, IsTrue, Option, Some}
 use Rattle.std.proofs.Common.{None, List, length, slice_get, sym, subst}
 use Rattle.irq_base.specs.Cell.{Cell, after_high}
 use Rattle.irq_base.specs.declared.entries.Actor.{Actor}
 use Rattle.irq_base.specs.declared.entries.Actor.TheVariants as actors
 use Rattle.irq_base.specs.declared.numbers.LineNo.{LineNo}
+use Rattle.irq_line.specs.declared.answers.StepRefused.{StepRefused}
 use Rattle.board_def.specs.Rules.{IsBoard}
 use Rattle.board_play.specs.Kept.{AreKept}
 use Rattle.board_play.specs.Lines.{find_line}
@@ -40,18 +41,19 @@ module _ {s : SystemSeen} (t : SystemSeen) {ms : List Mark} {walk : Option Walk}
   its_lines = subst (λ (x : DemuxSeen). AreKept x.board (board_lines x.lines)) (sym v) kept
 
   -- what the actor's turn keeps, and what it says if this is its answer
-  abbrev pub Turned : Option Walk → Actor → Turn → Type 0
-  Turned after a turn = IsDemux t ms after now × ((answer : ChainTurn) → answer ≡ turn_of turn → TurnsBy view (next_of view a) answer (seen_of t ms now))
+  abbrev pub Turned : Option Walk → Actor → Result Turn StepRefused → Type 0
+  Turned after a turn = IsDemux t ms after now × ((answer : Result ChainTurn StepRefused) → answer ≡ turn_of turn
+      → TurnsBy view (next_of view a) answer (seen_of t ms now))
 
-  turned : (after : Option Walk) (a : Actor) (turn : Turn) → IsDemux t ms after now
+  turned : (after : Option Walk) (a : Actor) (turn : Result Turn StepRefused) → IsDemux t ms after now
       × TurnsBy (seen_of s ms parent) (next_of (seen_of s ms parent) a) (turn_of turn) (seen_of t ms now)
       → Turned after a turn
   turned after a turn h = (h.0, λ answer same. says (seen_of t ms now) a v same h.1)
 
-  pub other_turned : (a : Actor) (turn : Turn) → IsOther a → Turns s a turn t → Turned walk a turn
+  pub other_turned : (a : Actor) (turn : Result Turn StepRefused) → IsOther a → Turns s a turn t → Turned walk a turn
   other_turned a turn other by = turned walk a turn (other_turn t d shows its_board its_lines a turn other by)
 
-  pub flow_turned : (line : LineNo) (turn : Turn) → IsSome (open_status (reverse view.log))
+  pub flow_turned : (line : LineNo) (turn : Result Turn StepRefused) → IsSome (open_status (reverse view.log))
       → number_of (flow_line (board_lines view.lines) cpu_0) ≡ Some line
       → StepsBy s (due_on (find_line (board_lines s.lines) line) (actors.Cpu cpu_0)) turn t
       → Turned walk (actors.Cpu cpu_0) turn
@@ -60,7 +62,7 @@ module _ {s : SystemSeen} (t : SystemSeen) {ms : List Mark} {walk : Option Walk}
       (subst (λ (x : DemuxSeen). IsSome (open_status (reverse x.log))) (sym v) opens)
       (subst (λ (x : DemuxSeen). number_of (flow_line (board_lines x.lines) cpu_0) ≡ Some line) (sym v) number) by)
 
-  pub take_turned : (place : ℕ) (w after : Walk) (line : LineNo) (turn : Turn)
+  pub take_turned : (place : ℕ) (w after : Walk) (line : LineNo) (turn : Result Turn StepRefused)
       → IsWalkOf (board_lines view.lines) (reverse view.log) (Some w)
       → IsTrue (is_take_due cpu_0 (slice_get (board_lines view.lines) place))
       → next_of view (actors.Cpu cpu_0) ≡ child (due_on (slice_get (board_lines view.lines) place) (actors.Cpu cpu_0))

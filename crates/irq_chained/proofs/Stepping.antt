@@ -1,5 +1,5 @@
 -- One step of a demultiplexer: a move of a child, an enter, an exit.
-use Rattle.std.proofs.Common.{◌≡◌, ℕ, zero, suc, ◌+◌, ◌<◌, ◌≤◌, ◌==◌, Bool, true, false, ◌&&◌, ◌||◌, cond, is_some}
+use Rattle.std.proofs.Common.{◌≡◌, ℕ, zero, suc, ◌+◌, ◌<◌, ◌≤◌, ◌==◌, Bool, true, false, ◌&&◌, ◌||◌, cond, is_some, Result, Ok, Err}
 use Rattle.std.proofs.Common.{IsSome, IsSomeAnd, Option, Some, None, List, [], ◌∷◌, ◌++◌, map, length, reverse, slice_get, refl}
 use Rattle.std.proofs.Common.{sym, ap, ◌∙◌, subst, arith, eqb-true}
 use Rattle.std.proofs.lemmas.Bool.Decides.{nat_tests}
@@ -10,6 +10,8 @@ use Rattle.irq_base.specs.declared.entries.Actor.{Actor}
 use Rattle.irq_base.specs.declared.entries.Actor.TheVariants as actors
 use Rattle.irq_base.specs.declared.entries.Entry.{Entry}
 use Rattle.irq_base.specs.declared.numbers.LineNo.{LineNo}
+use Rattle.irq_line.specs.declared.answers.StepRefused.{StepRefused}
+use Rattle.irq_line.specs.declared.answers.StepRefused.TheVariants as refusals
 use Rattle.irq_model.specs.Kinds.{is_take, same_line}
 use Rattle.irq_steps.proofs.Same.{line_from_same, same_self_line}
 use Rattle.irq_laws.proofs.Chosen.{the_same}
@@ -72,8 +74,8 @@ within_0 s ms w = subst (λ (n : ℕ). AreWithin n ms) (zero_add (length s.log))
 -- ---- a move of a child
 
 -- what is kept of the chain that is open after the step
-abbrev pub WalkGoes : SystemSeen → List Mark → Turn → SystemSeen → Option Walk → Type 0
-WalkGoes s ms (moves.Moved line e) t after = IsWalkOf (board_lines t.lines) (steps.Child line e ∷ steps_of s ms) after
+abbrev pub WalkGoes : SystemSeen → List Mark → Result Turn StepRefused → SystemSeen → Option Walk → Type 0
+WalkGoes s ms (Ok (moves.Moved line e)) t after = IsWalkOf (board_lines t.lines) (steps.Child line e ∷ steps_of s ms) after
 WalkGoes s ms turn t after = IsWalkOf (board_lines s.lines) (steps_of s ms) after
 
 module _ {s : SystemSeen} (t : SystemSeen) {ms : List Mark} {walk : Option Walk} (after : Option Walk) {parent now : Cell}
@@ -171,14 +173,14 @@ module _ {s : SystemSeen} (t : SystemSeen) {ms : List Mark} {walk : Option Walk}
   }
 
   -- a step that was asked of the system
-  pub child_turn : (turn : Turn) → (turn ≡ moves.NoMemory → IsSome (lowest_of (seen_of s ms parent)))
+  pub child_turn : (turn : Result Turn StepRefused) → (turn ≡ Err refusals.NoMemory → IsSome (lowest_of (seen_of s ms parent)))
       → StepsBy s (due_on o a) turn t → WalkGoes s ms turn t after
       → IsDemux t ms after now × TurnsBy (seen_of s ms parent) (chain_next s.board g a) (turn_of turn)
       (seen_of t ms now)
-  child_turn (moves.Moved line e) wanted by walks = (child_kept line e by walks, child_goes line e by)
-  child_turn moves.NotYet wanted by walks = let n = same by.1 walks in (n.0, (next ∙ ap (λ (m : Option Move). child m) by.0, n.1))
-  child_turn (moves.Full line len) wanted by walks = let n = same by.1 walks in (n.0, (full line len by.0, n.1))
-  child_turn moves.NoMemory wanted by walks = let n = same by walks in (n.0, (wanted refl, n.1))
+  child_turn (Ok (moves.Moved line e)) wanted by walks = (child_kept line e by walks, child_goes line e by)
+  child_turn (Ok moves.NotYet) wanted by walks = let n = same by.1 walks in (n.0, (next ∙ ap (λ (m : Option Move). child m) by.0, n.1))
+  child_turn (Err (refusals.Full line len)) wanted by walks = let n = same by.1 walks in (n.0, (full line len by.0, n.1))
+  child_turn (Err refusals.NoMemory) wanted by walks = let n = same by walks in (n.0, (wanted refl, n.1))
 
 -- ---- an enter, and an exit
 

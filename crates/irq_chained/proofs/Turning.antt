@@ -1,5 +1,5 @@
 -- What the calls of a demultiplexer answer and leave.
-use Rattle.std.proofs.Common.{◌≡◌, ℕ, ◌<◌, ◌≤◌, ◌==◌, ◌++◌, Bool, true, false, ◌&&◌, cond, IsSome, IsTrue, is_some, Option, Some}
+use Rattle.std.proofs.Common.{◌≡◌, ℕ, ◌<◌, ◌≤◌, ◌==◌, ◌++◌, Bool, true, false, ◌&&◌, cond, IsSome, IsTrue, is_some, Option, Some, Result, Ok, Err}
 use Rattle.std.proofs.Common.{None, List, [], ◌∷◌, map, length, get_or, slice_get, refl, sym, ap, ◌∙◌, subst, arith}
 use Rattle.std.proofs.Common.{eqb-true}
 use Rattle.std.proofs.lemmas.Nat.Bits.{bit_at-zero}
@@ -11,6 +11,8 @@ use Rattle.irq_base.specs.declared.entries.Actor.TheVariants as actors
 use Rattle.irq_base.specs.declared.entries.Entry.{Entry}
 use Rattle.irq_base.specs.declared.lines.LineDef.{LineDef}
 use Rattle.irq_base.specs.declared.numbers.LineNo.{LineNo}
+use Rattle.irq_line.specs.declared.answers.StepRefused.{StepRefused}
+use Rattle.irq_line.specs.declared.answers.StepRefused.TheVariants as refusals
 use Rattle.irq_line.specs.Seen.{LineSeen}
 use Rattle.irq_model.specs.Kinds.{is_take}
 use Rattle.irq_model.specs.Next.{next_past}
@@ -29,9 +31,10 @@ use Rattle.board_ready.proofs.Lowest.{first_some}
 use Rattle.board_core.specs.Firsts.{is_take_due, number_of}
 use Rattle.board_core.specs.Places.{line_at}
 use Rattle.board_core.specs.Seen.{SystemSeen, board_line, board_lines}
+use Rattle.board_core.proofs.Hearing.{step_of_turn}
 use Rattle.board_core.proofs.Placed.{line_seen}
 use Rattle.board_core.specs.Turned.{StepsBy}
-use Rattle.board_core.specs.Turns.{Turns, move_of}
+use Rattle.board_core.specs.Turns.{Turns}
 use Rattle.board_core.specs.declared.turns.Turn.{Turn}
 use Rattle.board_core.specs.declared.turns.Turn.TheVariants as moves
 use Rattle.irq_chained.specs.Chain.{chain_next, child, cpu_0, first_left, in_chain, is_left, lines_in, of_cpu_0, open_status, or_exit, status_of, to_enter}
@@ -61,10 +64,10 @@ some_step : (seen : DemuxSeen) → IsBoard seen.board → (e : ChainEntry) → n
 some_step seen isb e is = some_of_0 seen isb (ap (λ (o : Option ChainEntry). is_some o) is)
 
 -- the same, said of what is seen
-pub says : {seen view : DemuxSeen} (new : DemuxSeen) (a : Actor) {turn answer : ChainTurn} → seen ≡ view → answer ≡ turn
+pub says : {seen view : DemuxSeen} (new : DemuxSeen) (a : Actor) {turn answer : Result ChainTurn StepRefused} → seen ≡ view → answer ≡ turn
     → TurnsBy seen (next_of seen a) turn new → TurnsBy view (next_of view a) answer new
 says {seen} {view} new a {turn} {answer} v same t = subst (λ (d : DemuxSeen). TurnsBy d (next_of d a) answer new) v
-    (subst (λ (x : ChainTurn). TurnsBy seen (next_of seen a) x new) (sym same) t)
+    (subst (λ (x : Result ChainTurn StepRefused). TurnsBy seen (next_of seen a) x new) (sym same) t)
 
 pub some_of : {A : Type 0} (o : Option A) → IsSome o → (x : A) × (o ≡ Some x)
 some_of None h = cc
@@ -80,34 +83,27 @@ module _ {s : SystemSeen} (t : SystemSeen) {ms : List Mark} {walk : Option Walk}
 
   -- ---- a step of a thread or a driver
 
-  pub other_turn : IsBoard s.board → AreKept s.board (board_lines s.lines) → (a : Actor) (turn : Turn) → IsOther a
+  pub other_turn : IsBoard s.board → AreKept s.board (board_lines s.lines) → (a : Actor) (turn : Result Turn StepRefused) → IsOther a
       → Turns s a turn t
       → IsDemux t ms walk now × TurnsBy seen (next_of seen a) (turn_of turn) (seen_of t ms now)
   other_turn isb kept a turn other by = child_turn t walk a (line_for s.board (board_lines s.lines) a) d
-      (other_next d a other) shows turn (wanted turn by) (steps_by turn by) (walks turn by)
+      (other_next d a other) shows turn (wanted turn by) (step_of_turn s t a turn by) (walks turn by)
     where
-      wanted : (turn : Turn) → Turns s a turn t → turn ≡ moves.NoMemory → IsSome (lowest_of seen)
+      wanted : (turn : Result Turn StepRefused) → Turns s a turn t → turn ≡ Err refusals.NoMemory → IsSome (lowest_of seen)
       wanted turn by is =
-          let w = subst (λ (x : Turn). Turns s a x t) is by in
+          let w = subst (λ (x : Result Turn StepRefused). Turns s a x t) is by in
           somebody d isb kept w.0.somebody
 
-      steps_by : (turn : Turn) → Turns s a turn t → StepsBy s (move_of s a) turn t
-      steps_by (moves.Moved line e) by = by
-      steps_by moves.NotYet by = by
-      steps_by (moves.Full line len) by = by
-      steps_by moves.NoMemory by = by.1
-
-      walks : (turn : Turn) → Turns s a turn t → WalkGoes s ms turn t walk
-      walks (moves.Moved line e) by =
+      walks : (turn : Result Turn StepRefused) → Turns s a turn t → WalkGoes s ms turn t walk
+      walks (Ok (moves.Moved line e)) by =
           let own = due_own (line_for s.board (board_lines s.lines) a) a (line, e) by.is in
           walk_stays (board_lines s.lines) (board_lines t.lines) g (line, e) walk by.lines (other_is_no_take e a own other) d.walks
-      walks moves.NotYet by = d.walks
-      walks (moves.Full line len) by = d.walks
-      walks moves.NoMemory by = d.walks
+      walks (Ok moves.NotYet) by = d.walks
+      walks (Err refused) by = d.walks
 
   -- ---- a further step of a flow
 
-  pub flow_turn : IsBoard s.board → AreKept s.board (board_lines s.lines) → (line : LineNo) (turn : Turn)
+  pub flow_turn : IsBoard s.board → AreKept s.board (board_lines s.lines) → (line : LineNo) (turn : Result Turn StepRefused)
       → IsSome (open_status g) → number_of (flow_line (board_lines s.lines) cpu_0) ≡ Some line
       → StepsBy s (due_on (find_line (board_lines s.lines) line) (actors.Cpu cpu_0)) turn t
       → IsDemux t ms walk now × TurnsBy seen (next_of seen (actors.Cpu cpu_0)) (turn_of turn) (seen_of t ms now)
@@ -136,20 +132,19 @@ module _ {s : SystemSeen} (t : SystemSeen) {ms : List Mark} {walk : Option Walk}
           (walks x (flow_line_on lines cpu_0 x is) found turn by)
         where
           walks : (x : BoardLine) → is_cpu cpu_0 (flow x.def x.past) ≡ true → find_line lines line ≡ Some x
-              → (turn : Turn) → StepsBy s (due_on (find_line lines line) (actors.Cpu cpu_0)) turn t
+              → (turn : Result Turn StepRefused) → StepsBy s (due_on (find_line lines line) (actors.Cpu cpu_0)) turn t
               → WalkGoes s ms turn t walk
-          walks x on found (moves.Moved l e) by =
+          walks x on found (Ok (moves.Moved l e)) by =
               walk_stays lines (board_lines t.lines) g (l, e) walk by.lines
               (in_flow_is_no_take x cpu_0 (l, e) on
               (ap (λ (o : Option BoardLine). due_on o (actors.Cpu cpu_0)) (sym found) ∙ by.is)) d.walks
-          walks x on found moves.NotYet by = d.walks
-          walks x on found (moves.Full l len) by = d.walks
-          walks x on found moves.NoMemory by = d.walks
+          walks x on found (Ok moves.NotYet) by = d.walks
+          walks x on found (Err refused) by = d.walks
 
   -- ---- a take
 
   pub take_turn : IsBoard s.board → AreKept s.board (board_lines s.lines) → length (board_lines s.lines) ≤ 32
-      → (place : ℕ) (w after : Walk) (line : LineNo) (turn : Turn) → IsWalkOf (board_lines s.lines) g (Some w)
+      → (place : ℕ) (w after : Walk) (line : LineNo) (turn : Result Turn StepRefused) → IsWalkOf (board_lines s.lines) g (Some w)
       → IsTrue (is_take_due cpu_0 (slice_get (board_lines s.lines) place))
       → chain_next s.board g (actors.Cpu cpu_0) ≡ child
       (due_on (slice_get (board_lines s.lines) place) (actors.Cpu cpu_0))
@@ -163,9 +158,9 @@ module _ {s : SystemSeen} (t : SystemSeen) {ms : List Mark} {walk : Option Walk}
       lines = board_lines s.lines
 
       walks : (y : BoardLine) → slice_get lines place ≡ Some y → y.def.line ≡ line
-          → find_line lines line ≡ slice_get lines place → (turn : Turn) → IsWalkAfter w place turn after
+          → find_line lines line ≡ slice_get lines place → (turn : Result Turn StepRefused) → IsWalkAfter w place turn after
           → StepsBy s (due_on (find_line lines line) (actors.Cpu cpu_0)) turn t → WalkGoes s ms turn t (Some after)
-      walks y at its found (moves.Moved l e) taken by =
+      walks y at its found (Ok (moves.Moved l e)) taken by =
           let m = take_is_due (slice_get lines place) due in
           let same : m.0 ≡ (l, e) = the_same m.0 (l, e) (sym m.1 ∙ (ap (λ (o : Option BoardLine). due_on o (actors.Cpu cpu_0)) (sym found) ∙ by.is)) in
           let takes : is_take e ≡ true = subst (λ (n : Move). is_take n.1 ≡ true) same m.2 in
@@ -178,9 +173,8 @@ module _ {s : SystemSeen} (t : SystemSeen) {ms : List Mark} {walk : Option Walk}
               by_entry : (o : Option Entry) → move_on y.def.line o ≡ Some m → y.def.line ≡ m.0
               by_entry None is = cc
               by_entry (Some e) is = ap (λ (n : Move). n.0) (the_same (y.def.line, e) m is)
-      walks y at its found moves.NotYet taken by = subst (λ (v : Walk). IsWalkOf lines g (Some v)) (sym taken) walks_w
-      walks y at its found (moves.Full l len) taken by = subst (λ (v : Walk). IsWalkOf lines g (Some v)) (sym taken) walks_w
-      walks y at its found moves.NoMemory taken by = subst (λ (v : Walk). IsWalkOf lines g (Some v)) (sym taken) walks_w
+      walks y at its found (Ok moves.NotYet) taken by = subst (λ (v : Walk). IsWalkOf lines g (Some v)) (sym taken) walks_w
+      walks y at its found (Err refused) taken by = subst (λ (v : Walk). IsWalkOf lines g (Some v)) (sym taken) walks_w
 
       by_line : (o : Option BoardLine) → slice_get lines place ≡ o → number_of o ≡ Some line
           → IsDemux t ms (Some after) now × TurnsBy seen (next_of seen (actors.Cpu cpu_0)) (turn_of turn)

@@ -1,5 +1,6 @@
 -- For which step of a demultiplexer memory was refused.
-use Rattle.std.proofs.Common.{◌≡◌, ℕ, ◌<◌, IsSome, IsTrue, is_some, Option, Some, None, List, [], ◌∷◌, length, reverse, slice_get, drop, get_or}
+use Rattle.std.proofs.Common.{◌≡◌, ℕ, ◌<◌, IsSome, IsTrue, is_some, Option, Some, None, List, [], ◌∷◌, length, reverse}
+use Rattle.std.proofs.Common.{slice_get, drop, get_or, Result, Ok, Err}
 use Rattle.std.proofs.Common.{refl, sym, ap, ◌∙◌, subst, ◌+◌}
 use Rattle.std.proofs.lemmas.List.{length-reverse}
 use Rattle.irq_base.specs.Cell.{Cell}
@@ -7,6 +8,8 @@ use Rattle.irq_base.specs.declared.entries.Actor.{Actor}
 use Rattle.irq_base.specs.declared.entries.Actor.TheVariants as actors
 use Rattle.irq_base.specs.declared.entries.Entry.{Entry}
 use Rattle.irq_base.specs.declared.numbers.LineNo.{LineNo}
+use Rattle.irq_line.specs.declared.answers.StepRefused.{StepRefused}
+use Rattle.irq_line.specs.declared.answers.StepRefused.TheVariants as refusals
 use Rattle.irq_laws.proofs.Chosen.{the_same}
 use Rattle.board_def.specs.Rules.{IsBoard}
 use Rattle.board_play.specs.Kept.{AreKept}
@@ -24,11 +27,10 @@ use Rattle.board_core.specs.declared.turns.Turn.TheVariants as moves
 use Rattle.irq_chained.specs.Chain.{chain_next, child, children, cpu_0, first_left, lines_in, of_cpu_0, in_chain, open_status, or_step}
 use Rattle.irq_chained.specs.Seen.{DemuxSeen, IsDemux, seen_of}
 use Rattle.irq_chained.specs.Turned.{IsOther, IsUnderway, lowest_driver_of, lowest_of, next_of, turn_of}
-use Rattle.irq_chained.specs.Wanted.{DueWants, Wants, WantsDue, WantsFor, WantsNext, WantsStep, child_for, line_in_chain}
+use Rattle.irq_chained.specs.Wanted.{DueWants, PlayWants, Wants, WantsDue, WantsFor, WantsNext, WantsStep, child_for, line_in_chain}
 use Rattle.irq_chained.specs.Walk.{mark_of}
 use Rattle.irq_chained.specs.declared.chain.ChainEntry.{ChainEntry}
 use Rattle.irq_chained.specs.declared.chain.ChainTurn.{ChainTurn}
-use Rattle.irq_chained.specs.declared.chain.ChainTurn.TheVariants as turns
 use Rattle.irq_chained.specs.declared.marks.Mark.{Mark}
 use Rattle.irq_chained.specs.declared.marks.Marked.{Marked}
 use Rattle.irq_chained.specs.declared.marks.Marked.TheVariants as marks
@@ -56,7 +58,7 @@ some_child (Some m) some = some
 module _ (may_want : Option Entry → Type 0) where
   -- the mark of an enter or an exit
   pub mark_wants : (view : DemuxSeen) (what : Marked) → next_of view (actors.Cpu cpu_0) ≡ Some (mark_of what)
-      → Wants may_want view (actors.Cpu cpu_0) turns.NoMemory
+      → Wants may_want view (actors.Cpu cpu_0) (Err refusals.NoMemory)
   mark_wants view what next = record {
     can = ap (λ (o : Option ChainEntry). is_some o) next;
     step = subst (λ (o : Option ChainEntry). WantsFor o (WantedMemory may_want (HasSpare view.lines) (length (children (reverse view.log)))
@@ -74,13 +76,14 @@ module _ (may_want : Option Entry → Type 0) where
     as_moves on a wanted = subst (λ (n : ℕ). WantedMemory may_want (HasSpare s.lines) n on a)
         (sym (ap (λ (l : List Move). length l) d.moves ∙ length-reverse s.log)) wanted
 
-    told : (a : Actor) (turn : Turn) (answer : ChainTurn) → answer ≡ turn_of turn → Wants may_want (seen_of s ms parent) a (turn_of turn)
+    told : (a : Actor) (turn : Result Turn StepRefused) (answer : Result ChainTurn StepRefused) → answer ≡ turn_of turn
+        → Wants may_want (seen_of s ms parent) a (turn_of turn)
         → Wants may_want view a answer
     told a turn answer same wants = subst (λ (x : DemuxSeen). Wants may_want x a answer) v
-        (subst (λ (t : ChainTurn). Wants may_want (seen_of s ms parent) a t) (sym same) wants)
+        (subst (λ (t : Result ChainTurn StepRefused). Wants may_want (seen_of s ms parent) a t) (sym same) wants)
 
     -- a thread or a driver
-    pub other_wants : (t : SystemSeen) (a : Actor) (turn : Turn) (answer : ChainTurn) → answer ≡ turn_of turn → IsOther a
+    pub other_wants : (t : SystemSeen) (a : Actor) (turn : Result Turn StepRefused) (answer : Result ChainTurn StepRefused) → answer ≡ turn_of turn → IsOther a
         → Turns s a turn t → SystemWants may_want s a turn → Wants may_want view a answer
     other_wants t a turn answer same other by wants = told a turn answer same (by_turn turn by wants)
       where
@@ -91,27 +94,28 @@ module _ (may_want : Option Entry → Type 0) where
         by_actor (actors.Cpu c) other can wanted = absurd other
         by_actor (actors.Driver r) other can wanted = record { can = can; step = wants_child _ wanted }
 
-        by_turn : (turn : Turn) → Turns s a turn t → SystemWants may_want s a turn → Wants may_want (seen_of s ms parent) a (turn_of turn)
-        by_turn (moves.Moved line e) by wants = tt
-        by_turn moves.NotYet by wants = tt
-        by_turn (moves.Full line len) by wants = tt
-        by_turn moves.NoMemory by wants =
+        by_turn : (turn : Result Turn StepRefused) → Turns s a turn t → SystemWants may_want s a turn → Wants may_want (seen_of s ms parent) a (turn_of turn)
+        by_turn (Ok (moves.Moved line e)) by wants = tt
+        by_turn (Ok moves.NotYet) by wants = tt
+        by_turn (Err (refusals.Full line len)) by wants = tt
+        by_turn (Err refusals.NoMemory) by wants =
             by_actor a other (subst (λ (ls : List BoardLine). CanMove s.board ls a) (sym (lines_are d)) by.0.actor)
             (subst (λ (ls : List BoardLine). WantedMemory may_want (HasSpare s.lines) (length (children g)) (line_for s.board ls a) a)
             (sym (lines_are d)) (as_moves (line_for s.board (board_lines s.lines) a) a wants))
 
     -- processor 0, on a child
     cpu_0_wants : (on : Option BoardLine) → chain_next s.board g (actors.Cpu cpu_0) ≡ child (due_on on (actors.Cpu cpu_0))
-        → IsSome (due_on on (actors.Cpu cpu_0)) → child_for s.board g (actors.Cpu cpu_0) ≡ on → (turn : Turn) (answer : ChainTurn)
+        → IsSome (due_on on (actors.Cpu cpu_0)) → child_for s.board g (actors.Cpu cpu_0) ≡ on
+        → (turn : Result Turn StepRefused) (answer : Result ChainTurn StepRefused)
         → answer ≡ turn_of turn → WantsOn may_want s on (actors.Cpu cpu_0) turn → Wants may_want view (actors.Cpu cpu_0) answer
     cpu_0_wants on next some its turn answer same wants = told (actors.Cpu cpu_0) turn answer same (by_turn turn wants)
       where
-        by_turn : (turn : Turn) → WantsOn may_want s on (actors.Cpu cpu_0) turn
+        by_turn : (turn : Result Turn StepRefused) → WantsOn may_want s on (actors.Cpu cpu_0) turn
             → Wants may_want (seen_of s ms parent) (actors.Cpu cpu_0) (turn_of turn)
-        by_turn (moves.Moved line e) wants = tt
-        by_turn moves.NotYet wants = tt
-        by_turn (moves.Full line len) wants = tt
-        by_turn moves.NoMemory wants =
+        by_turn (Ok (moves.Moved line e)) wants = tt
+        by_turn (Ok moves.NotYet) wants = tt
+        by_turn (Err (refusals.Full line len)) wants = tt
+        by_turn (Err refusals.NoMemory) wants =
             let C = WantedMemory may_want (HasSpare s.lines) (length (children g)) (child_for s.board g (actors.Cpu cpu_0)) (actors.Cpu cpu_0) in
             record {
               can = subst (λ (o : Option ChainEntry). IsSome o) (sym next) (some_child (due_on on (actors.Cpu cpu_0)) some);
@@ -129,7 +133,7 @@ module _ (may_want : Option Entry → Type 0) where
       its_lines = subst (λ (x : DemuxSeen). AreKept x.board (board_lines x.lines)) (sym v) kept
 
       -- on the child that has its flow
-      pub flow_wants : (line : LineNo) (turn : Turn) (answer : ChainTurn) → answer ≡ turn_of turn
+      pub flow_wants : (line : LineNo) (turn : Result Turn StepRefused) (answer : Result ChainTurn StepRefused) → answer ≡ turn_of turn
           → IsSome (open_status (reverse view.log)) → number_of (flow_line (board_lines view.lines) cpu_0) ≡ Some line
           → WantsOn may_want s (find_line (board_lines s.lines) line) (actors.Cpu cpu_0) turn → Wants may_want view (actors.Cpu cpu_0) answer
       flow_wants line turn answer same opens number wants =
@@ -157,7 +161,7 @@ module _ (may_want : Option Entry → Type 0) where
               its turn answer same (subst (λ (o : Option BoardLine). WantsOn may_want s o (actors.Cpu cpu_0) turn) found wants)
 
       -- on the child that is taken
-      pub take_wants : (place : ℕ) (line : LineNo) (turn : Turn) (answer : ChainTurn) → answer ≡ turn_of turn
+      pub take_wants : (place : ℕ) (line : LineNo) (turn : Result Turn StepRefused) (answer : Result ChainTurn StepRefused) → answer ≡ turn_of turn
           → IsTrue (is_take_due cpu_0 (slice_get (board_lines view.lines) place))
           → next_of view (actors.Cpu cpu_0) ≡ child (due_on (slice_get (board_lines view.lines) place) (actors.Cpu cpu_0))
           → child_for view.board (reverse view.log) (actors.Cpu cpu_0) ≡ slice_get (board_lines view.lines) place
@@ -186,17 +190,17 @@ module _ (may_want : Option Entry → Type 0) where
 
   -- ---- the lowest actor that has a step
 
-  pub due_wants : (d : DemuxSeen) (due : Option ChainEntry) (a : Actor) (turn : ChainTurn) → due ≡ next_of d a → Wants may_want d a turn
+  pub due_wants : (d : DemuxSeen) (due : Option ChainEntry) (a : Actor) (turn : Result ChainTurn StepRefused) → due ≡ next_of d a → Wants may_want d a turn
       → DueWants may_want d due turn
-  due_wants d due a (turns.Moved e) its wants = tt
-  due_wants d due a turns.NotYet its wants = tt
-  due_wants d due a (turns.Full line len) its wants = tt
-  due_wants d due a turns.NoMemory its wants = record { actor = a; its = its; step = wants }
+  due_wants d due a (Ok done) its wants = tt
+  due_wants d due a (Err (refusals.Full line len)) its wants = tt
+  due_wants d due a (Err refusals.NoMemory) its wants = record { actor = a; its = its; step = wants }
 
   -- that of processor 0, if it has one
-  pub cpu_0_lowest : (d : DemuxSeen) → lowest_of d ≡ or_step (next_of d (actors.Cpu cpu_0)) (lowest_driver_of d)
-      → Wants may_want d (actors.Cpu cpu_0) turns.NoMemory → DueWants may_want d (lowest_of d) turns.NoMemory
-  cpu_0_lowest d is wants =
+  pub cpu_0_lowest : (d : DemuxSeen) (refused : StepRefused) → lowest_of d ≡ or_step (next_of d (actors.Cpu cpu_0)) (lowest_driver_of d)
+      → Wants may_want d (actors.Cpu cpu_0) (Err refused) → DueWants may_want d (lowest_of d) (Err refused)
+  cpu_0_lowest d (refusals.Full line len) is wants = tt
+  cpu_0_lowest d refusals.NoMemory is wants =
       let e = some_of (next_of d (actors.Cpu cpu_0)) wants.can in
       record {
         actor = actors.Cpu cpu_0;
@@ -205,7 +209,8 @@ module _ (may_want : Option Entry → Type 0) where
       }
 
   -- that of the lowest driver, where nobody before it has one
-  pub driver_lowest : (old same : DemuxSeen) (turn : ChainTurn) → lowest_of old ≡ or_step (next_of old (actors.Cpu cpu_0)) (lowest_driver_of old)
+  pub driver_lowest : (old same : DemuxSeen) (turn : Result ChainTurn StepRefused)
+      → lowest_of old ≡ or_step (next_of old (actors.Cpu cpu_0)) (lowest_driver_of old)
       → next_of old (actors.Cpu cpu_0) ≡ None → same ≡ old → DueWants may_want same (lowest_driver_of same) turn
       → DueWants may_want old (lowest_of old) turn
   driver_lowest old same turn is none still wants =
@@ -232,19 +237,27 @@ module _ (may_want : Option Entry → Type 0) where
 
   -- the lowest actor's turn ends a play
   pub lowest_ends : {old new : DemuxSeen} (t : Turned old new (lowest_of old)) {picks : List Actor} → IsUnderway old picks []
-      → t.turn ≡ turns.NoMemory → DueWants may_want old (lowest_of old) t.turn → WantsNext may_want (HasSpare new.lines) new.board picks new.log
-  lowest_ends {old} {new} t {picks} u same wants =
-      let by : IsSome (lowest_of old) × (new ≡ old) = answered t turns.NoMemory same in
-      let low : WantsDue may_want old (lowest_of old) = subst (λ (x : ChainTurn). DueWants may_want old (lowest_of old) x) same wants in
-      ends old new picks [] u by.0 by.1 low.actor (λ e due. ([], lowest_next old e (low.its ∙ due))) low.step
+      → {refused : StepRefused} → t.turn ≡ Err refused → DueWants may_want old (lowest_of old) t.turn → PlayWants may_want new picks (Err refused)
+  lowest_ends {old} {new} t {picks} u {refused} is wants = by_refusal refused is
+    where
+      by_refusal : (refused : StepRefused) → t.turn ≡ Err refused → PlayWants may_want new picks (Err refused)
+      by_refusal (refusals.Full line len) same = tt
+      by_refusal refusals.NoMemory same =
+          let by : IsSome (lowest_of old) × (new ≡ old) = answered t (Err refusals.NoMemory) same in
+          let low : WantsDue may_want old (lowest_of old) = subst (λ (x : Result ChainTurn StepRefused). DueWants may_want old (lowest_of old) x) same wants in
+          ends old new picks [] u by.0 by.1 low.actor (λ e due. ([], lowest_next old e (low.its ∙ due))) low.step
 
   -- a pick's turn ends a play
   pub pick_ends : {old new : DemuxSeen} {picks : List Actor} {i : ℕ} (x : Actor) → i < length picks → IsUnderway old picks (drop i picks)
-      → (t : Turned old new (next_of old (get_or picks i x))) → t.turn ≡ turns.NoMemory → Wants may_want old (get_or picks i x) t.turn
-      → WantsNext may_want (HasSpare new.lines) new.board picks new.log
-  pick_ends {old} {new} {picks} {i} x within u t same wants =
-      let pick = get_or picks i x in
-      let after = drop (i + 1) picks in
-      let by : IsSome (lowest_of old) × (new ≡ old) = answered t turns.NoMemory same in
-      ends old new picks (pick ∷ after) (at_pick old picks i x within u) by.0 by.1 pick (λ e due. (after, with_step old pick after e due))
-      (subst (λ (y : ChainTurn). Wants may_want old pick y) same wants)
+      → (t : Turned old new (next_of old (get_or picks i x))) → {refused : StepRefused} → t.turn ≡ Err refused
+      → Wants may_want old (get_or picks i x) t.turn → PlayWants may_want new picks (Err refused)
+  pick_ends {old} {new} {picks} {i} x within u t {refused} is wants = by_refusal refused is
+    where
+      by_refusal : (refused : StepRefused) → t.turn ≡ Err refused → PlayWants may_want new picks (Err refused)
+      by_refusal (refusals.Full line len) same = tt
+      by_refusal refusals.NoMemory same =
+          let pick = get_or picks i x in
+          let after = drop (i + 1) picks in
+          let by : IsSome (lowest_of old) × (new ≡ old) = answered t (Err refusals.NoMemory) same in
+          ends old new picks (pick ∷ after) (at_pick old picks i x within u) by.0 by.1 pick (λ e due. (after, with_step old pick after e due))
+          (subst (λ (y : Result ChainTurn StepRefused). Wants may_want old pick y) same wants)

@@ -1,6 +1,7 @@
 -- The runs of handlers that the steps of a demultiplexer ended. Only a child's entry ends one.
-use Rattle.std.specs.Prelude.{List, [], reverse}
+use Rattle.std.specs.Prelude.{List, [], reverse, Result, Ok}
 use Rattle.irq_base.specs.declared.devices.Run.{Run}
+use Rattle.irq_line.specs.declared.answers.StepRefused.{StepRefused}
 use Rattle.board_core.specs.Runs.{runs_by_move, runs_of}
 use Rattle.irq_chained.specs.Chain.{children}
 use Rattle.irq_chained.specs.Seen.{DemuxSeen}
@@ -10,8 +11,8 @@ use Rattle.irq_chained.specs.declared.chain.ChainTurn.{ChainTurn}
 use Rattle.irq_chained.specs.declared.chain.ChainTurn.TheVariants as turns
 
 -- the run that the turn ended: that of the child's entry, if it made one
-abbrev pub runs_by_turn : DemuxSeen → ChainTurn → List Run
-runs_by_turn old (turns.Moved (steps.Child line entry)) =
+abbrev pub runs_by_turn : DemuxSeen → Result ChainTurn StepRefused → List Run
+runs_by_turn old (Ok (turns.Moved (steps.Child line entry))) =
     runs_by_move (lines_now old) (line, entry)
 runs_by_turn old _ = []
 

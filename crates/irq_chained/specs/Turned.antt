@@ -1,16 +1,16 @@
 -- What a turn of a demultiplexer comes to, and a play.
 use Rattle.std.specs.Prelude.{◌≡◌, ◌<◌, ℕ, IfSome, IsSome, IsSomeAnd, Option, Some, None, List}
-use Rattle.std.specs.Prelude.{[], ◌∷◌, ◌++◌, length, reverse}
+use Rattle.std.specs.Prelude.{[], ◌∷◌, ◌++◌, length, reverse, Result, Ok, Err}
 use Rattle.irq_base.specs.declared.entries.Actor.{Actor}
 use Rattle.irq_base.specs.declared.entries.Actor.TheVariants as actors
 use Rattle.irq_base.specs.declared.numbers.LineNo.{LineNo}
+use Rattle.irq_line.specs.declared.answers.StepRefused.{StepRefused}
+use Rattle.irq_line.specs.declared.answers.StepRefused.TheVariants as refusals
 use Rattle.board_play.specs.Lines.{BoardLine, Move, find_line, part}
 use Rattle.board_play.specs.Order.{actors_of, drivers_of}
 use Rattle.board_play.specs.Play.{Done, Full}
 use Rattle.board_core.specs.declared.turns.Turn.{Turn}
 use Rattle.board_core.specs.declared.turns.Turn.TheVariants as moves
-use Rattle.board_core.specs.declared.turns.PlayEnd.{PlayEnd}
-use Rattle.board_core.specs.declared.turns.PlayEnd.TheVariants as ends
 use Rattle.play_orders.specs.Orders.{IsMade, IsPlayed}
 use Rattle.irq_chained.specs.Chain.{chain_next, chain_order, children, first_step, lines_in, told}
 use Rattle.irq_chained.specs.Seen.{DemuxSeen}
@@ -60,13 +60,18 @@ lowest_of d = first_step (chain_next d.board (reverse d.log)) (actors_of d.board
 abbrev pub lowest_driver_of : DemuxSeen → Option ChainEntry
 lowest_driver_of d = first_step (chain_next d.board (reverse d.log)) (drivers_of d.board)
 
--- what a turn answers and leaves; `due` is the step to be made, if there is one; memory is needed
+-- the step that is due wasn't made: its child's history is full, or memory was needed, which it is
 -- only while somebody has a step
-abbrev pub TurnsBy : DemuxSeen → Option ChainEntry → ChainTurn → DemuxSeen → Type 0
-TurnsBy old due (turns.Moved e) new = Goes old due e new
-TurnsBy old due turns.NotYet new = (due ≡ None) × (new ≡ old)
-TurnsBy old due (turns.Full line len) new = IsFullFor old due line len × (new ≡ old)
-TurnsBy old due turns.NoMemory new = IsSome (lowest_of old) × (new ≡ old)
+abbrev pub IsRefused : DemuxSeen → Option ChainEntry → StepRefused → Type 0
+IsRefused d due (refusals.Full line len) = IsFullFor d due line len
+IsRefused d due refusals.NoMemory = IsSome (lowest_of d)
+
+-- what a turn answers and leaves; `due` is the step to be made, if there is one
+abbrev pub TurnsBy : DemuxSeen → Option ChainEntry → Result ChainTurn StepRefused → DemuxSeen
+    → Type 0
+TurnsBy old due (Ok (turns.Moved e)) new = Goes old due e new
+TurnsBy old due (Ok turns.NotYet) new = (due ≡ None) × (new ≡ old)
+TurnsBy old due (Err refused) new = IsRefused old due refused × (new ≡ old)
 
 -- a thread, or a driver
 abbrev pub IsOther : Actor → Type 0
@@ -75,11 +80,10 @@ IsOther (actors.Cpu c) = ⊥
 IsOther (actors.Driver r) = Unit {0}
 
 -- the answer, by what the system answered of the children
-abbrev pub turn_of : Turn → ChainTurn
-turn_of (moves.Moved line entry) = turns.Moved (steps.Child line entry)
-turn_of moves.NotYet = turns.NotYet
-turn_of (moves.Full line len) = turns.Full line len
-turn_of moves.NoMemory = turns.NoMemory
+abbrev pub turn_of : Result Turn StepRefused → Result ChainTurn StepRefused
+turn_of (Ok (moves.Moved line entry)) = Ok (turns.Moved (steps.Child line entry))
+turn_of (Ok moves.NotYet) = Ok turns.NotYet
+turn_of (Err refused) = Err refused
 
 -- each step so far was the next one; `rest` are the picks that are left, perhaps without some that
 -- have no step
@@ -91,11 +95,11 @@ pub record IsUnderway (d : DemuxSeen) (picks rest : List Actor) : Type 0 where
 
 -- The log is the play of the board by the chain's order, done or full as was answered; a full one
 -- says the length. If memory was refused it is the play so far, and a further step is due.
-abbrev pub IsPlay : DemuxSeen → List Actor → PlayEnd → Type 0
-IsPlay d picks ends.Done = IsPlayed (chain_order d.board) picks (reverse d.log) Done
-IsPlay d picks (ends.Full line len) =
+abbrev pub IsPlay : DemuxSeen → List Actor → Result Unit StepRefused → Type 0
+IsPlay d picks (Ok _) = IsPlayed (chain_order d.board) picks (reverse d.log) Done
+IsPlay d picks (Err (refusals.Full line len)) =
     IsPlayed (chain_order d.board) picks (reverse d.log) (Full line)
     × (length (part line (children (reverse d.log))) ≡ len)
-IsPlay d picks ends.NoMemory =
+IsPlay d picks (Err refusals.NoMemory) =
     (left : List Actor) × IsMade (chain_order d.board) picks (reverse d.log) left
     × IsSome ((chain_order d.board).next (reverse d.log) left)

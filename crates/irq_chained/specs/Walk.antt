@@ -1,8 +1,9 @@
 -- The log of a demultiplexer: the moves of the children, which its system keeps, and the places
 -- among them at which enters and exits stand. The oldest comes first here.
-use Rattle.std.specs.Prelude.{◌≡◌, ℕ, ◌+◌, ◌-◌, ◌<◌, ◌≤◌, ◌==◌, Bool, true, not, ◌&&◌}
+use Rattle.std.specs.Prelude.{◌≡◌, ℕ, ◌+◌, ◌-◌, ◌<◌, ◌≤◌, ◌==◌, Bool, true, not, ◌&&◌, Result, Ok}
 use Rattle.std.specs.Prelude.{if◌then◌else◌, nat_le, List, [], ◌∷◌, ◌++◌, All, Option, Some, None}
 use Rattle.std.specs.Prelude.{drop, length, map, slice_get, take}
+use Rattle.irq_line.specs.declared.answers.StepRefused.{StepRefused}
 use Rattle.board_play.specs.Lines.{BoardLine, Move}
 use Rattle.board_ready.specs.Sets.{has}
 use Rattle.board_core.specs.declared.turns.Turn.{Turn}
@@ -56,8 +57,8 @@ pub record IsWithTaken (old : Walk) (place : ℕ) (new : Walk) : Type 0 where
       → has new.taken k ≡ (if k == place then true else has old.taken k)
 
 -- the child at this place was taken if the turn made its step
-abbrev pub IsWalkAfter : Walk → ℕ → Turn → Walk → Type 0
-IsWalkAfter old place (moves.Moved line entry) new = IsWithTaken old place new
+abbrev pub IsWalkAfter : Walk → ℕ → Result Turn StepRefused → Walk → Type 0
+IsWalkAfter old place (Ok (moves.Moved line entry)) new = IsWithTaken old place new
 IsWalkAfter old place turn new = new ≡ old
 
 -- what is kept of an open chain is its status, and which children were taken since its enter

@@ -1,16 +1,17 @@
 -- For which step of a demultiplexer memory was refused.
-use Rattle.std.specs.Prelude.{◌≡◌, ℕ, IsSome, Option, Some, None, List, length, reverse}
+use Rattle.std.specs.Prelude.{◌≡◌, ℕ, IsSome, Option, Some, None, Result, Err, List, length}
+use Rattle.std.specs.Prelude.{reverse}
 use Rattle.irq_base.specs.declared.entries.Actor.{Actor}
 use Rattle.irq_base.specs.declared.entries.Actor.TheVariants as actors
 use Rattle.irq_base.specs.declared.entries.Entry.{Entry}
 use Rattle.irq_base.specs.declared.numbers.LineNo.{LineNo}
+use Rattle.irq_line.specs.declared.answers.StepRefused.{StepRefused}
+use Rattle.irq_line.specs.declared.answers.StepRefused.TheVariants as refusals
 use Rattle.board_def.specs.Seen.{BoardSeen}
 use Rattle.board_play.specs.Lines.{BoardLine}
 use Rattle.board_play.specs.Order.{flow_line, line_for, or_line}
 use Rattle.board_core.specs.Turns.{CanMove}
 use Rattle.board_core.specs.Wanted.{HasSpare, WantedMemory}
-use Rattle.board_core.specs.declared.turns.PlayEnd.{PlayEnd}
-use Rattle.board_core.specs.declared.turns.PlayEnd.TheVariants as ends
 use Rattle.play_orders.specs.Orders.{IsMade}
 use Rattle.irq_chained.specs.Chain.{chain_next, chain_order, children, cpu_0, first_left}
 use Rattle.irq_chained.specs.Chain.{lines_in, open_status}
@@ -19,7 +20,6 @@ use Rattle.irq_chained.specs.Turned.{next_of}
 use Rattle.irq_chained.specs.declared.chain.ChainEntry.{ChainEntry}
 use Rattle.irq_chained.specs.declared.chain.ChainEntry.TheVariants as steps
 use Rattle.irq_chained.specs.declared.chain.ChainTurn.{ChainTurn}
-use Rattle.irq_chained.specs.declared.chain.ChainTurn.TheVariants as turns
 
 -- where processor 0 goes on in an open chain: on the child that has its flow, else on the first
 -- child of the status that is left
@@ -54,8 +54,9 @@ pub record WantsStep (may_want : Option Entry → Type 0) (room : LineNo → Typ
       (WantedMemory may_want room (length (children g)) (child_for b g a) a)
 
 -- a turn's step was refused memory
-abbrev pub Wants : (Option Entry → Type 0) → DemuxSeen → Actor → ChainTurn → Type 0
-Wants may_want d a turns.NoMemory =
+abbrev pub Wants : (Option Entry → Type 0) → DemuxSeen → Actor → Result ChainTurn StepRefused
+    → Type 0
+Wants may_want d a (Err refusals.NoMemory) =
     WantsStep may_want (HasSpare d.lines) d.board (reverse d.log) a
 Wants may_want d a turn = Unit {0}
 
@@ -66,8 +67,9 @@ pub record WantsDue (may_want : Option Entry → Type 0) (d : DemuxSeen) (due : 
   pub its : due ≡ next_of d actor
   pub step : WantsStep may_want (HasSpare d.lines) d.board (reverse d.log) actor
 
-abbrev pub DueWants : (Option Entry → Type 0) → DemuxSeen → Option ChainEntry → ChainTurn → Type 0
-DueWants may_want d due turns.NoMemory = WantsDue may_want d due
+abbrev pub DueWants : (Option Entry → Type 0) → DemuxSeen → Option ChainEntry
+    → Result ChainTurn StepRefused → Type 0
+DueWants may_want d due (Err refusals.NoMemory) = WantsDue may_want d due
 DueWants may_want d due turn = Unit {0}
 
 -- The board was played with these picks and these steps, the oldest first, and then a step was
@@ -83,7 +85,8 @@ pub record WantsNext (may_want : Option Entry → Type 0) (room : LineNo → Typ
       → (after : List Actor) × ((chain_order b).next (reverse g) left ≡ Some (e, after))
   pub step : WantsStep may_want room b (reverse g) actor
 
-abbrev pub PlayWants : (Option Entry → Type 0) → DemuxSeen → List Actor → PlayEnd → Type 0
-PlayWants may_want d picks ends.NoMemory =
+abbrev pub PlayWants : (Option Entry → Type 0) → DemuxSeen → List Actor → Result Unit StepRefused
+    → Type 0
+PlayWants may_want d picks (Err refusals.NoMemory) =
     WantsNext may_want (HasSpare d.lines) d.board picks d.log
 PlayWants may_want d picks end = Unit {0}

@@ -1,4 +1,4 @@
-//! The steps of a chain, and what a turn answers.
+//! The steps of a chain, and what a turn did.
 use irq_base::{CpuNo, Entry, LineNo};
 
 /// One step of a play of lines behind a demultiplexer.
@@ -21,9 +21,4 @@ pub enum ChainTurn {
     Moved(ChainEntry),
     /// The actor has no step, and nothing changed.
     NotYet,
-    /// An entry is due on this line, but its history has the log limit's length. `len` is that
-    /// length. Nothing changed.
-    Full { line: LineNo, len: u32 },
-    /// Memory was needed and refused, and nothing changed.
-    NoMemory,
 }

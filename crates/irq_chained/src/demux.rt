@@ -26,12 +26,12 @@ use crate::chain::{ChainEntry, ChainTurn};
 use crate::marks::{Mark, Marked, Walk};
 use crate::status::{CPU_0, first_left, number_at, read_status, show, walk_after};
 use crate::walking::ChainWalk;
-use board_core::{PlayEnd, System, Turn};
+use board_core::{System, Turn};
 use board_def::{Board, Layout};
 use callbacks::Handler;
 use chip_kinds::LevelChip;
 use irq_base::{Actor, Chip, LineNo, NoMemory};
-use irq_line::{IrqLine, MakesLine};
+use irq_line::{IrqLine, MakesLine, StepRefused};
 use std::alloc::Global;
 use std::marker::Model;
 
@@ -131,8 +131,13 @@ impl<'b, L: IrqLine> Demux<'b, L> {
     }
 
     /// One step of the actor, if it has one. If the step ends a run of a handler, that handler is
-    /// called. It takes the same time however many children and entries there are.
-    pub fn turn<H: Handler>(&mut self, actor: Actor, handlers: &mut H) -> ChainTurn
+    /// called. It takes the same time however many children and entries there are. If the step is
+    /// refused, nothing changes.
+    pub fn turn<H: Handler>(
+        &mut self,
+        actor: Actor,
+        handlers: &mut H,
+    ) -> Result<ChainTurn, StepRefused>
         ensures turns { TurnsBy self.old (next_of self.old actor) result self.new }
         ensures heard { Heard H.hears (runs_by_turn self.old result) handlers.old handlers.new }
         ensures memory { Wants L.may_want self.old actor result }
@@ -142,7 +147,7 @@ impl<'b, L: IrqLine> Demux<'b, L> {
                 if cpu.0 == 0 {
                     self.turn_cpu_0(handlers)
                 } else {
-                    ChainTurn::NotYet
+                    Ok(ChainTurn::NotYet)
                 }
             }
             Actor::Thread(_) => self.turn_other(actor, handlers),
@@ -151,7 +156,11 @@ impl<'b, L: IrqLine> Demux<'b, L> {
     }
 
     /// A step of a thread or a driver.
-    fn turn_other<H: Handler>(&mut self, actor: Actor, handlers: &mut H) -> ChainTurn
+    fn turn_other<H: Handler>(
+        &mut self,
+        actor: Actor,
+        handlers: &mut H,
+    ) -> Result<ChainTurn, StepRefused>
         requires { IsOther actor }
         ensures turns { TurnsBy self.old (next_of self.old actor) result self.new }
         ensures heard { Heard H.hears (runs_by_turn self.old result) handlers.old handlers.new }
@@ -164,7 +173,7 @@ impl<'b, L: IrqLine> Demux<'b, L> {
     }
 
     /// A step of processor 0.
-    fn turn_cpu_0<H: Handler>(&mut self, handlers: &mut H) -> ChainTurn
+    fn turn_cpu_0<H: Handler>(&mut self, handlers: &mut H) -> Result<ChainTurn, StepRefused>
         ensures turns { TurnsBy self.old (next_of self.old (actors.Cpu cpu_0)) result self.new }
         ensures heard { Heard H.hears (runs_by_turn self.old result) handlers.old handlers.new }
         ensures memory { Wants L.may_want self.old (actors.Cpu cpu_0) result }
@@ -179,7 +188,7 @@ impl<'b, L: IrqLine> Demux<'b, L> {
     }
 
     /// Enters a chain, if some child has a take due.
-    fn enter(&mut self) -> ChainTurn
+    fn enter(&mut self) -> Result<ChainTurn, StepRefused>
         requires { open_status (reverse self.old.log) ≡ None }
         ensures turns { TurnsBy self.old (next_of self.old (actors.Cpu cpu_0)) result self.new }
         ensures unheard { runs_by_turn self.old result ≡ [] }
@@ -188,25 +197,29 @@ impl<'b, L: IrqLine> Demux<'b, L> {
         self.is_kept();
         let status = read_status(&self.system);
         if status == 0 {
-            return ChainTurn::NotYet;
+            return Ok(ChainTurn::NotYet);
         }
         let mark = Mark {
             before: self.system.log_len(),
             what: Marked::Enter { status },
         };
         match self.marks.push(mark) {
-            Err(_) => ChainTurn::NoMemory,
+            Err(_) => Err(StepRefused::NoMemory),
             Ok(()) => {
                 self.parent.mask();
                 self.parent.ack();
                 self.walk = Some(Walk { status, taken: 0 });
-                ChainTurn::Moved(ChainEntry::Enter { cpu: CPU_0, status })
+                Ok(ChainTurn::Moved(ChainEntry::Enter { cpu: CPU_0, status }))
             }
         }
     }
 
     /// A further step of the flow that processor 0 has on this line.
-    fn go_on<H: Handler>(&mut self, line: LineNo, handlers: &mut H) -> ChainTurn
+    fn go_on<H: Handler>(
+        &mut self,
+        line: LineNo,
+        handlers: &mut H,
+    ) -> Result<ChainTurn, StepRefused>
         requires open { IsSome (open_status (reverse self.old.log)) }
         requires flow { number_of (flow_line (board_lines self.old.lines) cpu_0) ≡ Some line }
         ensures turns { TurnsBy self.old (next_of self.old (actors.Cpu cpu_0)) result self.new }
@@ -220,7 +233,11 @@ impl<'b, L: IrqLine> Demux<'b, L> {
     }
 
     /// Takes the first child of the status that is left, or leaves the chain.
-    fn walk_on<H: Handler>(&mut self, walk: Walk, handlers: &mut H) -> ChainTurn
+    fn walk_on<H: Handler>(
+        &mut self,
+        walk: Walk,
+        handlers: &mut H,
+    ) -> Result<ChainTurn, StepRefused>
         requires walk { IsWalkOf (board_lines self.old.lines) (reverse self.old.log) (Some walk) }
         requires no_flow { flow_line (board_lines self.old.lines) cpu_0 ≡ None }
         ensures turns { TurnsBy self.old (next_of self.old (actors.Cpu cpu_0)) result self.new }
@@ -236,7 +253,12 @@ impl<'b, L: IrqLine> Demux<'b, L> {
     }
 
     /// Takes the child at this place.
-    fn take<H: Handler>(&mut self, place: usize, walk: Walk, handlers: &mut H) -> ChainTurn
+    fn take<H: Handler>(
+        &mut self,
+        place: usize,
+        walk: Walk,
+        handlers: &mut H,
+    ) -> Result<ChainTurn, StepRefused>
         requires walk { IsWalkOf (board_lines self.old.lines) (reverse self.old.log) (Some walk) }
         requires place { place < 32 }
         requires due { IsTrue (is_take_due cpu_0
@@ -258,7 +280,7 @@ impl<'b, L: IrqLine> Demux<'b, L> {
     }
 
     /// Leaves the chain.
-    fn exit(&mut self) -> ChainTurn
+    fn exit(&mut self) -> Result<ChainTurn, StepRefused>
         requires { next_of self.old (actors.Cpu cpu_0) ≡ Some (steps.Exit cpu_0) }
         ensures turns { TurnsBy self.old (next_of self.old (actors.Cpu cpu_0)) result self.new }
         ensures unheard { runs_by_turn self.old result ≡ [] }
@@ -270,17 +292,17 @@ impl<'b, L: IrqLine> Demux<'b, L> {
             what: Marked::Exit,
         };
         match self.marks.push(mark) {
-            Err(_) => ChainTurn::NoMemory,
+            Err(_) => Err(StepRefused::NoMemory),
             Ok(()) => {
                 self.parent.unmask();
                 self.walk = None;
-                ChainTurn::Moved(ChainEntry::Exit { cpu: CPU_0 })
+                Ok(ChainTurn::Moved(ChainEntry::Exit { cpu: CPU_0 }))
             }
         }
     }
 
     /// One step of the lowest actor that has one; `NotYet` if none has.
-    fn turn_lowest<H: Handler>(&mut self, handlers: &mut H) -> ChainTurn
+    fn turn_lowest<H: Handler>(&mut self, handlers: &mut H) -> Result<ChainTurn, StepRefused>
         ensures turns { TurnsBy self.old (lowest_of self.old) result self.new }
         ensures heard { Heard H.hears (runs_by_turn self.old result) handlers.old handlers.new }
         ensures memory { DueWants L.may_want self.old (lowest_of self.old) result }
@@ -295,35 +317,33 @@ impl<'b, L: IrqLine> Demux<'b, L> {
     }
 
     /// One step of processor 0, if it has one, else of the lowest driver that has one.
-    fn turn_after_threads<H: Handler>(&mut self, handlers: &mut H) -> ChainTurn
+    fn turn_after_threads<H: Handler>(&mut self, handlers: &mut H) -> Result<ChainTurn, StepRefused>
         requires { lowest_of self.old
             ≡ or_step (next_of self.old (actors.Cpu cpu_0)) (lowest_driver_of self.old) }
         ensures turns { TurnsBy self.old (lowest_of self.old) result self.new }
         ensures heard { Heard H.hears (runs_by_turn self.old result) handlers.old handlers.new }
         ensures memory { DueWants L.may_want self.old (lowest_of self.old) result }
     {
-        match self.turn_cpu_0(handlers) {
+        match self.turn_cpu_0(handlers)? {
             ChainTurn::NotYet => self.turn_lowest_driver(handlers),
-            ChainTurn::Moved(step) => ChainTurn::Moved(step),
-            ChainTurn::Full { line, len } => ChainTurn::Full { line, len },
-            ChainTurn::NoMemory => ChainTurn::NoMemory,
+            moved => Ok(moved),
         }
     }
 
     /// One step of the lowest driver that has one; `NotYet` if none has.
-    fn turn_lowest_driver<H: Handler>(&mut self, handlers: &mut H) -> ChainTurn
+    fn turn_lowest_driver<H: Handler>(&mut self, handlers: &mut H) -> Result<ChainTurn, StepRefused>
         ensures turns { TurnsBy self.old (lowest_driver_of self.old) result self.new }
         ensures heard { Heard H.hears (runs_by_turn self.old result) handlers.old handlers.new }
         ensures memory { DueWants L.may_want self.old (lowest_driver_of self.old) result }
     {
         match self.system.lowest_driver() {
             Some(driver) => self.turn_other(Actor::Driver(driver), handlers),
-            None => ChainTurn::NotYet,
+            None => Ok(ChainTurn::NotYet),
         }
     }
 
     /// Steps of the lowest actor that has one, until none has.
-    fn settle<H: Handler>(&mut self, handlers: &mut H) -> PlayEnd
+    fn settle<H: Handler>(&mut self, handlers: &mut H) -> Result<(), StepRefused>
         ensures board { self.new.board ≡ self.old.board }
         ensures layout { self.new.layout ≡ self.old.layout }
         ensures play { (picks : List Actor) → IsUnderway self.old picks []
@@ -335,18 +355,16 @@ impl<'b, L: IrqLine> Demux<'b, L> {
     {
         loop {
             self.is_kept();
-            match self.turn_lowest(handlers) {
+            match self.turn_lowest(handlers)? {
                 ChainTurn::Moved(_) => {}
-                ChainTurn::NotYet => return PlayEnd::Done,
-                ChainTurn::Full { line, len } => return PlayEnd::Full { line, len },
-                ChainTurn::NoMemory => return PlayEnd::NoMemory,
+                ChainTurn::NotYet => return Ok(()),
             }
         }
     }
 
     /// Plays the board from its beginning to its end: the picks in turn, with one that has no step
-    /// passed over, and then always the lowest actor that has a step.
-    pub fn play<H: Handler>(&mut self, picks: &[Actor], handlers: &mut H) -> PlayEnd
+    /// passed over, and then always the lowest actor that has a step. A refusal ends the play.
+    pub fn play<H: Handler>(&mut self, picks: &[Actor], handlers: &mut H) -> Result<(), StepRefused>
         requires { self.old.log ≡ [] }
         ensures board { self.new.board ≡ self.old.board }
         ensures layout { self.new.layout ≡ self.old.layout }
@@ -355,24 +373,18 @@ impl<'b, L: IrqLine> Demux<'b, L> {
         ensures memory { PlayWants L.may_want self.new picks.now result }
     {
         for pick in picks {
-            match self.turn(*pick, handlers) {
-                ChainTurn::Full { line, len } => return PlayEnd::Full { line, len },
-                ChainTurn::NoMemory => return PlayEnd::NoMemory,
-                _ => {}
-            }
+            self.turn(*pick, handlers)?;
         }
         self.settle(handlers)
     }
 }
 
 /// What a turn answers, by what the system answered of the children.
-fn chain_turn_of(turn: Turn) -> ChainTurn
+fn chain_turn_of(turn: Result<Turn, StepRefused>) -> Result<ChainTurn, StepRefused>
     ensures { result ≡ turn_of turn }
 {
-    match turn {
-        Turn::Moved { line, entry } => ChainTurn::Moved(ChainEntry::Child { line, entry }),
-        Turn::NotYet => ChainTurn::NotYet,
-        Turn::Full { line, len } => ChainTurn::Full { line, len },
-        Turn::NoMemory => ChainTurn::NoMemory,
+    match turn? {
+        Turn::Moved { line, entry } => Ok(ChainTurn::Moved(ChainEntry::Child { line, entry })),
+        Turn::NotYet => Ok(ChainTurn::NotYet),
     }
 }

@@ -15,7 +15,7 @@ use crate::marks::Walk;
 use board_core::{System, Turn};
 use chip_kinds::LevelChip;
 use irq_base::{Chip, CpuNo, LineNo};
-use irq_line::IrqLine;
+use irq_line::{IrqLine, StepRefused};
 
 /// The processor that takes the parent's interrupts.
 pub(crate) const CPU_0: CpuNo = CpuNo(0);
@@ -67,18 +67,17 @@ fn with_bit(word: u64, number: usize) -> u64
 }
 
 /// The walk after a turn that was to take the child at this place.
-pub(crate) fn walk_after(walk: Walk, place: usize, turn: Turn) -> Walk
+pub(crate) fn walk_after(walk: Walk, place: usize, turn: Result<Turn, StepRefused>) -> Walk
     requires { place < 64 }
     ensures { IsWalkAfter walk place turn result }
 {
     match turn {
-        Turn::Moved { .. } => Walk {
+        Ok(Turn::Moved { .. }) => Walk {
             status: walk.status,
             taken: with_bit(walk.taken, place),
         },
-        Turn::NotYet => walk,
-        Turn::Full { .. } => walk,
-        Turn::NoMemory => walk,
+        Ok(Turn::NotYet) => walk,
+        Err(_) => walk,
     }
 }
 

@@ -1,6 +1,5 @@
--- What is answered of a system in which its board was played.
-use Rattle.std.proofs.Common.{◌≡◌, ℕ, ◌++◌, Bool, true, Option, Result, Ok, Err, List, map, refl, sym, subst}
-use Rattle.irq_base.specs.declared.devices.Run.{Run}
+-- What is told of a system in which its board was played.
+use Rattle.std.proofs.Common.{◌≡◌, ℕ, ◌++◌, true, Option, Result, Ok, Err, List, map, sym, subst}
 use Rattle.irq_base.specs.declared.entries.Entry.{Entry}
 use Rattle.irq_base.specs.declared.reporting.LineReport.{LineReport}
 use Rattle.irq_line.specs.declared.answers.StepRefused.{StepRefused}
@@ -10,8 +9,8 @@ use Rattle.board_def.specs.Seen.{BoardSeen}
 use Rattle.board_report.specs.Headline.{LineHistory, told_by}
 use Rattle.board_report.specs.Totals.{totals_text}
 use Rattle.log_text.specs.LayoutRows.{layout_rows}
-use Rattle.irq_play.specs.Headline.{CutShort, HandsOut, RefusedStep}
-use Rattle.irq_play.specs.Played.{HandsOutSystem, PlaysBoard, TellsStep, runs_of_moves}
+use Rattle.irq_play.specs.Headline.{CutShort, RefusedStep}
+use Rattle.irq_play.specs.Played.{HandsOutSystem, TellsStep}
 use Rattle.irq_play.specs.Report.{report_text}
 use Rattle.play_report.proofs.Answered as answered
 use Rattle.play_report.proofs.Answered.{answers_as, of_some, printed, without_step}
@@ -21,15 +20,6 @@ use Rattle.play_report.specs.declared.failing.PlayFailed.TheVariants as fails
 
 module _ (may_want : Option Entry → Type 0) (b : BoardSeen) (s : SystemSeen) (of : s.board ≡ b) (reports : List LineReport)
     (before now : Option (List ℕ)) (end : Result Unit PlayFailed) where
-  pub plays_board : (summary : Bool) (heard : List Run → Type 0) → Answers (report_text b summary s.log) (HandsOutSystem may_want s) reports before now end
-      → heard (runs_of_moves b s.log) → PlaysBoard b summary heard reports before now end
-  plays_board summary heard told called =
-      of_some (report_text b summary) (HandsOut b) (runs_of_moves b) heard s.log reports before now end
-      (answers_as (report_text b summary s.log) (report_text b summary s.log) (HandsOutSystem may_want s) (HandsOut b s.log) refl
-      (λ ended rs h. subst (λ (c : BoardSeen). HandsOut c s.log ended rs) of
-      (without_step (HandsOut s.board s.log) (RefusedStep may_want s.board s.log) ended rs h)) reports before now end told)
-      called
-
   pub tells_step : (text : List ℕ) → Answers text (HandsOutSystem may_want s) reports before now end → TellsStep may_want b reports end
   tells_step text told =
       subst (λ (c : BoardSeen). TellsStep may_want c reports end) of

@@ -56,4 +56,5 @@ pub record IsPlayed (s : SystemSeen) (end : Result Unit StepRefused) : Type 0 wh
 -- what the reports hand out of the system, and of a step that was refused memory which it was
 abbrev pub HandsOutSystem : (Option Entry → Type 0) → SystemSeen → Result Unit StepRefused
     → List LineReport → Type 0
-HandsOutSystem may_want s = HandsOutStep (HandsOut s.board s.log) (RefusedStep may_want s.board s.log)
+HandsOutSystem may_want s =
+    HandsOutStep (HandsOut s.board s.log) (RefusedStep may_want s.board s.log)

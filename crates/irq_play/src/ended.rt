@@ -37,7 +37,8 @@ impl<'b, L: IrqLine> StatedPlay<'b, L> {
     pub(crate) fn take_reports(self, board: &Board, room: ReportRoom) -> Reports
         requires board { self.system.board ≡ board.now }
         requires room { HasRoom (length board.now.lines) room }
-        ensures handed_out { HandsOutSystem L.may_want self.system self.end result.reports }
+        ensures handed_out { HandsOutSystem L.may_want self.entry.system self.entry.end
+            result.reports }
         ensures few { length result.reports ≤ 64 }
         ensures summable { All IsSummable result.reports }
     {

@@ -1,5 +1,5 @@
 //! Hands out the reports of a play, and prints a summary of it: the totals are made of the reports.
-ghost use Rattle.std.specs.Prelude.{◌≡◌, ◌≤◌, [], All, OnOk, false, length, map};
+ghost use Rattle.std.specs.Prelude.{◌≡◌, ◌≤◌, [], All, OnOk, true, false, length, map};
 ghost use Rattle.board_report.specs.Headline.{told_by};
 ghost use Rattle.board_report.specs.Reporting.{HasRoom};
 ghost use Rattle.board_report.specs.Summable.{IsSummable};
@@ -29,8 +29,8 @@ pub(crate) fn report_summary<O: Sink, L: IrqLine>(
 ) -> PlayedBoard
     requires board { play.system.board ≡ board.now }
     requires room { HasRoom (length board.now.lines) room }
-    ensures plays { Answers (report_text board.now true play.system.log)
-        (HandsOutSystem L.may_want play.system) result.reports.reports (O.written out.old)
+    ensures plays { Answers (report_text board.now true play.entry.system.log)
+        (HandsOutSystem L.may_want play.entry.system) result.reports.reports (O.written out.old)
         (O.written out.new) result.end }
     ensures emptied { OnOk result.end (O.kept out.new ≡ []) }
     ensures write_fault { Counts (O.faults out.old) (O.faults out.new) (is_write_fault result.end) }

@@ -1,58 +1,33 @@
 -- The handlers were called for the runs of the moves of a sleep.
-use Rattle.std.proofs.Common.{◌≡◌, Bool, true, false, Option, None, Result, Ok, Err, List, sym, ap, subst}
+use Rattle.std.proofs.Common.{◌≡◌, Bool, Option, Result, List, sym, ap, subst}
 use Rattle.irq_base.specs.declared.devices.Run.{Run}
 use Rattle.irq_base.specs.declared.entries.Actor.{Actor}
 use Rattle.irq_base.specs.declared.numbers.LineNo.{LineNo}
+use Rattle.irq_line.specs.declared.answers.StepRefused.{StepRefused}
 use Rattle.callbacks.specs.Heard.{Heard}
 use Rattle.board_play.specs.Lines.{Move}
 use Rattle.board_core.specs.Runs.{runs_by_turn, runs_in}
 use Rattle.board_core.specs.Seen.{SystemSeen}
 use Rattle.board_core.specs.Turned.{StepsBy as SystemSteps}
-use Rattle.board_core.specs.declared.turns.PlayEnd.{PlayEnd}
-use Rattle.board_core.specs.declared.turns.PlayEnd.TheVariants as ends
 use Rattle.board_core.specs.declared.turns.Turn.{Turn}
 use Rattle.board_core.specs.declared.turns.Turn.TheVariants as turns
 use Rattle.board_core.proofs.Hearing.{heard_fresh, heard_turned}
-use Rattle.irq_pm.specs.Phases.{Phase}
 use Rattle.irq_sleeper.specs.Hearing.{HearsOn}
 use Rattle.irq_sleeper.specs.Seen.{SleeperSeen}
-use Rattle.irq_sleeper.specs.Steps.{GoesTo, Heeds, IsAsleep, IsFresh, IsTold, IsWoken, StepsBy}
-use Rattle.irq_sleeper.proofs.Underway.{fresh, turned}
+use Rattle.irq_sleeper.specs.Steps.{Heeds, IsAsleep, IsFresh, IsTold, IsWoken}
+use Rattle.irq_sleeper.proofs.Underway.{fresh}
 
 -- what is noted of a turn leaves the system as the turn left it
-heeded_system : (old : SleeperSeen) (turn : Turn) (r : Result Bool PlayEnd) (new : SleeperSeen) → Heeds old turn r new → new.system ≡ old.system
-heeded_system old (turns.Moved line e) (Ok true) new h = h.0.system
-heeded_system old turns.NotYet (Ok false) new h = ap (λ (s : SleeperSeen). s.system) h
-heeded_system old (turns.Full line len) (Err (ends.Full other n)) new h = ap (λ (s : SleeperSeen). s.system) h.2
-heeded_system old turns.NoMemory (Err ends.NoMemory) new h = ap (λ (s : SleeperSeen). s.system) h
-heeded_system old (turns.Moved line e) (Ok false) new h = absurd h
-heeded_system old (turns.Moved line e) (Err (ends.Full other n)) new h = absurd h
-heeded_system old (turns.Moved line e) (Err ends.NoMemory) new h = absurd h
-heeded_system old (turns.Moved line e) (Err ends.Done) new h = absurd h
-heeded_system old turns.NotYet (Ok true) new h = absurd h
-heeded_system old turns.NotYet (Err (ends.Full other n)) new h = absurd h
-heeded_system old turns.NotYet (Err ends.NoMemory) new h = absurd h
-heeded_system old turns.NotYet (Err ends.Done) new h = absurd h
-heeded_system old (turns.Full line len) (Ok true) new h = absurd h
-heeded_system old (turns.Full line len) (Ok false) new h = absurd h
-heeded_system old (turns.Full line len) (Err ends.NoMemory) new h = absurd h
-heeded_system old (turns.Full line len) (Err ends.Done) new h = absurd h
-heeded_system old turns.NoMemory (Ok true) new h = absurd h
-heeded_system old turns.NoMemory (Ok false) new h = absurd h
-heeded_system old turns.NoMemory (Err (ends.Full other n)) new h = absurd h
-heeded_system old turns.NoMemory (Err ends.Done) new h = absurd h
-
--- after a step that made no move all is as it was
-rested : (old new : SleeperSeen) (due : Option Move) (r : Result Bool PlayEnd) → r ≡ Ok false → StepsBy old due r new → new ≡ old
-rested old new due r is s =
-    let t : (due ≡ None) × (new ≡ old) = subst (λ (x : Result Bool PlayEnd). StepsBy old due x new) is s in t.1
+pub heeded_system : (old : SleeperSeen) (turn : Turn) (made : Bool) (new : SleeperSeen) → Heeds old turn made new → new.system ≡ old.system
+heeded_system old (turns.Moved line e) made new h = h.1.system
+heeded_system old turns.NotYet made new h = ap (λ (s : SleeperSeen). s.system) h.1
 
 module _ {H : Type 0} (hears : H → Run → H → Type 0) where
-  pub step_hears : (old : SleeperSeen) (system : SystemSeen) (new : SleeperSeen) (due : Option Move) (turn : Turn) (r : Result Bool PlayEnd)
-      → SystemSteps old.system due turn system → Heeds (turned old system) turn r new → (h k : H)
+  pub step_hears : (old : SleeperSeen) (system : SystemSeen) (new : SleeperSeen) (due : Option Move) (turn : Result Turn StepRefused)
+      → SystemSteps old.system due turn system → new.system ≡ system → (h k : H)
       → Heard hears (runs_by_turn old.system turn) h k → HearsOn hears old h new k
-  step_hears old system new due turn r steps heeds h k heard = λ told first before.
-      subst (λ (s : SystemSeen). Heard hears (runs_in s) first k) (sym (heeded_system (turned old system) turn r new heeds))
+  step_hears old system new due turn steps same h k heard = λ told first before.
+      subst (λ (s : SystemSeen). Heard hears (runs_in s) first k) (sym same)
       (heard_turned hears old.system system due turn steps told.lines first h k before heard)
 
   -- nothing happened
@@ -62,17 +37,6 @@ module _ {H : Type 0} (hears : H → Run → H → Type 0) where
   -- one part after another
   pub hears_then : (a b c : SleeperSeen) (h k m : H) → HearsOn hears a h b k → IsTold b → HearsOn hears b k c m → HearsOn hears a h c m
   hears_then a b c h k m one told two = λ told_a first before. two told first (one told_a first before)
-
-  -- a part, from a phase to a phase, and one more
-  pub hears_on : (a b c : SleeperSeen) (picks : List Actor) (at : Phase) (h k m : H) → GoesTo a b picks at → HearsOn hears a h b k
-      → HearsOn hears b k c m → HearsOn hears a h c m
-  hears_on a b c picks at h k m goes one two = hears_then a b c h k m one goes.1.told two
-
-  -- a step after one that made no move
-  pub hears_after : (a b c : SleeperSeen) (due : Option Move) (r : Result Bool PlayEnd) (h k m : H) → StepsBy a due r b → r ≡ Ok false
-      → HearsOn hears a h b k → HearsOn hears b k c m → HearsOn hears a h c m
-  hears_after a b c due r h k m steps is one two = λ told first before.
-      two (subst (λ (s : SleeperSeen). IsTold s) (sym (rested a b due r is steps)) told) first (one told first before)
 
   -- a mark
   pub hears_asleep : (a b c : SleeperSeen) (h k : H) → HearsOn hears a h b k → IsAsleep b c → HearsOn hears a h c k

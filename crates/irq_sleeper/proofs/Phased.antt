@@ -1,5 +1,5 @@
 -- A sleep, phase by phase.
-use Rattle.std.proofs.Common.{◌≡◌, ℕ, ◌+◌, ◌<◌, ◌≤◌, Bool, true, false, cond, Option, Some, None}
+use Rattle.std.proofs.Common.{◌≡◌, ℕ, ◌+◌, ◌<◌, Bool, true, false, cond, Option, Some, None}
 use Rattle.std.proofs.Common.{Result, Ok, Err, List, [], ◌∷◌, ◌++◌, length, reverse, get_or, drop, refl, sym, ap, ◌∙◌}
 use Rattle.std.proofs.Common.{subst, arith, add-one}
 use Rattle.std.proofs.Math.Seq.{drop-cons}
@@ -7,15 +7,13 @@ use Rattle.std.proofs.lemmas.List.{reverse-append}
 use Rattle.irq_base.specs.declared.entries.Actor.{Actor}
 use Rattle.irq_base.specs.declared.entries.Actor.TheVariants as actors
 use Rattle.irq_base.specs.declared.numbers.LineNo.{LineNo}
+use Rattle.irq_line.specs.declared.answers.StepRefused.{StepRefused}
 use Rattle.board_def.specs.Seen.{BoardSeen}
 use Rattle.board_driver.specs.Longer.{last_driver}
 use Rattle.board_play.specs.Lines.{BoardLine, Move}
 use Rattle.board_play.specs.Play.{or_move}
 use Rattle.board_core.specs.Seen.{board_lines}
 use Rattle.board_core.specs.Turns.{move_of, lowest_move}
-use Rattle.board_core.specs.declared.turns.PlayEnd.{PlayEnd}
-use Rattle.board_core.specs.declared.turns.PlayEnd.TheVariants as ends
-use Rattle.board_core.proofs.Searches.{all_dropped}
 use Rattle.play_orders.specs.Orders.{IsMade}
 use Rattle.irq_pm.specs.Phases.{Phase, Picking, Disabling, Asleep, Enabling, Going, is_disable_due, due_of, disabling}
 use Rattle.irq_pm.specs.Phases.{sleeping, going, last_move, or_next, picked, step_in, sleep_next}
@@ -23,7 +21,7 @@ use Rattle.irq_pm.specs.Phases.{sleep_order}
 use Rattle.irq_sleeper.specs.Seen.{SleeperSeen, log_of, marked}
 use Rattle.irq_pm.specs.SleepLog.{moves_of}
 use Rattle.irq_sleeper.specs.Steps.{IsFresh, Watched, StepsBy, IsTold, AreMarked, IsUnderway, IsAsleep}
-use Rattle.irq_sleeper.specs.Steps.{IsWoken, Stays, GoesTo, EndsIn, last_of, inner_of, ask_of}
+use Rattle.irq_sleeper.specs.Steps.{IsWoken, GoesTo, EndsIn, last_of, inner_of, ask_of}
 use Rattle.irq_pm.specs.Waking.{woken_by}
 use Rattle.irq_pm.specs.declared.entries.SleepEntry.{SleepEntry}
 use Rattle.irq_pm.specs.declared.entries.SleepEntry.TheVariants as sleeps
@@ -38,17 +36,17 @@ abbrev pub ComesNext : SleeperSeen → Option Move → Phase → Phase → Type 
 ComesNext s due at after = (x : Move) → due ≡ Some x → next_of s at ≡ Some (step_of x, after)
 
 -- A step of a sleep that goes on: the move that was due is the sleep's next step, from the phase `at` to the phase `after`.
-pub record SleepStep (first old new : SleeperSeen) (picks : List Actor) (at after : Phase) (r : Result Bool PlayEnd) : Type 0 where
+pub record SleepStep (first old new : SleeperSeen) (picks : List Actor) (at after : Phase) (r : Result Bool StepRefused) : Type 0 where
   pub due : Option Move
   pub goes : GoesTo first old picks at
   pub steps : StepsBy old due r new
   pub next : ComesNext old due at after
   pub marks : AreMarked at new → AreMarked after new
 
-module _ {first old new : SleeperSeen} {picks : List Actor} {at after : Phase} {r : Result Bool PlayEnd}
+module _ {first old new : SleeperSeen} {picks : List Actor} {at after : Phase} {r : Result Bool StepRefused}
     (s : SleepStep first old new picks at after r) where
   watched : r ≡ Ok true → Watched old s.due new
-  watched is = subst (λ (x : Result Bool PlayEnd). StepsBy old s.due x new) is s.steps
+  watched is = subst (λ (x : Result Bool StepRefused). StepsBy old s.due x new) is s.steps
 
   pub went : r ≡ Ok true → GoesTo first new picks after
   went is = (
@@ -59,13 +57,13 @@ module _ {first old new : SleeperSeen} {picks : List Actor} {at after : Phase} {
   pub falls : r ≡ Ok true → room_of new.system < room_of old.system
   falls is = room_falls old new s.due (watched is).made
 
-  pub stops : {end : PlayEnd} → r ≡ Err end → EndsIn first new picks end
-  stops {end} is =
-      let e : StepsBy old s.due (Err end) new = subst (λ (x : Result Bool PlayEnd). StepsBy old s.due x new) is s.steps in
-      (stays_on first old new s.goes.0 (steps_stay old new s.due (Err end) e), stopped old new picks at after s.due end s.goes.1 e s.next)
+  pub stops : {refused : StepRefused} → r ≡ Err refused → EndsIn first new picks (Err refused)
+  stops {refused} is =
+      let e : StepsBy old s.due (Err refused) new = subst (λ (x : Result Bool StepRefused). StepsBy old s.due x new) is s.steps in
+      (stays_on first old new s.goes.0 (steps_stay old new s.due (Err refused) e), stopped old new picks at after s.due refused s.goes.1 e s.next)
 
-rested : (old new : SleeperSeen) (due : Option Move) (r : Result Bool PlayEnd) → r ≡ Ok false → StepsBy old due r new → (due ≡ None) × (new ≡ old)
-rested old new due r is s = subst (λ (x : Result Bool PlayEnd). StepsBy old due x new) is s
+rested : (old new : SleeperSeen) (due : Option Move) (r : Result Bool StepRefused) → r ≡ Ok false → StepsBy old due r new → (due ≡ None) × (new ≡ old)
+rested old new due r is s = subst (λ (x : Result Bool StepRefused). StepsBy old due x new) is s
 
 -- ---- the picks
 
@@ -159,7 +157,7 @@ module _ (s : SleeperSeen) (t : IsTold s) where
 
 -- ---- the steps of the phases
 
-module _ {first old new : SleeperSeen} {picks : List Actor} {r : Result Bool PlayEnd} where
+module _ {first old new : SleeperSeen} {picks : List Actor} {r : Result Bool StepRefused} where
   abbrev pub disabling_step : GoesTo first old picks Disabling
       → is_disable_due (due_of old.system.board (board_lines old.system.lines) last_driver) ≡ true
       → StepsBy old (or_move (last_of old.system) (inner_of old.system)) r new → SleepStep first old new picks Disabling Disabling r
@@ -267,7 +265,7 @@ pub wakes_by_line : {first old new : SleeperSeen} {picks : List Actor} {line : L
     → old.watch.woken ≡ Some line → IsWoken old (Some line) new → GoesTo first new picks Enabling
 wakes_by_line {first} {old} {new} {picks} {line} u woken is = wakes_up first old new picks (Some line) u (line_wakes old u.1.told u.1.watch.woken line woken) is
 
-pub wakes_by_none : {first old new : SleeperSeen} (mid : SleeperSeen) {picks : List Actor} {r : Result Bool PlayEnd}
+pub wakes_by_none : {first old new : SleeperSeen} (mid : SleeperSeen) {picks : List Actor} {r : Result Bool StepRefused}
     → GoesTo first old picks Asleep → old.watch.woken ≡ None → r ≡ Ok false
     → StepsBy old (or_move (inner_of old.system) (ask_of old.system)) r mid → IsWoken mid None new
     → GoesTo first new picks Enabling
@@ -277,27 +275,27 @@ wakes_by_none {first} {old} {new} mid {picks} {r} u woken is steps wakes =
 
 -- ---- the phases' ends
 
-pub opened : (first old new : SleeperSeen) (picks : List Actor) (r : Result Bool PlayEnd)
+pub opened : (first old new : SleeperSeen) (picks : List Actor) (r : Result Bool StepRefused)
     → GoesTo first old picks Enabling → r ≡ Ok false → StepsBy old (move_of old.system (actors.Driver last_driver)) r
     new → GoesTo first new picks Going
 opened first old new picks r u is steps =
     let rest = rested old new (move_of old.system (actors.Driver last_driver)) r is steps in
     subst (λ (s : SleeperSeen). GoesTo first s picks Going) (sym rest.1) (u.0, at_other old picks Enabling Going u.1 (λ m. m) (enabled_all old u.1.told rest.0))
 
-pub gone_on : (first old new : SleeperSeen) (picks : List Actor) (r : Result Bool PlayEnd)
+pub gone_on : (first old new : SleeperSeen) (picks : List Actor) (r : Result Bool StepRefused)
     → GoesTo first old picks Going → r ≡ Ok false → StepsBy old (lowest_move old.system) r new
-    → EndsIn first new picks ends.Done
+    → EndsIn first new picks (Ok tt)
 gone_on first old new picks r u is steps =
     let rest = rested old new (lowest_move old.system) r is steps in
-    subst (λ (s : SleeperSeen). EndsIn first s picks ends.Done) (sym rest.1) (u.0, (u.1.told, ended old picks Going u.1 (going_none old u.1.told rest.0)))
+    subst (λ (s : SleeperSeen). EndsIn first s picks (Ok tt)) (sym rest.1) (u.0, (u.1.told, ended old picks Going u.1 (going_none old u.1.told rest.0)))
 
-pub stuck_so : (first old new : SleeperSeen) (picks : List Actor) (r : Result Bool PlayEnd)
+pub stuck_so : (first old new : SleeperSeen) (picks : List Actor) (r : Result Bool StepRefused)
     → GoesTo first old picks Disabling → is_disable_due
     (due_of old.system.board (board_lines old.system.lines) last_driver) ≡ true → r ≡ Ok false
-    → StepsBy old (or_move (last_of old.system) (inner_of old.system)) r new → EndsIn first new picks ends.Done
+    → StepsBy old (or_move (last_of old.system) (inner_of old.system)) r new → EndsIn first new picks (Ok tt)
 stuck_so first old new picks r u test is steps =
     let rest = rested old new (or_move (last_of old.system) (inner_of old.system)) r is steps in
-    subst (λ (s : SleeperSeen). EndsIn first s picks ends.Done) (sym rest.1)
+    subst (λ (s : SleeperSeen). EndsIn first s picks (Ok tt)) (sym rest.1)
     (u.0, (u.1.told, ended old picks Disabling u.1 (disabling_none old u.1.told test rest.0)))
 
 -- ---- picks, one after another
@@ -314,7 +312,7 @@ at_pick first s picks i d within u =
     subst (λ (rest : List Actor). GoesTo first s picks (Picking rest)) next u
 
 module _ {first old new : SleeperSeen} {picks : List Actor} {i : ℕ} (d : Actor) (within : i < length picks)
-    (u : GoesTo first old picks (Picking (drop i picks))) {r : Result Bool PlayEnd}
+    (u : GoesTo first old picks (Picking (drop i picks))) {r : Result Bool StepRefused}
     (steps : StepsBy old (move_of old.system (get_or picks i d)) r new) where
   abbrev pub picked_step : SleepStep first old new picks (Picking (get_or picks i d ∷ drop (i + 1) picks)) (Picking (drop (i + 1) picks)) r
   picked_step =
@@ -341,26 +339,14 @@ module _ {first old new : SleeperSeen} {picks : List Actor} {i : ℕ} (d : Actor
                 (λ m. m) (passed_next old v.1.told (get_or picks i d) (drop (i + 1) picks) rest.0),
           )
 
-  pub pick_stops : {end : PlayEnd} → r ≡ Err end → EndsIn first new picks end
+  pub pick_stops : {refused : StepRefused} → r ≡ Err refused → EndsIn first new picks (Err refused)
   pick_stops is = stops picked_step is
-
-pub picks_made : (first s : SleeperSeen) (picks : List Actor) (i : ℕ) → length picks ≤ i
-    → GoesTo first s picks (Picking (drop i picks)) → GoesTo first s picks Disabling
-picks_made first s picks i done u =
-    let v : GoesTo first s picks (Picking []) = subst (λ (rest : List Actor). GoesTo first s picks (Picking rest)) (all_dropped picks i done) u in
-    (v.0, at_other s picks (Picking []) Disabling v.1 (λ m. m) refl)
 
 -- ---- what a loop finds
 
-pub ok_is : {r : Result Bool PlayEnd} {moved t : Bool} → r ≡ Ok moved → moved ≡ t → r ≡ Ok t
+pub ok_is : {r : Result Bool StepRefused} {moved t : Bool} → r ≡ Ok moved → moved ≡ t → r ≡ Ok t
 ok_is {r} {moved} {t} is same = subst (λ (b : Bool). r ≡ Ok b) same is
 
 pub no_line : {o : Option LineNo} → ((line : LineNo) → o ≡ Some line → ⊥) → o ≡ None
 no_line {o = None} none = refl
 no_line {o = Some line} none = absurd (none line refl)
-
-pub goes_on : (a b c : SleeperSeen) (picks : List Actor) (at : Phase) → Stays a b → GoesTo b c picks at → GoesTo a c picks at
-goes_on a b c picks at stay u = (stays_on a b c stay u.0, u.1)
-
-pub ends_on : (a b c : SleeperSeen) (picks : List Actor) (end : PlayEnd) → Stays a b → EndsIn b c picks end → EndsIn a c picks end
-ends_on a b c picks end stay u = (stays_on a b c stay u.0, u.1)

@@ -1,10 +1,12 @@
 -- A sleep, step by step.
 use Rattle.std.proofs.Common.{◌≡◌, ℕ, ◌+◌, ◌-◌, ◌<◌, ◌≤◌, Bool, true, false, not, ◌&&◌, cond, IfSome}
-use Rattle.std.proofs.Common.{IsSome, IsSomeAnd, Option, Some, None, Result, Ok, Err, List, [], ◌∷◌, ◌++◌, length, reverse}
+use Rattle.std.proofs.Common.{IsSomeAnd, Option, Some, None, Result, Ok, Err, List, [], ◌∷◌, ◌++◌, length, reverse}
 use Rattle.std.proofs.Common.{refl, sym, ap, ◌∙◌, subst, arith}
 use Rattle.std.proofs.lemmas.List.{reverse-append, length_push}
 use Rattle.irq_base.specs.declared.entries.Actor.{Actor}
 use Rattle.irq_base.specs.declared.numbers.LineNo.{LineNo}
+use Rattle.irq_line.specs.declared.answers.StepRefused.{StepRefused}
+use Rattle.irq_line.specs.declared.answers.StepRefused.TheVariants as refusals
 use Rattle.irq_model.specs.Kinds.{same_line}
 use Rattle.irq_steps.proofs.Same.{line_from_same, same_self_line}
 use Rattle.irq_laws.proofs.Lists.{both_ways}
@@ -15,8 +17,6 @@ use Rattle.board_play.proofs.Moving.{lines_more}
 use Rattle.board_core.specs.Firsts.{IsFirstOf}
 use Rattle.board_core.specs.Seen.{SystemSeen, board_lines}
 use Rattle.board_core.specs.Turns.{move_of, Moves, IsFullFor, TurnsBy, Turns, lowest_move}
-use Rattle.board_core.specs.declared.turns.PlayEnd.{PlayEnd}
-use Rattle.board_core.specs.declared.turns.PlayEnd.TheVariants as ends
 use Rattle.board_core.specs.declared.turns.Turn.{Turn}
 use Rattle.board_core.specs.declared.turns.Turn.TheVariants as turns
 use Rattle.board_core.proofs.Movers.{first_there, none_there, some_of}
@@ -26,7 +26,7 @@ use Rattle.irq_pm.specs.Phases.{Phase, Picking, Disabling, Asleep, Enabling, Goi
 use Rattle.irq_pm.specs.Phases.{sleep_next, sleep_order}
 use Rattle.irq_sleeper.specs.Seen.{SleeperSeen, log_of, marked}
 use Rattle.irq_pm.specs.SleepLog.{moves_of}
-use Rattle.irq_sleeper.specs.Steps.{IsFresh, Made, Watched, StepsBy, Heeded, Heeds, IsSleep, IsTold, AreMarked, IsUnderway, Stays, inner_of}
+use Rattle.irq_sleeper.specs.Steps.{IsFresh, Made, Watched, StepsBy, Heeded, Heeds, IsRefused, IsSleep, IsTold, AreMarked, IsUnderway, Stays, inner_of}
 use Rattle.irq_pm.specs.Waking.{woken_by, is_among, was_disabled}
 use Rattle.irq_sleeper.specs.Watching.{Watches}
 use Rattle.irq_pm.specs.declared.entries.SleepEntry.{SleepEntry}
@@ -190,12 +190,12 @@ at_other s picks at other u marks same = record { told = u.told; marks = marks u
 -- ---- ends
 
 -- nothing comes next
-pub ended : (s : SleeperSeen) (picks : List Actor) (at : Phase) → IsUnderway s picks at → next_of s at ≡ None → IsSleep s picks ends.Done
+pub ended : (s : SleeperSeen) (picks : List Actor) (at : Phase) → IsUnderway s picks at → next_of s at ≡ None → IsSleep s picks (Ok tt)
 ended s picks at u none = (u.phase, u.made, ap (λ (h : List Move). sleep_next s.system.board s.watch.armed h u.phase) u.told.told ∙ (u.next ∙ none))
 
 pub filled : (s : SleeperSeen) (picks : List Actor) (at after : Phase) (due : Option Move) (line : LineNo) (len : ℕ)
     → IsUnderway s picks at → IsFullFor s.system due line len
-    → ((x : Move) → due ≡ Some x → next_of s at ≡ Some (step_of x, after)) → IsSleep s picks (ends.Full line len)
+    → ((x : Move) → due ≡ Some x → next_of s at ≡ Some (step_of x, after)) → IsSleep s picks (Err (refusals.Full line len))
 filled s picks at after due line len u full next =
     let told : length (part line (reverse s.system.log)) ≡ len = part_in s.system line (λ past. length past ≡ len) u.told.lines full.length in
     let g = reverse (log_of s) in (
@@ -215,25 +215,16 @@ filled s picks at after due line len u full next =
       told,
     )
 
--- memory was refused
-pub refused : (old new : SleeperSeen) (picks : List Actor) (at : Phase) → IsUnderway old picks at
-    → IsSome (lowest_move old.system) × (new ≡ old) → IsTold new × IsSleep new picks ends.NoMemory
-refused old new picks at u r = subst (λ (s : SleeperSeen). IsTold s × IsSleep s picks ends.NoMemory) (sym r.1)
-    (u.told, (u.phase, u.made, r.0))
-
--- ---- a step that ends the sleep
-
-abbrev pub EndsAs : List Actor → SleeperSeen → PlayEnd → Type 0
-EndsAs picks s end = IsTold s × IsSleep s picks end
-
-pub stopped : (old new : SleeperSeen) (picks : List Actor) (at after : Phase) (due : Option Move) (end : PlayEnd)
-    → IsUnderway old picks at → StepsBy old due (Err end) new
-    → ((x : Move) → due ≡ Some x → next_of old at ≡ Some (step_of x, after)) → EndsAs picks new end
-stopped old new picks at after due (ends.Full line len) u steps next
-    = subst (λ (s : SleeperSeen). EndsAs picks s (ends.Full line len)) (sym steps.1)
-    (u.told, filled old picks at after due line len u steps.0 next)
-stopped old new picks at after due ends.NoMemory u steps next = refused old new picks at u steps
-stopped old new picks at after due ends.Done u steps next = absurd steps
+-- a step was refused
+pub stopped : (old new : SleeperSeen) (picks : List Actor) (at after : Phase) (due : Option Move) (refused : StepRefused)
+    → IsUnderway old picks at → StepsBy old due (Err refused) new
+    → ((x : Move) → due ≡ Some x → next_of old at ≡ Some (step_of x, after)) → IsTold new × IsSleep new picks (Err refused)
+stopped old new picks at after due refused u steps next =
+    subst (λ (s : SleeperSeen). IsTold s × IsSleep s picks (Err refused)) (sym steps.1) (u.told, by_refusal refused steps.0)
+  where
+    by_refusal : (refused : StepRefused) → IsRefused old.system due refused → IsSleep old picks (Err refused)
+    by_refusal (refusals.Full line len) full = filled old picks at after due line len u full next
+    by_refusal refusals.NoMemory somebody = (u.phase, u.made, somebody)
 
 -- ---- board, layout and armed lines stay
 
@@ -249,12 +240,10 @@ made_stays old new due m = record { board = m.moves.board; layout = m.moves.layo
 same_stays : (old new : SleeperSeen) → new ≡ old → Stays old new
 same_stays old new same = subst (λ (s : SleeperSeen). Stays old s) (sym same) (stays old)
 
-pub steps_stay : (old new : SleeperSeen) (due : Option Move) (r : Result Bool PlayEnd) → StepsBy old due r new → Stays old new
+pub steps_stay : (old new : SleeperSeen) (due : Option Move) (r : Result Bool StepRefused) → StepsBy old due r new → Stays old new
 steps_stay old new due (Ok true) s = made_stays old new due s.made
 steps_stay old new due (Ok false) s = same_stays old new s.1
-steps_stay old new due (Err (ends.Full line len)) s = same_stays old new s.1
-steps_stay old new due (Err ends.NoMemory) s = same_stays old new s.1
-steps_stay old new due (Err ends.Done) s = absurd s
+steps_stay old new due (Err refused) s = same_stays old new s.1
 
 -- ---- it ends
 
@@ -315,23 +304,6 @@ room_falls old new due m =
 
 -- ---- a turn, and what is noted of it
 
--- what a turn leaves, of whichever actor's move; memory is needed only while somebody can move
-abbrev Turned : SystemSeen → Option Move → Turn → SystemSeen → Type 0
-Turned old due turns.NoMemory new = IsSome (lowest_move old) × (new ≡ old)
-Turned old due turn new = TurnsBy old due turn new
-
-by_system : (old new : SystemSeen) (a : Actor) (turn : Turn) → Turns old a turn new → Turned old (move_of old a) turn new
-by_system old new a (turns.Moved line e) t = t
-by_system old new a turns.NotYet t = t
-by_system old new a (turns.Full line len) t = t
-by_system old new a turns.NoMemory t = (t.0.somebody, t.1)
-
-by_lowest : (old new : SystemSeen) (turn : Turn) → TurnsBy old (lowest_move old) turn new → Turned old (lowest_move old) turn new
-by_lowest old new (turns.Moved line e) t = t
-by_lowest old new turns.NotYet t = t
-by_lowest old new (turns.Full line len) t = t
-by_lowest old new turns.NoMemory t = t
-
 -- the sleeper whose system has turned
 abbrev pub turned : SleeperSeen → SystemSeen → SleeperSeen
 turned old system = record { system = system; watch = old.watch; asleep = old.asleep; wake = old.wake }
@@ -344,40 +316,23 @@ abbrev heeded : (old : SleeperSeen) (system : SystemSeen) (new : SleeperSeen) (d
 heeded old system new due m moves h =
     record { move = m; moves = subst (λ (s : SystemSeen). Moves old.system due m s) (sym h.system) moves; armed = h.armed; asleep = h.asleep; wake = h.wake }
 
-steps_by : (old : SleeperSeen) (system : SystemSeen) (new : SleeperSeen) (due : Option Move) (turn : Turn)
-    (r : Result Bool PlayEnd) → Turned old.system due turn system → Heeds (turned old system) turn r new
-    → StepsBy old due r new
-steps_by old system new due (turns.Moved line e) (Ok true) t h = record { made = heeded old system new due (line, e) t h.0; watch = h.1 }
-steps_by old system new due turns.NotYet (Ok false) t h = (t.0, unturned old system new t.1 h)
-steps_by old system new due (turns.Full line len) (Err (ends.Full other n)) t h =
-    (subst (λ (k : ℕ). IsFullFor old.system due other k) h.1 (subst (λ (l : LineNo). IsFullFor old.system due l len) h.0 t.0), unturned old system new t.1 h.2)
-steps_by old system new due turns.NoMemory (Err ends.NoMemory) t h = (t.0, unturned old system new t.1 h)
-steps_by old system new due (turns.Moved line e) (Ok false) t h = absurd h
-steps_by old system new due (turns.Moved line e) (Err (ends.Full other n)) t h = absurd h
-steps_by old system new due (turns.Moved line e) (Err ends.NoMemory) t h = absurd h
-steps_by old system new due (turns.Moved line e) (Err ends.Done) t h = absurd h
-steps_by old system new due turns.NotYet (Ok true) t h = absurd h
-steps_by old system new due turns.NotYet (Err (ends.Full other n)) t h = absurd h
-steps_by old system new due turns.NotYet (Err ends.NoMemory) t h = absurd h
-steps_by old system new due turns.NotYet (Err ends.Done) t h = absurd h
-steps_by old system new due (turns.Full line len) (Ok true) t h = absurd h
-steps_by old system new due (turns.Full line len) (Ok false) t h = absurd h
-steps_by old system new due (turns.Full line len) (Err ends.NoMemory) t h = absurd h
-steps_by old system new due (turns.Full line len) (Err ends.Done) t h = absurd h
-steps_by old system new due turns.NoMemory (Ok true) t h = absurd h
-steps_by old system new due turns.NoMemory (Ok false) t h = absurd h
-steps_by old system new due turns.NoMemory (Err (ends.Full other n)) t h = absurd h
-steps_by old system new due turns.NoMemory (Err ends.Done) t h = absurd h
+pub steps_by : (old : SleeperSeen) (system : SystemSeen) (new : SleeperSeen) (due : Option Move) (turn : Turn) (made : Bool)
+    → TurnsBy old.system due (Ok turn) system → Heeds (turned old system) turn made new → StepsBy old due (Ok made) new
+steps_by old system new due (turns.Moved line e) made t h =
+    subst (λ (b : Bool). StepsBy old due (Ok b) new) (sym h.0) (record { made = heeded old system new due (line, e) t h.1; watch = h.2 })
+steps_by old system new due turns.NotYet made t h =
+    subst (λ (b : Bool). StepsBy old due (Ok b) new) (sym h.0) (t.0, unturned old system new t.1 h.1)
 
-pub step_is : (old : SleeperSeen) (system : SystemSeen) (new : SleeperSeen) (a : Actor) (turn : Turn)
-    (r : Result Bool PlayEnd) → Turns old.system a turn system → Heeds (turned old system) turn r new
-    → StepsBy old (move_of old.system a) r new
-step_is old system new a turn r t h = steps_by old system new (move_of old.system a) turn r (by_system old.system system a turn t) h
+-- a turn that was refused
+pub step_refused : (old : SleeperSeen) (system : SystemSeen) (a : Actor) (refused : StepRefused) → Turns old.system a (Err refused) system
+    → StepsBy old (move_of old.system a) (Err refused) (turned old system)
+step_refused old system a (refusals.Full line len) t = (t.0, ap (λ (s : SystemSeen). turned old s) t.1)
+step_refused old system a refusals.NoMemory t = (t.0.somebody, ap (λ (s : SystemSeen). turned old s) t.1)
 
-pub lowest_is : (old : SleeperSeen) (system : SystemSeen) (new : SleeperSeen) (turn : Turn) (r : Result Bool PlayEnd)
-    → TurnsBy old.system (lowest_move old.system) turn system → Heeds (turned old system) turn r new
-    → StepsBy old (lowest_move old.system) r new
-lowest_is old system new turn r t h = steps_by old system new (lowest_move old.system) turn r (by_lowest old.system system turn t) h
+pub lowest_refused : (old : SleeperSeen) (system : SystemSeen) (refused : StepRefused) → TurnsBy old.system (lowest_move old.system) (Err refused) system
+    → StepsBy old (lowest_move old.system) (Err refused) (turned old system)
+lowest_refused old system (refusals.Full line len) t = (t.0, ap (λ (s : SystemSeen). turned old s) t.1)
+lowest_refused old system refusals.NoMemory t = (t.0, ap (λ (s : SystemSeen). turned old s) t.1)
 
 -- ---- the lowest thread or processor
 

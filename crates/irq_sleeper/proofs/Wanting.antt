@@ -1,110 +1,72 @@
 -- For which step of a sleep memory was refused.
-use Rattle.std.proofs.Common.{◌≡◌, ℕ, ◌<◌, Bool, false, IsSome, Option, Some, None, Result, Ok, Err, List, ◌++◌, length}
-use Rattle.std.proofs.Common.{drop, get_or, reverse, refl, sym, ap, ◌∙◌, subst}
+use Rattle.std.proofs.Common.{◌≡◌, ℕ, ◌<◌, Bool, IsSome, Option, Some, Result, Ok, Err, List, ◌++◌, length}
+use Rattle.std.proofs.Common.{drop, get_or, reverse, sym, ap, ◌∙◌, subst}
 use Rattle.std.proofs.lemmas.List.{length-reverse}
 use Rattle.irq_base.specs.declared.entries.Actor.{Actor}
 use Rattle.irq_base.specs.declared.entries.Entry.{Entry}
+use Rattle.irq_line.specs.declared.answers.StepRefused.{StepRefused}
+use Rattle.irq_line.specs.declared.answers.StepRefused.TheVariants as refusals
 use Rattle.board_play.specs.Lines.{BoardLine, Move, lines_of}
 use Rattle.board_play.specs.Order.{actors_of, cpus_of, due_move, line_for, threads_of}
-use Rattle.board_play.specs.Play.{first_move, or_move}
+use Rattle.board_play.specs.Play.{first_move}
 use Rattle.board_core.specs.Firsts.{IsFirstOf}
 use Rattle.board_core.specs.Seen.{SystemSeen, board_lines}
-use Rattle.board_core.specs.Turns.{CanMove, MayWant, Turns, TurnsBy, lowest_move, move_of}
-use Rattle.board_core.specs.Wanted.{HasSpare, LowestWants, WantedMemory, Wants, WantsLowest}
-use Rattle.board_core.specs.declared.turns.PlayEnd.{PlayEnd}
-use Rattle.board_core.specs.declared.turns.PlayEnd.TheVariants as ends
-use Rattle.board_core.specs.declared.turns.Turn.{Turn}
-use Rattle.board_core.specs.declared.turns.Turn.TheVariants as turns
+use Rattle.board_core.specs.Turns.{CanMove, Turns, TurnsBy, lowest_move, move_of}
+use Rattle.board_core.specs.Wanted.{HasSpare, LowestWants, WantedMemory, Wants}
 use Rattle.board_core.proofs.Wanting.{may_move}
 use Rattle.irq_pm.specs.Phases.{Phase, Picking, sleep_next}
 use Rattle.irq_pm.specs.SleepLog.{moves_of}
 use Rattle.irq_pm.proofs.Order.{step_of}
 use Rattle.irq_sleeper.specs.Seen.{SleeperSeen, log_of}
-use Rattle.irq_sleeper.specs.Steps.{GoesTo, Heeds, IsUnderway, StepsBy, inner_of}
+use Rattle.irq_sleeper.specs.Steps.{GoesTo, IsUnderway, StepsBy, inner_of}
 use Rattle.irq_sleeper.specs.Wanted.{PlayWants, StepWants, WantsDue}
 use Rattle.irq_sleeper.proofs.Phased.{SleepStep, picked_step}
-use Rattle.irq_sleeper.proofs.Underway.{inner_some, turned}
+use Rattle.irq_sleeper.proofs.Underway.{inner_some}
 
 module _ (may_want : Option Entry → Type 0) where
-  -- ---- what is answered of a turn that was refused memory
+  -- ---- a turn that was refused
 
-  heeded_wants : (old : SleeperSeen) (s : SystemSeen) (due : Option Move) (turn : Turn) (r : Result Bool PlayEnd) (new : SleeperSeen)
-      → Heeds old turn r new → (turn ≡ turns.NoMemory → WantsDue may_want s due) → StepWants may_want s due r
-  heeded_wants old s due turns.NoMemory (Err ends.NoMemory) new h wants = wants refl
-  heeded_wants old s due turns.NotYet (Err ends.NoMemory) new h wants = absurd h
-  heeded_wants old s due (turns.Moved line e) (Err ends.NoMemory) new h wants = absurd h
-  heeded_wants old s due (turns.Full line len) (Err ends.NoMemory) new h wants = absurd h
-  heeded_wants old s due turn (Ok b) new h wants = tt
-  heeded_wants old s due turn (Err ends.Done) new h wants = tt
-  heeded_wants old s due turn (Err (ends.Full line len)) new h wants = tt
+  pub step_wants : (s new : SystemSeen) (a : Actor) (refused : StepRefused) → Turns s a (Err refused) new → Wants may_want s a (Err refused)
+      → StepWants may_want s (move_of s a) (Err refused)
+  step_wants s new a (refusals.Full line len) by wants = tt
+  step_wants s new a refusals.NoMemory by wants = record { actor = a; can = by.0.actor; its = λ m due. due; step = wants }
 
-  pub step_wants : (old : SleeperSeen) (system : SystemSeen) (new : SleeperSeen) (a : Actor) (turn : Turn) (r : Result Bool PlayEnd)
-      → Turns old.system a turn system → Wants may_want old.system a turn → Heeds (turned old system) turn r new
-      → StepWants may_want old.system (move_of old.system a) r
-  step_wants old system new a turn r by wants h =
-      heeded_wants (turned old system) old.system (move_of old.system a) turn r new h (λ same. (
-      let t : MayWant old.system a × (system ≡ old.system) = subst (λ (x : Turn). Turns old.system a x system) same by in
-      record {
-        actor = a;
-        can = t.0.actor;
-        its = λ m due. due;
-        step = subst (λ (x : Turn). Wants may_want old.system a x) same wants;
-      }))
-
-  pub lowest_wants : (old : SleeperSeen) (system : SystemSeen) (new : SleeperSeen) (turn : Turn) (r : Result Bool PlayEnd)
-      → TurnsBy old.system (lowest_move old.system) turn system → LowestWants may_want old.system turn → Heeds (turned old system) turn r new
-      → StepWants may_want old.system (lowest_move old.system) r
-  lowest_wants old system new turn r by wants h =
-      heeded_wants (turned old system) old.system (lowest_move old.system) turn r new h (λ same. (
-      let t : IsSome (lowest_move old.system) × (system ≡ old.system)
-      = subst (λ (x : Turn). TurnsBy old.system (lowest_move old.system) x system) same by in
-      let low : WantsLowest may_want old.system = subst (λ (x : Turn). LowestWants may_want old.system x) same wants in
-      record {
-        actor = low.actor;
-        can = may_move may_want old.system low.actor (subst (λ (o : Option Move). IsSome o) low.lowest t.0);
-        its = λ m due. low.lowest ∙ due;
-        step = low.step;
-      }))
+  pub lowest_wants : (s new : SystemSeen) (refused : StepRefused) → TurnsBy s (lowest_move s) (Err refused) new
+      → LowestWants may_want s (Err refused) → StepWants may_want s (lowest_move s) (Err refused)
+  lowest_wants s new (refusals.Full line len) by wants = tt
+  lowest_wants s new refusals.NoMemory by wants = record {
+    actor = wants.actor;
+    can = may_move may_want s wants.actor (subst (λ (o : Option Move). IsSome o) wants.lowest by.0);
+    its = λ m due. wants.lowest ∙ due;
+    step = wants.step;
+  }
 
   -- ---- whose move was due
 
   -- the same, where a move is due if the other is
-  by_due : (s : SystemSeen) (due more : Option Move) (r : Result Bool PlayEnd) → ((m : Move) → due ≡ Some m → more ≡ Some m)
+  by_due : (s : SystemSeen) (due more : Option Move) (r : Result Bool StepRefused) → ((m : Move) → due ≡ Some m → more ≡ Some m)
       → StepWants may_want s due r → StepWants may_want s more r
   by_due s due more (Ok b) same wants = tt
-  by_due s due more (Err ends.Done) same wants = tt
-  by_due s due more (Err (ends.Full line len)) same wants = tt
-  by_due s due more (Err ends.NoMemory) same wants =
+  by_due s due more (Err (refusals.Full line len)) same wants = tt
+  by_due s due more (Err refusals.NoMemory) same wants =
       record { actor = wants.actor; can = wants.can; its = λ m is. same m (wants.its m is); step = wants.step }
 
-  -- of the one that comes first
-  pub first_wants : (s : SystemSeen) (a b : Option Move) (r : Result Bool PlayEnd) → StepWants may_want s a r → StepWants may_want s (or_move a b) r
-  first_wants s a b r wants = by_due s a (or_move a b) r (λ m is. ap (λ (o : Option Move). or_move o b) is) wants
-
-  -- of the other, where the first has none
-  pub second_wants : (old new : SleeperSeen) (a b : Option Move) (c : Option Move) (r first : Result Bool PlayEnd) → StepsBy old a first new
-      → first ≡ Ok false → c ≡ b → StepWants may_want new.system c r → StepWants may_want old.system (or_move a b) r
-  second_wants old new a b c r first steps is same wants =
-      let rest : (a ≡ None) × (new ≡ old) = subst (λ (x : Result Bool PlayEnd). StepsBy old a x new) is steps in
-      by_due old.system c (or_move a b) r (λ m due. ap (λ (o : Option Move). or_move o b) rest.0 ∙ (sym same ∙ due))
-      (subst (λ (s : SleeperSeen). StepWants may_want s.system c r) rest.1 wants)
-
   -- of the lowest thread or processor
-  pub inner_wants : (s : SystemSeen) (a : Actor) (r : Result Bool PlayEnd) → IsFirstOf s (threads_of s.board ++ cpus_of s.board) (Some a)
+  pub inner_wants : (s : SystemSeen) (a : Actor) (r : Result Bool StepRefused) → IsFirstOf s (threads_of s.board ++ cpus_of s.board) (Some a)
       → StepWants may_want s (move_of s a) r → StepWants may_want s (inner_of s) r
   inner_wants s a r first wants = by_due s (move_of s a) (inner_of s) r (λ m due. inner_some s a first ∙ due) wants
 
   -- ---- a sleep
 
   wants_next : (old new : SleeperSeen) (picks : List Actor) (at after : Phase) (due : Option Move) → IsUnderway old picks at
-      → StepsBy old due (Err ends.NoMemory) new → ((x : Move) → due ≡ Some x
+      → StepsBy old due (Err refusals.NoMemory) new → ((x : Move) → due ≡ Some x
       → sleep_next old.system.board old.watch.armed (reverse old.system.log) at ≡ Some (step_of x, after)) → WantsDue may_want old.system due
-      → PlayWants may_want new picks ends.NoMemory
+      → PlayWants may_want new picks (Err refusals.NoMemory)
   wants_next old new picks at after due u steps next wants =
       let b = old.system.board in
       let told : reverse old.system.log ≡ moves_of (reverse (log_of old)) = sym u.told.told in
       let lines : board_lines old.system.lines ≡ lines_of b (moves_of (reverse (log_of old))) = u.told.lines ∙ ap (λ (g : List Move). lines_of b g) told in
-      subst (λ (s : SleeperSeen). PlayWants may_want s picks ends.NoMemory) (sym steps.1)
+      subst (λ (s : SleeperSeen). PlayWants may_want s picks (Err refusals.NoMemory)) (sym steps.1)
       (record {
         at = u.phase;
         so_far = u.made;
@@ -124,20 +86,19 @@ module _ (may_want : Option Entry → Type 0) where
       })
 
   -- a step that ends the sleep
-  pub stop_wants : {first old new : SleeperSeen} {picks : List Actor} {at after : Phase} {r : Result Bool PlayEnd}
-      (s : SleepStep first old new picks at after r) {end : PlayEnd} → r ≡ Err end → StepWants may_want old.system s.due r
-      → PlayWants may_want new picks end
-  stop_wants {first} {old} {new} {picks} {at} {after} {r} s {end} is wants = by_end end is
+  pub stop_wants : {first old new : SleeperSeen} {picks : List Actor} {at after : Phase} {r : Result Bool StepRefused}
+      (s : SleepStep first old new picks at after r) {refused : StepRefused} → r ≡ Err refused → StepWants may_want old.system s.due r
+      → PlayWants may_want new picks (Err refused)
+  stop_wants {first} {old} {new} {picks} {at} {after} {r} s {refused} is wants = by_refusal refused is
     where
-      by_end : (end : PlayEnd) → r ≡ Err end → PlayWants may_want new picks end
-      by_end ends.Done is = tt
-      by_end (ends.Full line len) is = tt
-      by_end ends.NoMemory is =
-          wants_next old new picks at after s.due s.goes.1 (subst (λ (x : Result Bool PlayEnd). StepsBy old s.due x new) is s.steps) s.next
-          (subst (λ (x : Result Bool PlayEnd). StepWants may_want old.system s.due x) is wants)
+      by_refusal : (refused : StepRefused) → r ≡ Err refused → PlayWants may_want new picks (Err refused)
+      by_refusal (refusals.Full line len) is = tt
+      by_refusal refusals.NoMemory is =
+          wants_next old new picks at after s.due s.goes.1 (subst (λ (x : Result Bool StepRefused). StepsBy old s.due x new) is s.steps) s.next
+          (subst (λ (x : Result Bool StepRefused). StepWants may_want old.system s.due x) is wants)
 
   pub pick_wants : {first : SleeperSeen} (old new : SleeperSeen) {picks : List Actor} {i : ℕ} (d : Actor) (within : i < length picks)
-      (u : GoesTo first old picks (Picking (drop i picks))) (r : Result Bool PlayEnd)
-      (steps : StepsBy old (move_of old.system (get_or picks i d)) r new) {end : PlayEnd} → r ≡ Err end
-      → StepWants may_want old.system (move_of old.system (get_or picks i d)) r → PlayWants may_want new picks end
+      (u : GoesTo first old picks (Picking (drop i picks))) (r : Result Bool StepRefused)
+      (steps : StepsBy old (move_of old.system (get_or picks i d)) r new) {refused : StepRefused} → r ≡ Err refused
+      → StepWants may_want old.system (move_of old.system (get_or picks i d)) r → PlayWants may_want new picks (Err refused)
   pick_wants old new d within u r steps is wants = stop_wants (picked_step {old = old} {new = new} d within u {r = r} steps) is wants

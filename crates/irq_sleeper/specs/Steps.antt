@@ -3,13 +3,13 @@ use Rattle.std.specs.Prelude.{◌≡◌, ◌≤◌, Bool, true, false, IfSome, I
 use Rattle.std.specs.Prelude.{Result, Ok, Err, List, ◌∷◌, length, reverse}
 use Rattle.irq_base.specs.declared.entries.Actor.{Actor}
 use Rattle.irq_base.specs.declared.numbers.LineNo.{LineNo}
+use Rattle.irq_line.specs.declared.answers.StepRefused.{StepRefused}
+use Rattle.irq_line.specs.declared.answers.StepRefused.TheVariants as refusals
 use Rattle.board_core.specs.Playing.{IsFresh as IsFreshSystem}
 use Rattle.board_core.specs.Seen.{SystemSeen, board_lines}
 use Rattle.board_core.specs.Turns.{Moves, IsFullFor, lowest_move}
 use Rattle.board_core.specs.declared.turns.Turn.{Turn}
 use Rattle.board_core.specs.declared.turns.Turn.TheVariants as turns
-use Rattle.board_core.specs.declared.turns.PlayEnd.{PlayEnd}
-use Rattle.board_core.specs.declared.turns.PlayEnd.TheVariants as ends
 use Rattle.board_play.specs.Lines.{Move, lines_of, part}
 use Rattle.board_play.specs.Play.{Done, Full}
 use Rattle.play_orders.specs.Orders.{IsMade}
@@ -61,36 +61,36 @@ pub record Heeded (old : SleeperSeen) (new : SleeperSeen) : Type 0 where
   pub asleep : new.asleep ≡ old.asleep
   pub wake : new.wake ≡ old.wake
 
--- what is answered and left after a turn
-abbrev pub Heeds : SleeperSeen → Turn → Result Bool PlayEnd → SleeperSeen → Type 0
-Heeds old (turns.Moved line e) (Ok true) new = Heeded old new
+-- what is answered and left after a turn: whether it made a move
+abbrev pub Heeds : SleeperSeen → Turn → Bool → SleeperSeen → Type 0
+Heeds old (turns.Moved line e) made new = (made ≡ true) × Heeded old new
     × ((g : List Move) → Watches old.watch g → Watches new.watch ((line, e) ∷ g))
-Heeds old turns.NotYet (Ok false) new = new ≡ old
-Heeds old (turns.Full line len) (Err (ends.Full other n)) new =
-    (line ≡ other) × (len ≡ n) × (new ≡ old)
-Heeds old turns.NoMemory (Err ends.NoMemory) new = new ≡ old
-Heeds old _ _ new = ⊥
+Heeds old turns.NotYet made new = (made ≡ false) × (new ≡ old)
+
+-- the move that is due wasn't made: its line has no room, or memory was needed, which it is only
+-- while somebody can move
+abbrev pub IsRefused : SystemSeen → Option Move → StepRefused → Type 0
+IsRefused s due (refusals.Full line len) = IsFullFor s due line len
+IsRefused s due refusals.NoMemory = IsSome (lowest_move s)
 
 -- what a step answers and leaves, true if a move was made; `due` is the move to be made, if there
--- is one; memory is needed only while somebody can move
-abbrev pub StepsBy : SleeperSeen → Option Move → Result Bool PlayEnd → SleeperSeen → Type 0
+-- is one
+abbrev pub StepsBy : SleeperSeen → Option Move → Result Bool StepRefused → SleeperSeen → Type 0
 StepsBy old due (Ok true) new = Watched old due new
 StepsBy old due (Ok false) new = (due ≡ None) × (new ≡ old)
-StepsBy old due (Err (ends.Full line len)) new = IsFullFor old.system due line len × (new ≡ old)
-StepsBy old due (Err ends.NoMemory) new = IsSome (lowest_move old.system) × (new ≡ old)
-StepsBy old due (Err ends.Done) new = ⊥
+StepsBy old due (Err refused) new = IsRefused old.system due refused × (new ≡ old)
 
 -- ---- a sleep
 
 -- The log is the sleep of the board with these picks, done or full as was answered; a full one says
 -- the length. If memory was refused it is the sleep so far, and somebody can move.
-abbrev pub IsSleep : SleeperSeen → List Actor → PlayEnd → Type 0
-IsSleep s picks ends.Done =
+abbrev pub IsSleep : SleeperSeen → List Actor → Result Unit StepRefused → Type 0
+IsSleep s picks (Ok _) =
     Sleeps s.system.board s.watch.armed picks (reverse (log_of s)) Done
-IsSleep s picks (ends.Full line len) =
+IsSleep s picks (Err (refusals.Full line len)) =
     Sleeps s.system.board s.watch.armed picks (reverse (log_of s)) (Full line)
     × (length (part line (reverse s.system.log)) ≡ len)
-IsSleep s picks ends.NoMemory =
+IsSleep s picks (Err refusals.NoMemory) =
     (at : Phase) × IsMade (sleep_order s.system.board s.watch.armed) (Picking picks)
     (reverse (log_of s)) at × IsSome (lowest_move s.system)
 
@@ -132,8 +132,20 @@ abbrev pub GoesTo : SleeperSeen → SleeperSeen → List Actor → Phase → Typ
 GoesTo first new picks at = Stays first new × IsUnderway new picks at
 
 -- or it ends so
-abbrev pub EndsIn : SleeperSeen → SleeperSeen → List Actor → PlayEnd → Type 0
+abbrev pub EndsIn : SleeperSeen → SleeperSeen → List Actor → Result Unit StepRefused → Type 0
 EndsIn first new picks end = Stays first new × (IsTold new × IsSleep new picks end)
+
+-- it goes on to this phase, or a step is refused
+abbrev pub Reaches : SleeperSeen → SleeperSeen → List Actor → Phase → Result Unit StepRefused
+    → Type 0
+Reaches first new picks at (Ok _) = GoesTo first new picks at
+Reaches first new picks at (Err refused) = EndsIn first new picks (Err refused)
+
+-- the lines are asleep, if that is answered; or no step is left before, or one is refused
+abbrev pub Suspends : SleeperSeen → SleeperSeen → List Actor → Result Bool StepRefused → Type 0
+Suspends first new picks (Ok true) = GoesTo first new picks Asleep
+Suspends first new picks (Ok false) = EndsIn first new picks (Ok tt)
+Suspends first new picks (Err refused) = EndsIn first new picks (Err refused)
 
 -- a mark is set behind the log
 abbrev pub IsAsleep : SleeperSeen → SleeperSeen → Type 0

@@ -3,6 +3,8 @@ use Rattle.std.specs.Prelude.{◌≡◌, Bool, IsSome, Option, Some, Result, Err
 use Rattle.irq_base.specs.declared.entries.Actor.{Actor}
 use Rattle.irq_base.specs.declared.entries.Entry.{Entry}
 use Rattle.irq_base.specs.declared.numbers.LineNo.{LineNo}
+use Rattle.irq_line.specs.declared.answers.StepRefused.{StepRefused}
+use Rattle.irq_line.specs.declared.answers.StepRefused.TheVariants as refusals
 use Rattle.board_def.specs.Seen.{BoardSeen}
 use Rattle.board_play.specs.Lines.{Move, lines_of}
 use Rattle.board_play.specs.Order.{actors_of, due_move, line_for}
@@ -10,8 +12,6 @@ use Rattle.board_play.specs.Play.{first_move}
 use Rattle.board_core.specs.Seen.{SystemSeen, board_lines}
 use Rattle.board_core.specs.Turns.{CanMove, MayMove, move_of}
 use Rattle.board_core.specs.Wanted.{HasSpare, WantedMemory}
-use Rattle.board_core.specs.declared.turns.PlayEnd.{PlayEnd}
-use Rattle.board_core.specs.declared.turns.PlayEnd.TheVariants as ends
 use Rattle.play_orders.specs.Orders.{IsMade}
 use Rattle.irq_pm.specs.Phases.{Phase, Picking, sleep_next, sleep_order}
 use Rattle.irq_pm.specs.SleepLog.{moves_of}
@@ -29,9 +29,9 @@ pub record WantsDue (may_want : Option Entry → Type 0) (s : SystemSeen) (due :
   pub step : WantedMemory may_want (HasSpare s.lines) (length s.log)
       (line_for s.board (board_lines s.lines) actor) actor
 
-abbrev pub StepWants : (Option Entry → Type 0) → SystemSeen → Option Move → Result Bool PlayEnd
-    → Type 0
-StepWants may_want s due (Err ends.NoMemory) = WantsDue may_want s due
+abbrev pub StepWants : (Option Entry → Type 0) → SystemSeen → Option Move
+    → Result Bool StepRefused → Type 0
+StepWants may_want s due (Err refusals.NoMemory) = WantsDue may_want s due
 StepWants may_want s due _ = Unit {0}
 
 -- The board was put to sleep with these picks, these lines armed and these steps, the oldest first,
@@ -50,7 +50,8 @@ pub record WantsNext (may_want : Option Entry → Type 0) (room : LineNo → Typ
   pub step : WantedMemory may_want room (length (moves_of (reverse g)))
       (line_for b (lines_of b (moves_of (reverse g))) actor) actor
 
-abbrev pub PlayWants : (Option Entry → Type 0) → SleeperSeen → List Actor → PlayEnd → Type 0
-PlayWants may_want s picks ends.NoMemory =
+abbrev pub PlayWants : (Option Entry → Type 0) → SleeperSeen → List Actor
+    → Result Unit StepRefused → Type 0
+PlayWants may_want s picks (Err refusals.NoMemory) =
     WantsNext may_want (HasSpare s.system.lines) s.system.board s.watch.armed picks (log_of s)
 PlayWants may_want s picks end = Unit {0}

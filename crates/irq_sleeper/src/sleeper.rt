@@ -1,5 +1,5 @@
 //! The lines of a board, put to sleep and woken.
-ghost use Rattle.std.specs.Prelude.{◌≡◌, IfErr, IfOk, OnOk};
+ghost use Rattle.std.specs.Prelude.{◌≡◌, Err, IfErr, IfOk};
 ghost use Rattle.board_core.specs.Making.{MakesAll};
 ghost use Rattle.board_core.specs.Seen.{board_lines};
 ghost use Rattle.board_core.specs.Turns.{move_of, lowest_move};
@@ -12,6 +12,7 @@ ghost use Rattle.irq_pm.specs.Phases.{Disabling, Asleep, Enabling, Going, asks_n
 ghost use Rattle.irq_pm.specs.Phases.{first_asking, is_disable_due};
 ghost use Rattle.irq_sleeper.specs.Seen.{log_of};
 ghost use Rattle.irq_sleeper.specs.Steps.{EndsIn, GoesTo, Heeds, IsAsleep, IsFresh, IsSleep};
+ghost use Rattle.irq_sleeper.specs.Steps.{Reaches, Suspends};
 ghost use Rattle.irq_sleeper.specs.Hearing.{HearsOn};
 ghost use Rattle.irq_sleeper.specs.Steps.{IsTold, IsUnderway, IsWoken, Stays, StepsBy, ask_of};
 ghost use Rattle.irq_sleeper.specs.Steps.{inner_of, last_of};
@@ -20,11 +21,11 @@ ghost use Rattle.irq_sleeper.specs.Wanted.{PlayWants, StepWants};
 use crate::marks::WakeMark;
 use crate::walk::SleepWalk;
 use crate::watch::{SYSTEM, Watch};
-use board_core::{PlayEnd, System, Turn};
+use board_core::{System, Turn};
 use board_def::{Board, Layout};
 use callbacks::Handler;
 use irq_base::{Actor, Call, DriverNo, LineNo, NoMemory};
-use irq_line::{IrqLine, MakesLine};
+use irq_line::{IrqLine, MakesLine, StepRefused};
 use std::alloc::Global;
 use std::marker::Model;
 
@@ -80,8 +81,9 @@ impl<'b, L: IrqLine> Sleeper<'b, L> {
 
     /// Plays the picks, puts the lines to sleep, lets devices ask until the machine wakes, opens
     /// the lines, and plays on to the end (`enter_state`, `kernel/power/suspend.c`). A pick that
-    /// can't move is passed over.
-    pub fn play<H: Handler>(&mut self, picks: &[Actor], handlers: &mut H) -> PlayEnd
+    /// can't move is passed over. The play ends early if the system's driver waits for ever, and
+    /// with an error if a step is refused.
+    pub fn play<H: Handler>(&mut self, picks: &[Actor], handlers: &mut H) -> Result<(), StepRefused>
         requires { IsFresh self.old }
         ensures stays { Stays self.old self.new }
         ensures told { IsTold self.new }
@@ -89,85 +91,71 @@ impl<'b, L: IrqLine> Sleeper<'b, L> {
         ensures heard { Heard H.hears (runs_in self.new.system) handlers.old handlers.new }
         ensures memory { PlayWants L.may_want self.new picks.now result }
     {
-        match self.play_phases(picks, handlers) {
-            Ok(()) => PlayEnd::Done,
-            Err(end) => end,
-        }
-    }
-
-    /// The phases, one after another; an error is another end than the last phase's.
-    fn play_phases<H: Handler>(&mut self, picks: &[Actor], handlers: &mut H) -> Result<(), PlayEnd>
-        requires { IsFresh self.old }
-        ensures done { OnOk result (EndsIn self.old self.new picks.now PlayEnd.Done) }
-        ensures ends { IfErr result (EndsIn self.old self.new picks.now) }
-        ensures heard { HearsOn H.hears self.old handlers.old self.new handlers.new }
-        ensures memory { IfErr result (PlayWants L.may_want self.new picks.now) }
-    {
         self.make_picks(picks, handlers)?;
-        self.suspend(picks, handlers)?;
+        if !self.suspend(picks, handlers)? {
+            return Ok(());
+        }
         self.sleep(picks, handlers)?;
         self.resume(picks, handlers)?;
         self.go_on(picks, handlers)
     }
 
     /// The picks in turn.
-    fn make_picks<H: Handler>(&mut self, picks: &[Actor], handlers: &mut H) -> Result<(), PlayEnd>
+    fn make_picks<H: Handler>(
+        &mut self,
+        picks: &[Actor],
+        handlers: &mut H,
+    ) -> Result<(), StepRefused>
         requires { IsFresh self.old }
-        ensures goes { OnOk result (GoesTo self.old self.new picks.now Disabling) }
-        ensures ends { IfErr result (EndsIn self.old self.new picks.now) }
+        ensures reaches { Reaches self.old self.new picks.now Disabling result }
         ensures heard { HearsOn H.hears self.old handlers.old self.new handlers.new }
-        ensures memory { IfErr result (PlayWants L.may_want self.new picks.now) }
+        ensures memory { PlayWants L.may_want self.new picks.now result }
     {
         for pick in picks {
-            match self.step(*pick, handlers) {
-                Ok(_) => {}
-                Err(end) => return Err(end),
-            }
+            self.step(*pick, handlers)?;
         }
         Ok(())
     }
 
     /// The system's driver disables each line, and waits for its handlers and threads
-    /// (`suspend_device_irqs`, `kernel/irq/pm.c`). `picks`: those that were made.
-    fn suspend<H: Handler>(&mut self, picks: &[Actor], handlers: &mut H) -> Result<(), PlayEnd>
+    /// (`suspend_device_irqs`, `kernel/irq/pm.c`). Answers whether the machine is asleep; if not,
+    /// the driver waits for ever. `picks`: those that were made.
+    fn suspend<H: Handler>(
+        &mut self,
+        picks: &[Actor],
+        handlers: &mut H,
+    ) -> Result<bool, StepRefused>
         requires { IsUnderway self.old picks.now Disabling }
-        ensures goes { OnOk result (GoesTo self.old self.new picks.now Asleep) }
-        ensures ends { IfErr result (EndsIn self.old self.new picks.now) }
+        ensures reaches { Suspends self.old self.new picks.now result }
         ensures heard { HearsOn H.hears self.old handlers.old self.new handlers.new }
-        ensures memory { IfErr result (PlayWants L.may_want self.new picks.now) }
+        ensures memory { IfErr result
+            (λ refused. PlayWants L.may_want self.new picks.now (Err refused)) }
     {
         while self.is_disabling() {
-            match self.step_disabling(handlers) {
-                Ok(true) => {}
-                Ok(false) => return Err(PlayEnd::Done),
-                Err(end) => return Err(end),
+            if !self.step_disabling(handlers)? {
+                return Ok(false);
             }
         }
         self.fall_asleep();
-        Ok(())
+        Ok(true)
     }
 
     /// Devices ask, and interrupts are taken, until an armed line wakes the machine, or nothing is
     /// left to happen.
-    fn sleep<H: Handler>(&mut self, picks: &[Actor], handlers: &mut H) -> Result<(), PlayEnd>
+    fn sleep<H: Handler>(&mut self, picks: &[Actor], handlers: &mut H) -> Result<(), StepRefused>
         requires { IsUnderway self.old picks.now Asleep }
-        ensures goes { OnOk result (GoesTo self.old self.new picks.now Enabling) }
-        ensures ends { IfErr result (EndsIn self.old self.new picks.now) }
+        ensures reaches { Reaches self.old self.new picks.now Enabling result }
         ensures heard { HearsOn H.hears self.old handlers.old self.new handlers.new }
-        ensures memory { IfErr result (PlayWants L.may_want self.new picks.now) }
+        ensures memory { PlayWants L.may_want self.new picks.now result }
     {
         loop {
             if let Some(line) = self.watch.woken() {
                 self.wake_by(Some(line));
                 return Ok(());
             }
-            match self.step_asleep(handlers) {
-                Ok(true) => {}
-                Ok(false) => {
-                    self.wake_by(None);
-                    return Ok(());
-                }
-                Err(end) => return Err(end),
+            if !self.step_asleep(handlers)? {
+                self.wake_by(None);
+                return Ok(());
             }
         }
     }
@@ -190,63 +178,51 @@ impl<'b, L: IrqLine> Sleeper<'b, L> {
     }
 
     /// The system's driver enables each line (`resume_device_irqs`, `kernel/irq/pm.c`).
-    fn resume<H: Handler>(&mut self, picks: &[Actor], handlers: &mut H) -> Result<(), PlayEnd>
+    fn resume<H: Handler>(&mut self, picks: &[Actor], handlers: &mut H) -> Result<(), StepRefused>
         requires { IsUnderway self.old picks.now Enabling }
-        ensures goes { OnOk result (GoesTo self.old self.new picks.now Going) }
-        ensures ends { IfErr result (EndsIn self.old self.new picks.now) }
+        ensures reaches { Reaches self.old self.new picks.now Going result }
         ensures heard { HearsOn H.hears self.old handlers.old self.new handlers.new }
-        ensures memory { IfErr result (PlayWants L.may_want self.new picks.now) }
+        ensures memory { PlayWants L.may_want self.new picks.now result }
     {
-        loop {
-            match self.step(Actor::Driver(SYSTEM), handlers) {
-                Ok(true) => {}
-                Ok(false) => return Ok(()),
-                Err(end) => return Err(end),
-            }
-        }
+        while self.step(Actor::Driver(SYSTEM), handlers)? {}
+        Ok(())
     }
 
     /// Steps of the lowest actor that can move, until none can.
-    fn go_on<H: Handler>(&mut self, picks: &[Actor], handlers: &mut H) -> Result<(), PlayEnd>
+    fn go_on<H: Handler>(&mut self, picks: &[Actor], handlers: &mut H) -> Result<(), StepRefused>
         requires { IsUnderway self.old picks.now Going }
-        ensures done { OnOk result (EndsIn self.old self.new picks.now PlayEnd.Done) }
-        ensures ends { IfErr result (EndsIn self.old self.new picks.now) }
+        ensures ends { EndsIn self.old self.new picks.now result }
         ensures heard { HearsOn H.hears self.old handlers.old self.new handlers.new }
-        ensures memory { IfErr result (PlayWants L.may_want self.new picks.now) }
+        ensures memory { PlayWants L.may_want self.new picks.now result }
     {
-        loop {
-            match self.step_lowest(handlers) {
-                Ok(true) => {}
-                Ok(false) => return Ok(()),
-                Err(end) => return Err(end),
-            }
-        }
+        while self.step_lowest(handlers)? {}
+        Ok(())
     }
 
-    /// One step of the actor, if it can move. An error is the play's end.
-    fn step<H: Handler>(&mut self, actor: Actor, handlers: &mut H) -> Result<bool, PlayEnd>
+    /// One step of the actor. Answers whether it could move.
+    fn step<H: Handler>(&mut self, actor: Actor, handlers: &mut H) -> Result<bool, StepRefused>
         ensures steps { StepsBy self.old (move_of self.old.system actor) result self.new }
         ensures heard { HearsOn H.hears self.old handlers.old self.new handlers.new }
         ensures memory { StepWants L.may_want self.old.system (move_of self.old.system actor)
             result }
     {
-        let turn = self.system.turn(actor, handlers);
-        self.heed(turn)
+        let turn = self.system.turn(actor, handlers)?;
+        Ok(self.heed(turn))
     }
 
     /// One step of the lowest actor that can move, if one can.
-    fn step_lowest<H: Handler>(&mut self, handlers: &mut H) -> Result<bool, PlayEnd>
+    fn step_lowest<H: Handler>(&mut self, handlers: &mut H) -> Result<bool, StepRefused>
         ensures steps { StepsBy self.old (lowest_move self.old.system) result self.new }
         ensures heard { HearsOn H.hears self.old handlers.old self.new handlers.new }
         ensures memory { StepWants L.may_want self.old.system (lowest_move self.old.system) result }
     {
-        let turn = self.system.turn_lowest(handlers);
-        self.heed(turn)
+        let turn = self.system.turn_lowest(handlers)?;
+        Ok(self.heed(turn))
     }
 
     /// One step of the system's driver, or, while that waits, of the lowest thread or processor
     /// that can move.
-    fn step_disabling<H: Handler>(&mut self, handlers: &mut H) -> Result<bool, PlayEnd>
+    fn step_disabling<H: Handler>(&mut self, handlers: &mut H) -> Result<bool, StepRefused>
         ensures steps { StepsBy self.old (or_move (last_of self.old.system)
             (inner_of self.old.system))
             result self.new }
@@ -262,7 +238,7 @@ impl<'b, L: IrqLine> Sleeper<'b, L> {
 
     /// One step of the lowest thread or processor that can move, or else of the lowest driver of a
     /// device that asks.
-    fn step_asleep<H: Handler>(&mut self, handlers: &mut H) -> Result<bool, PlayEnd>
+    fn step_asleep<H: Handler>(&mut self, handlers: &mut H) -> Result<bool, StepRefused>
         ensures steps { StepsBy self.old (or_move (inner_of self.old.system)
             (ask_of self.old.system))
             result self.new }
@@ -280,7 +256,7 @@ impl<'b, L: IrqLine> Sleeper<'b, L> {
     }
 
     /// One step of the lowest thread or processor that can move, if one can.
-    fn step_inner<H: Handler>(&mut self, handlers: &mut H) -> Result<bool, PlayEnd>
+    fn step_inner<H: Handler>(&mut self, handlers: &mut H) -> Result<bool, StepRefused>
         ensures steps { StepsBy self.old (inner_of self.old.system) result self.new }
         ensures heard { HearsOn H.hears self.old handlers.old self.new handlers.new }
         ensures memory { StepWants L.may_want self.old.system (inner_of self.old.system) result }
@@ -332,18 +308,16 @@ impl<'b, L: IrqLine> Sleeper<'b, L> {
         }
     }
 
-    /// Takes note of what a turn did. An error is the play's end.
-    fn heed(&mut self, turn: Turn) -> Result<bool, PlayEnd>
+    /// Takes note of what a turn did. Answers whether it made a move.
+    fn heed(&mut self, turn: Turn) -> bool
         ensures { Heeds self.old turn result self.new }
     {
         match turn {
             Turn::Moved { line, entry } => {
                 self.watch.note(line, entry);
-                Ok(true)
+                true
             }
-            Turn::NotYet => Ok(false),
-            Turn::Full { line, len } => Err(PlayEnd::Full { line, len }),
-            Turn::NoMemory => Err(PlayEnd::NoMemory),
+            Turn::NotYet => false,
         }
     }
 

@@ -1,5 +1,5 @@
 -- What a command does that takes a board.
-use Rattle.std.proofs.Common.{◌≡◌, ℕ, Bool, false, inr, Option, Some, None, Result, Ok, Err, List, refl, sym, subst}
+use Rattle.std.proofs.Common.{◌≡◌, ℕ, Bool, true, false, inr, is_ok, OnOk, ◌∙◌, Option, Some, None, Result, Ok, Err, List, refl, sym, subst}
 use Rattle.irq_base.specs.declared.reporting.LineReport.{LineReport}
 use Rattle.board_words.specs.declared.faults.FaultKind.{FaultKind}
 use Rattle.play_report.specs.declared.failing.PlayFailed.{PlayFailed}
@@ -10,7 +10,8 @@ use Rattle.irq_top.specs.declared.ending.Ending.{Ending}
 use Rattle.irq_top.specs.declared.ending.Ending.TheVariants as endings
 use Rattle.irq_top.specs.Commands.{EndsAs, EndsIfFit, IsReadToEnd, TakesBoard, TakesInput}
 use Rattle.irq_top.specs.Commands.{TellsPlay, TellsTaken}
-use Rattle.irq_top.specs.Ending.{ending_of_play, ending_of_refusal, is_read_fault_end}
+use Rattle.irq_top.specs.Ending.{ending_of_play, ending_of_refusal, is_printed, is_printing, is_read_fault_end, is_write_fault_end}
+use Rattle.play_report.specs.Failing.{is_write_fault, is_printing as play_is_printing}
 use Rattle.program_io.specs.Reading.{IsStated, ReadsBoard}
 use Rattle.program_io.specs.declared.inputs.InputRefused.{InputRefused}
 use Rattle.program_io.specs.declared.inputs.InputRefused.TheVariants as refusals
@@ -44,6 +45,29 @@ plays_read_nothing (Ok _) = refl
 plays_read_nothing (Err plays.NoMemory) = refl
 plays_read_nothing (Err (plays.Step refused)) = refl
 plays_read_nothing (Err (plays.Write failed)) = refl
+
+pub plays_are_printed : (end : Result Unit PlayFailed) → is_printed (ending_of_play end) ≡ is_ok end
+plays_are_printed (Ok _) = refl
+plays_are_printed (Err plays.NoMemory) = refl
+plays_are_printed (Err (plays.Step refused)) = refl
+plays_are_printed (Err (plays.Write failed)) = refl
+
+pub plays_meet_faults : (end : Result Unit PlayFailed) → is_write_fault_end (ending_of_play end) ≡ is_write_fault end
+plays_meet_faults (Ok _) = refl
+plays_meet_faults (Err plays.NoMemory) = refl
+plays_meet_faults (Err (plays.Step refused)) = refl
+plays_meet_faults (Err (plays.Write failed)) = refl
+
+pub plays_may_be_printed : (end : Result Unit PlayFailed) → is_printing (ending_of_play end) ≡ play_is_printing end
+plays_may_be_printed (Ok _) = refl
+plays_may_be_printed (Err plays.NoMemory) = refl
+plays_may_be_printed (Err (plays.Step refused)) = refl
+plays_may_be_printed (Err (plays.Write failed)) = refl
+
+-- what holds of a play that came to its end and was printed holds of such an ending
+pub of_printed : {P : Type 0} (end : Result Unit PlayFailed) {printed : Bool} → printed ≡ is_ok end → OnOk end P → printed ≡ true → P
+of_printed (Ok u) is holds yes = holds
+of_printed (Err failed) is holds yes = cc
 
 -- the call ends as the play did
 module _ (IsntFor : BoardSeen → Type 0) (nobody : Type 0) (kind : FaultKind)

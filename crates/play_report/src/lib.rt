@@ -3,8 +3,8 @@
 //!
 //! What is answered and printed, by how the play ended, stands in `specs/Answers.antt`, what is
 //! printed of moves in `specs/Report.antt`. What holds of a play by a stated order and of its
-//! reports stands in `specs/Ordered.antt`: a scenario brings its order, what its steps keep besides,
-//! and the rows of those steps that move no line.
+//! reports stands in `specs/Ordered.antt`. A scenario brings its order, what its steps keep
+//! besides, and the rows of those steps that move no line.
 #![tactic(auto)]
 
 pub mod ended;

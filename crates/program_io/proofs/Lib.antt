@@ -1,2 +1,3 @@
 mod Stated
 mod Telling
+pub mod Unbuffered

@@ -1,5 +1,6 @@
 -- Writings in parts.
-use Rattle.std.proofs.Common.{◌≡◌, ℕ, zero, suc, ◌<◌, Option, Some, List, [], ◌∷◌, ◌++◌, length, get_or, slice_get, codes, decimal, refl, subst, arith, Result, Ok, Err}
+use Rattle.std.proofs.Common.{◌≡◌, ℕ, zero, suc, ◌<◌, Option, Some, List, [], ◌∷◌, ◌++◌, length, get_or, slice_get}
+use Rattle.std.proofs.Common.{codes, decimal, refl, subst, arith, Result, Ok, Err}
 use Rattle.irq_io.specs.declared.whole.WriteFailed.{WriteFailed}
 use Rattle.irq_io.specs.Whole.{WritesAll}
 use Rattle.board_report.proofs.Writing.{and_then, failed_within}

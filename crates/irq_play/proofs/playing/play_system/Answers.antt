@@ -7,4 +7,4 @@ use Rattle.irq_play.proofs.playing.play_system.Goals as goal
 pub returns-clause-heard : goal.returns-clause-heard
 returns-clause-heard g c =
     subst (λ (b : BoardSeen). Heard g.H.Handler.hears (runs_of b (reverse c.play-end.new.self.log)) c.args.handlers.now c.play-end.new.handlers)
-    (c.play-end.ensures.board ∙ c.in_ok-ready_system.ensures.board) c.play-end.ensures.heard
+    (c.play-end.ensures.board ∙ c.in_ok-system.ensures.board) c.play-end.ensures.heard

@@ -4,7 +4,7 @@ use Rattle.callbacks.specs.Heard.{Heard}
 use Rattle.hotplug_plan.specs.Planned.{IsForHotplug}
 use Rattle.hotplug_play.specs.Played.{HotplugsBoard, planned_after}
 use Rattle.irq_play.specs.Played.{TellsStep}
-use Rattle.irq_top.proofs.Outcomes.{ends_as_played, tells_as_played}
+use Rattle.irq_top.proofs.Outcomes.{of_printed, ends_as_played, tells_as_played}
 use Rattle.irq_top.specs.Commands.{CallsNobody}
 use Rattle.notifiers.specs.Told.{Told}
 use Rattle.irq_top.proofs.commands.hotplug_board.Goals as goal
@@ -25,3 +25,6 @@ returns-in-Ok-clause-wanted g c =
     tells_as_played (λ (b : BoardSeen). TellsStep g.M.Line.IrqLine.may_want (planned_after b c.args.vectors c.args.events.now)) c.args.board
     c.in-Ok.played.reports.reports c.of_play.result.reports.reports
     c.in-Ok.played.end c.of_play.result.ending c.of_play.ensures.ending c.of_play.ensures.reports c.in-Ok.ensures.step
+
+pub returns-in-Ok-clause-emptied : goal.returns-in-Ok-clause-emptied
+returns-in-Ok-clause-emptied g c = of_printed c.in-Ok.played.end c.of_play.ensures.printed c.in-Ok.ensures.emptied

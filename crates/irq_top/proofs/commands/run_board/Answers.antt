@@ -1,5 +1,5 @@
 use Rattle.irq_run.specs.Ran.{RunsBoard, TellsStep}
-use Rattle.irq_top.proofs.Outcomes.{ends_as_any_play, tells_as_played}
+use Rattle.irq_top.proofs.Outcomes.{of_printed, ends_as_any_play, tells_as_played}
 use Rattle.irq_top.proofs.commands.run_board.Goals as goal
 
 pub returns-clause-runs : goal.returns-clause-runs
@@ -13,3 +13,6 @@ returns-clause-wanted g c =
     tells_as_played (TellsStep g.M.Line.IrqLine.may_want) c.args.board.now c.run_and_print.result.reports.reports
     c.of_play.result.reports.reports c.run_and_print.result.end c.of_play.result.ending c.of_play.ensures.ending c.of_play.ensures.reports
     c.run_and_print.ensures.step
+
+pub returns-clause-emptied : goal.returns-clause-emptied
+returns-clause-emptied g c = of_printed c.run_and_print.result.end c.of_play.ensures.printed c.run_and_print.ensures.emptied

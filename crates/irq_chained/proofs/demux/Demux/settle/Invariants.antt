@@ -6,8 +6,8 @@ use Rattle.irq_chained.specs.Turned.{IsUnderway}
 use Rattle.irq_chained.proofs.Playing.{measure}
 use Rattle.irq_chained.proofs.demux.Demux.settle.Given as goal
 
-abbrev pub invariant-loop-line : goal.invariant-loop-line
-invariant-loop-line g l = record {
+abbrev pub invariant-loop : goal.invariant-loop
+invariant-loop g l = record {
   board : l.self.board ≡ l.fn.self.board;
   layout : l.self.layout ≡ l.fn.self.layout;
   underway : (picks : List Actor) → IsUnderway l.fn.self picks [] → IsUnderway l.self picks [];
@@ -15,5 +15,5 @@ invariant-loop-line g l = record {
       → Heard g.H.Handler.hears (runs_in l.self) first l.handlers;
 }
 
-abbrev pub decreases-loop-line : goal.decreases-loop-line
-decreases-loop-line g l = measure l.self
+abbrev pub decreases-loop : goal.decreases-loop
+decreases-loop g l = measure l.self

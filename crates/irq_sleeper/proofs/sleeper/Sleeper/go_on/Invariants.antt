@@ -4,11 +4,11 @@ use Rattle.irq_sleeper.specs.Steps.{GoesTo}
 use Rattle.irq_sleeper.proofs.Underway.{room_of}
 use Rattle.irq_sleeper.proofs.sleeper.Sleeper.go_on.Given as goal
 
-abbrev pub invariant-loop-end : goal.invariant-loop-end
-invariant-loop-end g l = record {
+abbrev pub invariant-loop : goal.invariant-loop
+invariant-loop g l = record {
   goes : GoesTo l.fn.self l.self l.picks Going;
   heard : HearsOn g.H.Handler.hears l.fn.self l.fn.handlers l.self l.handlers;
 }
 
-abbrev pub decreases-loop-end : goal.decreases-loop-end
-decreases-loop-end g l = room_of l.self.system
+abbrev pub decreases-loop : goal.decreases-loop
+decreases-loop g l = room_of l.self.system
