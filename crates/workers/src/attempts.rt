@@ -1,8 +1,7 @@
 //! A worker's attempts.
 ghost use Rattle.std.specs.Prelude.{◌≡◌, ◌<◌, ℕ, true, Some, None, length, slice_get};
 ghost use Rattle.workers.specs.Fit.{ArePosted, HasOneFlow, HasItsFlow};
-ghost use Rattle.workers.specs.Attempts.{StepsPost, StepsCpu, TriesLast, AttemptsCpu};
-ghost use Rattle.workers.specs.Attempts.{flow_after};
+ghost use Rattle.workers.specs.Attempts.{AttemptsCpu, StepsCpu, StepsPost, TriesLast, flow_after};
 ghost use Rattle.workers.specs.Terms.{terms_of};
 
 use crate::job::Job;
