@@ -1,10 +1,10 @@
 -- What is printed of a play is lawful: it is the text of a log of the board, on which `check` says so.
-use Rattle.std.proofs.Common.{◌≡◌, ℕ, ◌+◌, ◌*◌, ◌/◌, ◌<◌, Bool, true, false, not, ◌&&◌, cond, eqb, ltb, Option, Some, None, List, [], ◌∷◌, ◌++◌}
+use Rattle.std.proofs.Common.{◌≡◌, ℕ, ◌+◌, ◌*◌, ◌/◌, ◌<◌, Bool, true, false, not, ◌&&◌, cond, eqb, ltb, Some, None, List, [], ◌∷◌, ◌++◌}
 use Rattle.std.proofs.Common.{decimal, length, map, slice_get, reverse, codes, refl, sym, ap, subst, ◌∙◌, append_assoc, append-nil, arith}
 use Rattle.std.specs.List.{AllZip, filter, flat_map, join_with_byte, list_all, range_with_len}
 use Rattle.std.specs.Option.{option_map}
 use Rattle.std.specs.Prelude.{All}
-use Rattle.std.proofs.lemmas.Bool.{and_parts, ltb-true, ne_eqb, eqb-true}
+use Rattle.std.proofs.lemmas.Bool.{and_parts, ltb-true, ne_eqb}
 use Rattle.std.proofs.lemmas.Bool.Decides.{nat_tests}
 use Rattle.std.proofs.lemmas.List.{reverse-append, reverse-reverse}
 use Rattle.std.proofs.lemmas.List.Elements.{All-cons, All-drop, All-head, All-nil, All-tail, All-take}
@@ -18,7 +18,7 @@ use Rattle.irq_base.specs.declared.lines.LineDef.{LineDef}
 use Rattle.irq_base.specs.declared.numbers.LineNo.{LineNo}
 use Rattle.irq_model.specs.Kinds.{same_line}
 use Rattle.irq_model.specs.Legal.{IsLegal}
-use Rattle.irq_steps.proofs.Same.{line_from_same, same_self_line}
+use Rattle.irq_steps.proofs.Same.{line_from_same}
 use Rattle.board_def.specs.Layout.{layout_of}
 use Rattle.board_def.specs.LineOf.{line_of_row}
 use Rattle.board_def.specs.Rules.{IsBoard, has_line}
@@ -42,20 +42,18 @@ use Rattle.log_check.specs.Judging.{logs_of}
 use Rattle.log_check.specs.Verdicts.{ChecksLog, JudgedAt, JudgedLine}
 use Rattle.log_check.specs.declared.verdict.Verdict.TheVariants as verdicts
 use Rattle.log_read.proofs.Telling.{present}
-use Rattle.log_read.specs.LogOf.{IsRowOn, LineEntry, Tell, begins_with_hash, entries_of, entries_on, is_feed, is_passed_over}
+use Rattle.log_read.specs.LogOf.{IsRowOn, LineEntry, begins_with_hash, entries_of, entries_on, is_feed, is_passed_over}
 use Rattle.log_read.specs.LogOf.{is_whole, onto_first, rows_of, saying}
 use Rattle.log_text.proofs.Splitting.{are_above, row_within, row_words}
 use Rattle.log_text.proofs.Spacing.{joined}
-use Rattle.log_text.specs.EntryWords.{IsPrintable, entry_words}
-use Rattle.log_text.specs.Formed.{HasSmallNumbers, IsSmall, IsWritable}
+use Rattle.log_text.specs.EntryWords.{entry_words}
+use Rattle.log_text.specs.Formed.{IsSmall, IsWritable}
 use Rattle.log_text.specs.Rows.{entry_text}
 use Rattle.log_text.specs.Spaced.{spaced}
-use Rattle.play_report.specs.Printing.{HasRow}
 use Rattle.play_report.specs.Report.{moves_text}
 use Rattle.explore_picks.proofs.Bytes.{above_feed, digits_plain, not_hash, is_plain, picks_pass}
 use Rattle.explore_picks.proofs.Named.{kept}
 use Rattle.explore_picks.specs.Rows.{pick_text, picks_line, picks_row, picks_text, row_at}
-use Rattle.explore_picks.specs.Small.{HasSmallMove}
 use Rattle.explore_picks.specs.Stated.{IsNameable}
 use Rattle.explore_play.specs.Made.{ArePicked}
 

@@ -1,5 +1,5 @@
 -- Whoever made a move of a board can be named by a board.
-use Rattle.std.proofs.Common.{◌≡◌, ℕ, zero, suc, ◌+◌, ◌<◌, ◌≤◌, ◌⊎◌, inl, inr, Bool, true, false, cond, Option, Some, None, List, [], ◌∷◌, ◌++◌}
+use Rattle.std.proofs.Common.{◌≡◌, ℕ, zero, suc, ◌+◌, ◌<◌, ◌⊎◌, inl, inr, Bool, true, false, cond, Option, Some, None, List, [], ◌∷◌, ◌++◌}
 use Rattle.std.proofs.Common.{eqb, map, reverse, slice_get, refl, sym, ap, subst, ◌∙◌, arith}
 use Rattle.std.specs.Prelude.{All}
 use Rattle.std.proofs.lemmas.Bool.{or_cases}
@@ -18,11 +18,10 @@ use Rattle.irq_model.specs.Next.{next_of_thread}
 use Rattle.irq_steps.proofs.Same.{dev_from_same, driver_from_same}
 use Rattle.play_laws.proofs.Listed.{mover_listed}
 use Rattle.play_laws.specs.Actors.{IsOneOf, count_up, threads_of, cpus_of, drivers_of, actors_of}
-use Rattle.board_def.specs.LineOf.{line_of_row}
 use Rattle.board_def.specs.Rules.{IsBoard, IsNumber, find_device, has_driver}
 use Rattle.board_def.specs.Seen.{BoardSeen}
 use Rattle.board_play.specs.Kept.{AreKept}
-use Rattle.board_play.specs.Lines.{BoardLine, Move, defs_of, lines_of}
+use Rattle.board_play.specs.Lines.{BoardLine, Move, lines_of}
 use Rattle.board_play.proofs.KeptAlways.{kept_play}
 use Rattle.board_play.proofs.Listed.{def_at}
 use Rattle.board_play.proofs.Moves.{MovesOn, moves_on}

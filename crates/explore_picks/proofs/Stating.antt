@@ -1,19 +1,18 @@
 -- A row of picks, without its `# `, states them.
-use Rattle.std.proofs.Common.{◌≡◌, ℕ, ◌+◌, ◌-◌, ◌*◌, ◌<◌, ◌≤◌, Bool, true, false, not, ◌&&◌, cond, Option, Some, None, List, [], ◌∷◌, ◌++◌}
-use Rattle.std.proofs.Common.{codes, decimal, drop, take, length, map, refl, sym, ap, subst, ◌∙◌, arith, append-nil}
+use Rattle.std.proofs.Common.{◌≡◌, ℕ, ◌-◌, ◌*◌, ◌≤◌, Bool, true, false, not, cond, Option, Some, None, List, [], ◌∷◌, ◌++◌}
+use Rattle.std.proofs.Common.{codes, decimal, drop, take, length, map, refl, ap, ◌∙◌, arith}
 use Rattle.std.specs.List.{list_all, flat_map}
 use Rattle.std.specs.Prelude.{All, is_some}
-use Rattle.std.proofs.lemmas.Bool.{and_from, and_parts, false≢true}
+use Rattle.std.proofs.lemmas.Bool.{and_parts, false≢true}
 use Rattle.std.proofs.lemmas.List.{length-drop}
-use Rattle.std.proofs.lemmas.List.Elements.{All-head, All-nil, All-tail, All-take, All-drop}
+use Rattle.std.proofs.lemmas.List.Elements.{All-head, All-tail, All-take, All-drop}
 use Rattle.std.proofs.lemmas.List.Folds.{list_all-append}
-use Rattle.board_def.specs.Seen.{BoardSeen}
 use Rattle.board_stated.specs.Stated.{actors_picked, with_statement}
 use Rattle.board_words.specs.Faults.{first_in_order}
 use Rattle.board_words.specs.Forms.{fault_of_words, faults_of, pick}
-use Rattle.board_words.specs.Spelling.{after_star, before_star, both_of, is_star, numbered, pick_of, picked_of, times_of}
+use Rattle.board_words.specs.Spelling.{after_star, before_star, both_of, numbered, pick_of, picked_of, times_of}
 use Rattle.board_words.specs.Statements.{onto_picks, picks_of, statement_of}
-use Rattle.board_words.specs.TextLines.{has_bad_byte, is_allowed, is_blank, is_hash, is_within_word, onto_first, split_at_blanks}
+use Rattle.board_words.specs.TextLines.{is_allowed, is_blank, is_hash, is_within_word, onto_first, split_at_blanks}
 use Rattle.board_words.specs.TextLines.{without_comment, words_of}
 use Rattle.board_words.specs.declared.faults.FaultKind.TheVariants as faults
 use Rattle.board_words.specs.declared.statements.PickWord.{PickWord}
@@ -21,7 +20,7 @@ use Rattle.irq_base.specs.declared.entries.Actor.{Actor}
 use Rattle.irq_base.specs.declared.entries.Actor.TheVariants as actors
 use Rattle.explore_picks.specs.Rows.{pick_text, picks_line, row_at}
 use Rattle.explore_picks.specs.Stated.{AreStated, IsNameable, StatesPicks}
-use Rattle.explore_picks.proofs.Bytes.{allowed, is_plain, letter, not_blank, not_hash, not_star, number, number_is, picks_pass, small_number}
+use Rattle.explore_picks.proofs.Bytes.{allowed, is_plain, letter, not_blank, not_hash, not_star, number, number_is, picks_pass}
 use Rattle.explore_picks.proofs.Bytes.{text_is, word, word_plain}
 
 -- ---- the words of the text line

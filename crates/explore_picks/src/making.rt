@@ -65,10 +65,7 @@ fn make<'b, M: MakesDomainLine, H: Handler>(
 }
 
 /// Prints the moves and the picks, and has them handed on.
-fn print_made<L: IrqLine, O: Sink>(
-    play: &PlayTo<'_, L>,
-    out: &mut O,
-) -> Result<(), WriteFailed>
+fn print_made<L: IrqLine, O: Sink>(play: &PlayTo<'_, L>, out: &mut O) -> Result<(), WriteFailed>
     requires rows { All HasRow play.now.system.log }
     requires few { length play.now.picks.items ≤ 65536 }
     ensures content { WritesAll (O.written out.old) (O.written out.new)

@@ -1,4 +1,3 @@
-use Rattle.std.proofs.Common.{ap, sym, ◌∙◌}
 use Rattle.explore_picks.proofs.Printable.{small_next}
 use Rattle.explore_picks.proofs.small.are_small.Goals as goal
 
