@@ -79,12 +79,75 @@ where
         (E.kept err.new) (E.faults err.old) (E.faults err.new) }
     ensures quiet { is_printed result.ending ≡ true → err.new ≡ err.old }
 {
-    let words = match words_of(alloc, args) {
-        Ok(words) => words,
-        Err(ArgumentsRefused::NotText) => return end_early(alloc, Ending::Usage, err),
-        Err(ArgumentsRefused::NoMemory) => return end_early(alloc, Ending::NoMemory, err),
-    };
-    match lend(alloc, words.as_slice()) {
+    match words_of(alloc, args) {
+        Ok(words) => with_words(
+            rt,
+            alloc,
+            words.as_slice(),
+            src,
+            out,
+            err,
+            handlers,
+            shared,
+            maker,
+            notify,
+        ),
+        Err(ArgumentsRefused::NotText) => end_early(alloc, Ending::Usage, err),
+        Err(ArgumentsRefused::NoMemory) => { end_early(alloc, Ending::NoMemory, err) }
+    }
+}
+
+/// The top call over these words.
+fn with_words<
+    R: Threads + Wait + Sync,
+    S: Source,
+    O: Sink,
+    E: Sink,
+    H: Handler,
+    D: SharedHandler + Sync,
+    M: MakesDomainLine,
+    N: Notifier,
+>(
+    rt: &R,
+    alloc: Global,
+    words: &[String],
+    src: &mut S,
+    out: &mut O,
+    err: &mut E,
+    handlers: &mut H,
+    shared: &D,
+    maker: &M,
+    notify: &mut N,
+) -> Outcome
+where
+    M::Line: Send + Sync,
+    ensures form { (asked : Command) → Asks (map string_bytes words.now) asked
+        → result.ending ≡ Ending.Usage → ⊥ }
+    ensures usage { AsksNothing (map string_bytes words.now)
+        → (result.ending ≡ Ending.Usage) ⊎ (result.ending ≡ Ending.NoMemory) }
+    ensures unasked { AsksNothing (map string_bytes words.now) → result.reports.reports ≡ [] }
+    ensures uncalled { AsksNothing (map string_bytes words.now)
+        → (Heard H.hears [] handlers.old handlers.new) × Told N.tells [] notify.old notify.new }
+    ensures unread { ReadsNothing (map string_bytes words.now) → src.new ≡ src.old }
+    ensures does { (asked : Command) → Asks (map string_bytes words.now) asked
+        → Does (λ runs. Heard H.hears runs handlers.old handlers.new) (D.gave shared.now)
+        (λ placings. Told N.tells placings notify.old notify.new) asked (S.left src.old)
+        (S.left src.new) result.reports.reports (O.written out.old) (O.written out.new)
+        result.ending }
+    ensures wanted { (asked : Command) → Asks (map string_bytes words.now) asked
+        → TellsWanted M.Line.may_want asked (S.left src.old) result.reports.reports result.ending }
+    ensures read_fault { Counts (S.faults src.old) (S.faults src.new)
+        (is_read_fault_end result.ending) }
+    ensures emptied { is_printed result.ending ≡ true → O.kept out.new ≡ [] }
+    ensures write_fault { Counts (O.faults out.old) (O.faults out.new)
+        (is_write_fault_end result.ending) }
+    ensures silent { is_printing result.ending ≡ false → out.new ≡ out.old }
+    ensures tells { is_printed result.ending ≡ false
+        → Tells (error_text result.ending) (E.written err.old) (E.written err.new)
+        (E.kept err.new) (E.faults err.old) (E.faults err.new) }
+    ensures quiet { is_printed result.ending ≡ true → err.new ≡ err.old }
+{
+    match lend(alloc, words) {
         Ok(lent) => irq_main(
             rt,
             alloc,

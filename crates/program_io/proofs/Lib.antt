@@ -1,3 +1,2 @@
 mod Stated
 mod Telling
-pub mod Unbuffered

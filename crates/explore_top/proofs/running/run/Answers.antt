@@ -3,7 +3,7 @@ use Rattle.std.specs.Io.Buffered.{writer_contents}
 use Rattle.irq_base.specs.declared.devices.Run.{Run}
 use Rattle.callbacks.specs.Heard.{Heard}
 use Rattle.explore_top.specs.Does.{Does}
-use Rattle.program_io.proofs.Unbuffered.{unbuffered}
+use Rattle.explore_top.proofs.Buffers.{unbuffered}
 use Rattle.explore_top.proofs.running.run.Goals as goal
 
 pub returns-in-Ok-clause-does : goal.returns-in-Ok-clause-does

@@ -3,7 +3,7 @@ use Rattle.std.specs.Io.Buffered.{writer_contents}
 use Rattle.callbacks.specs.Heard.{Heard}
 use Rattle.irq_top.specs.Commands.{Does}
 use Rattle.notifiers.specs.Told.{Told}
-use Rattle.program_io.proofs.Unbuffered.{unbuffered}
+use Rattle.irq_command.proofs.Buffers.{unbuffered}
 use Rattle.irq_command.proofs.running.run.Goals as goal
 
 pub returns-in-Ok-clause-does : goal.returns-in-Ok-clause-does

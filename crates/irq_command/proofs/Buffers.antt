@@ -1,0 +1,14 @@
+-- A writer of std behind an empty buffer.
+use Rattle.std.proofs.Common.{◌≡◌, ℕ, ◌++◌, Option, Some, None, List, [], refl, ap, ◌∙◌}
+use Rattle.std.proofs.lemmas.List.{append-nil}
+use Rattle.std.specs.Io.Buffered.{writer_buffer, writer_contents, writer_inner}
+use Rattle.std.specs.Io.KnownBytes.{append_known}
+use Rattle.std.specs.declared.io.buffered.BufWriter.{BufWriter}
+
+nothing_more : (known : Option (List ℕ)) (bytes : List ℕ) → bytes ≡ [] → append_known known bytes ≡ known
+nothing_more None bytes none = refl
+nothing_more (Some xs) bytes none = ap Some (ap (λ (ys : List ℕ). xs ++ ys) none ∙ append-nil xs)
+
+pub unbuffered : {T A : Type 0} (contents : T → Option (List ℕ)) (w : BufWriter T A) (inner : T)
+    → writer_inner w ≡ inner → writer_buffer w ≡ [] → writer_contents contents w ≡ contents inner
+unbuffered contents w inner is none = nothing_more (contents w.inner) (writer_buffer w) none ∙ ap contents is
