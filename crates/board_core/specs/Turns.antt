@@ -41,9 +41,7 @@ pub record IsFullFor (s : SystemSeen) (due : Option Move) (line : LineNo) (len :
   pub length : HasLength (find_line (board_lines s.lines) line) len
   pub log : len ≡ s.board.log
 
--- the move that is due wasn't made: its line has no room, or memory was needed, which is needed
--- only
--- for a move
+-- the move that is due wasn't made: its line has no room, or memory was needed and refused
 abbrev pub IsRefused : SystemSeen → Option Move → StepRefused → Type 0
 IsRefused s due (refusals.Full line len) = IsFullFor s due line len
 IsRefused s due refusals.NoMemory = IsSome due
