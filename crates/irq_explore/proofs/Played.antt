@@ -16,8 +16,10 @@ use Rattle.line_survey.specs.declared.answer.Answer.{Answer}
 use Rattle.line_survey.specs.declared.answer.Answer.TheVariants as answers
 use Rattle.line_wanted.specs.declared.wanted.Wanted.{Wanted}
 use Rattle.irq_explore.specs.Answered.{Answered, answer_text}
+use Rattle.irq_explore.specs.Explored.{found_by}
 use Rattle.irq_explore.specs.Played.{ExploresPlay, SaysPlay, found_by_play}
 use Rattle.irq_explore.specs.Present.{has_all}
+use Rattle.irq_explore.specs.declared.exploring.Explored.{Explored}
 
 module _ (states : ℕ) (b : BoardSeen) (line : LineNo) (wanted : Wanted) (heard : List Run → Type 0) (before now : Option (List ℕ))
     (there : has_all b line wanted ≡ true) where
@@ -62,3 +64,14 @@ module _ (states : ℕ) (b : BoardSeen) (line : LineNo) (wanted : Wanted) (heard
   unsaid write (answers.NotWithin n) none answered written none_heard = record { there = there; answered = answered; written = (written, none_heard) }
   unsaid write (answers.Found v) (inl is) answered written none_heard = cc
   unsaid write (answers.Found v) (inr is) answered written none_heard = let same = is.1 in cc
+
+  -- all of it is printed
+  pub unfound : (answer : Answer) → SaysPlay states b line wanted heard before now (Ok tt) answer → (found : Explored) → found ≡ found_by line answer
+      → ExploresPlay states b line wanted heard before now (Ok found)
+  unfound answer said found same = subst (λ (f : Explored). ExploresPlay states b line wanted heard before now (Ok f)) (sym same) (by_answer answer said)
+    where
+      by_answer : (a : Answer) → SaysPlay states b line wanted heard before now (Ok tt) a
+          → ExploresPlay states b line wanted heard before now (Ok (found_by line a))
+      by_answer (answers.Found v) said = (answers.Found v, refl, said)
+      by_answer answers.Never said = (answers.Never, refl, said)
+      by_answer (answers.NotWithin n) said = (answers.NotWithin n, refl, said)
