@@ -16,10 +16,18 @@ use Rattle.line_survey.specs.declared.answer.Answer.{Answer}
 use Rattle.line_survey.specs.declared.answer.Answer.TheVariants as answers
 use Rattle.line_wanted.specs.declared.wanted.Wanted.{Wanted}
 use Rattle.irq_explore.specs.Answered.{Answered, answer_text}
-use Rattle.irq_explore.specs.Explored.{found_by}
+use Rattle.irq_explore.specs.Explored.{found_by, is_printing}
 use Rattle.irq_explore.specs.Played.{ExploresPlay, SaysPlay, found_by_play}
 use Rattle.irq_explore.specs.Present.{has_all}
 use Rattle.irq_explore.specs.declared.exploring.Explored.{Explored}
+
+-- a play that failed before it was printed left the output as it was
+pub unprinted : {O : Type 0} (old new : O) (b : BoardSeen) (line : LineNo) (es : List Entry) (heard : List Run → Type 0) (before now : Option (List ℕ))
+    (failed : ExploreFailed) → PlaysTo b line es heard before now (Err failed)
+    → (◌≡◌ {A = Result Bool ExploreFailed} (Err failed) (Err fails.NoMemory) → new ≡ old) → is_printing (Err failed) ≡ false → new ≡ old
+unprinted old new b line es heard before now fails.NotThere is refused quiet = absurd is
+unprinted old new b line es heard before now fails.NoMemory is refused quiet = refused refl
+unprinted old new b line es heard before now (fails.Write failed) is refused quiet = cc
 
 module _ (states : ℕ) (b : BoardSeen) (line : LineNo) (wanted : Wanted) (heard : List Run → Type 0) (before now : Option (List ℕ))
     (there : has_all b line wanted ≡ true) where

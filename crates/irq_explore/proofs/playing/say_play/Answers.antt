@@ -3,7 +3,7 @@ use Rattle.std.proofs.lemmas.Result.{err_from_is_err_and}
 use Rattle.callbacks.specs.Heard.{Heard}
 use Rattle.irq_base.specs.declared.devices.Run.{Run}
 use Rattle.line_survey.specs.declared.answer.Answer.{Answer}
-use Rattle.irq_explore.proofs.Played.{played, unfound, unplayed, unsaid}
+use Rattle.irq_explore.proofs.Played.{played, unfound, unplayed, unprinted, unsaid}
 use Rattle.irq_explore.specs.Answered.{Answered}
 use Rattle.irq_explore.specs.Played.{ExploresPlay}
 use Rattle.irq_explore.specs.declared.exploring.Explored.{Explored}
@@ -33,6 +33,14 @@ returns-in_err-found-in-Found-clause-explores g c =
     (sym c.as_slice-log.ensures.value)
     (subst (λ (a : Answer). Answered c.args.states b c.args.line c.args.wanted a) c.in-Found.is c.requires.answered)
     c.in_err-found-in-Found.field-0.0 c.in_err-found-in-Found.ensures.plays)
+
+pub returns-in_err-found-in-Found-clause-silent : goal.returns-in_err-found-in-Found-clause-silent
+returns-in_err-found-in-Found-clause-silent g c =
+    let heard : List Run → Type 0 = λ runs. Heard g.H.Handler.hears runs c.args.handlers.now c.play_to_and_print.new.handlers in
+    let e = c.in_err-found-in-Found.ensures in
+    let p = err_from_is_err_and c.from_residual.result c.from_residual.ensures.1 in
+    rw (p.1, p.2) (λ quiet. unprinted c.args.out.now c.play_to_and_print.new.out c.args.board.now c.args.line c.as_slice-log.result.now heard
+    (g.O.Sink.written c.args.out.now) (g.O.Sink.written c.play_to_and_print.new.out) c.in_err-found-in-Found.field-0.0 e.plays e.refused quiet)
 
 pub returns-in_ok-print_answer-in-Never-clause-explores : goal.returns-in_ok-print_answer-in-Never-clause-explores
 returns-in_ok-print_answer-in-Never-clause-explores g c =
