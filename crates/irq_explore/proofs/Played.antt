@@ -16,8 +16,18 @@ use Rattle.line_survey.specs.declared.answer.Answer.{Answer}
 use Rattle.line_survey.specs.declared.answer.Answer.TheVariants as answers
 use Rattle.line_wanted.specs.declared.wanted.Wanted.{Wanted}
 use Rattle.irq_explore.specs.Answered.{Answered, answer_text}
+use Rattle.irq_explore.specs.Explored.{found_by, is_printing}
 use Rattle.irq_explore.specs.Played.{ExploresPlay, SaysPlay, found_by_play}
 use Rattle.irq_explore.specs.Present.{has_all}
+use Rattle.irq_explore.specs.declared.exploring.Explored.{Explored}
+
+-- a play that failed before it was printed left the output as it was
+pub unprinted : {O : Type 0} (old new : O) (b : BoardSeen) (line : LineNo) (es : List Entry) (heard : List Run → Type 0) (before now : Option (List ℕ))
+    (failed : ExploreFailed) → PlaysTo b line es heard before now (Err failed)
+    → (◌≡◌ {A = Result Bool ExploreFailed} (Err failed) (Err fails.NoMemory) → new ≡ old) → is_printing (Err failed) ≡ false → new ≡ old
+unprinted old new b line es heard before now fails.NotThere is refused quiet = absurd is
+unprinted old new b line es heard before now fails.NoMemory is refused quiet = refused refl
+unprinted old new b line es heard before now (fails.Write failed) is refused quiet = cc
 
 module _ (states : ℕ) (b : BoardSeen) (line : LineNo) (wanted : Wanted) (heard : List Run → Type 0) (before now : Option (List ℕ))
     (there : has_all b line wanted ≡ true) where
@@ -62,3 +72,14 @@ module _ (states : ℕ) (b : BoardSeen) (line : LineNo) (wanted : Wanted) (heard
   unsaid write (answers.NotWithin n) none answered written none_heard = record { there = there; answered = answered; written = (written, none_heard) }
   unsaid write (answers.Found v) (inl is) answered written none_heard = cc
   unsaid write (answers.Found v) (inr is) answered written none_heard = let same = is.1 in cc
+
+  -- all of it is printed
+  pub unfound : (answer : Answer) → SaysPlay states b line wanted heard before now (Ok tt) answer → (found : Explored) → found ≡ found_by line answer
+      → ExploresPlay states b line wanted heard before now (Ok found)
+  unfound answer said found same = subst (λ (f : Explored). ExploresPlay states b line wanted heard before now (Ok f)) (sym same) (by_answer answer said)
+    where
+      by_answer : (a : Answer) → SaysPlay states b line wanted heard before now (Ok tt) a
+          → ExploresPlay states b line wanted heard before now (Ok (found_by line a))
+      by_answer (answers.Found v) said = (answers.Found v, refl, said)
+      by_answer answers.Never said = (answers.Never, refl, said)
+      by_answer (answers.NotWithin n) said = (answers.NotWithin n, refl, said)

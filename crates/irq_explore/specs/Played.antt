@@ -60,16 +60,16 @@ pub record FindsLog (states : ℕ) (b : BoardSeen) (line : LineNo) (wanted : Wan
 -- the runs are heard that a play ended which was tried, or none.
 abbrev pub ExploresPlay : ℕ → BoardSeen → LineNo → Wanted → (List Run → Type 0)
     → Option (List ℕ) → Option (List ℕ) → Result Explored ExploreFailed → Type 0
-ExploresPlay states b line wanted heard before now (Ok finds.NoPlay) =
-    FindsLog states b line wanted × HeardSome b heard
-ExploresPlay states b line wanted heard before now (Ok found) =
-    (answer : Answer) × (found ≡ found_by line answer)
-    × SaysPlay states b line wanted heard before now (Ok tt) answer
 ExploresPlay states b line wanted heard before now (Err fails.NotThere) =
     (has_all b line wanted ≡ false) × heard []
 ExploresPlay states b line wanted heard before now (Err fails.NoMemory) = HeardSome b heard
 ExploresPlay states b line wanted heard before now (Err (fails.Write failed)) =
     (answer : Answer) × SaysPlay states b line wanted heard before now (Err failed) answer
+ExploresPlay states b line wanted heard before now (Ok finds.NoPlay) =
+    FindsLog states b line wanted × HeardSome b heard
+ExploresPlay states b line wanted heard before now (Ok found) =
+    (answer : Answer) × (found ≡ found_by line answer)
+    × SaysPlay states b line wanted heard before now (Ok tt) answer
 
 -- what was found of a log, by whether a play was
 abbrev pub found_by_play : Bool → Explored

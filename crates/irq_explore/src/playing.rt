@@ -105,5 +105,9 @@ fn say_play<M: MakesDomainLine, H: Handler, O: Sink>(
 fn found_by_play(found: bool) -> Explored
     ensures { result ≡ found_by_play found }
 {
-    if found { Explored::Done } else { Explored::NoPlay }
+    if found {
+        Explored::Done
+    } else {
+        Explored::NoPlay
+    }
 }
