@@ -47,11 +47,10 @@ module _ (heard : List Run → Type 0) (gave : Run → Answer → Type 0) (place
       (inl (record { read = no_board told left; reports_are = none; uncalled = tt }), (unheard, unplaced))
   by_command (commands.Play summary) =
       (inl (record { read = no_board told left; reports_are = none; uncalled = unheard }), unplaced)
-  by_command (commands.Check why) =
-      (
-        (Err (checks.Input refusals.NoMemory), refl, record { reads = no_judgement why told left; says = tt; reports_are = none }),
-        (unheard, unplaced),
-      )
+  by_command (commands.Check why) = (
+    (Err (checks.Input refusals.NoMemory), refl, record { reads = no_judgement why told left; says = tt; reports_are = none }),
+    (unheard, unplaced),
+  )
   by_command (commands.Gen n) = ((Err plays.NoMemory, refl, (none, unheard)), unplaced)
   by_command commands.Chained = (inl (record { read = no_board told left; reports_are = none; uncalled = unheard }), unplaced)
   by_command (commands.Hotplug vectors events) =
