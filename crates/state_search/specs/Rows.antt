@@ -1,5 +1,6 @@
 -- Rows of numbers, one after another in one list.
-use Rattle.std.specs.Prelude.{◌≡◌, ◌≤◌, ℕ, List, Vec, map, length, slice_range, slice_get, Some, All}
+use Rattle.std.specs.Prelude.{◌≡◌, ◌≤◌, ℕ, List, Vec, map, length, slice_range, slice_get, Some}
+use Rattle.std.specs.Prelude.{All}
 use Rattle.std.specs.List.{flat_map}
 use Rattle.state_search.specs.declared.found.Row.{Row}
 use Rattle.state_search.specs.Packed.{IsPacked, unpacked}

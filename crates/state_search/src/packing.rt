@@ -1,5 +1,6 @@
 //! The numbers of a state as bytes: most are small, and take one byte each.
-ghost use Rattle.std.specs.Prelude.{◌≡◌, ◌+◌, ◌*◌, ◌<◌, ◌≤◌, [], ◌∷◌, ◌++◌, length, drop, IfOk, OnOk};
+ghost use Rattle.std.specs.Prelude.{◌≡◌, ◌+◌, ◌*◌, ◌<◌, ◌≤◌, [], ◌∷◌, ◌++◌, length, drop, IfOk};
+ghost use Rattle.std.specs.Prelude.{OnOk};
 ghost use Rattle.state_search.specs.Packed.{IsPacked, packed_word, unpacked};
 
 use irq_base::NoMemory;

@@ -57,8 +57,8 @@ impl<L: Copy> States<L> {
         self.rows.len()
     }
 
-    /// Puts the numbers of the state at index `place` into `words`, in place of what is there. The only
-    /// error is `NoMemory`.
+    /// Puts the numbers of the state at index `place` into `words`, in place of what is there. The
+    /// only error is `NoMemory`.
     pub(crate) fn words(&self, place: usize, words: &mut Vec<u32>) -> Result<(), NoMemory>
         requires { place < length self.now }
         ensures { OnOk result (slice_get (states_of self.now) place ≡ Some words.new.items) }
@@ -92,8 +92,8 @@ impl<L: Copy> States<L> {
         self.rows.contains_key(packed)
     }
 
-    /// Adds a state with these packed numbers that wasn't found before, at the end. The only error is
-    /// `NoMemory`.
+    /// Adds a state with these packed numbers that wasn't found before, at the end. The only error
+    /// is `NoMemory`.
     fn add(&mut self, alloc: Global, packed: &[u8], came: Option<Came<L>>) -> Result<(), NoMemory>
         requires packed { IsPacked packed.now }
         requires new { IsIn (states_of self.old) (unpacked packed.now) → ⊥ }
@@ -142,8 +142,8 @@ impl<L: Copy> States<L> {
     }
 
     /// Adds the states found after the state at `from`, each once. False if one of them is new and
-    /// there are `most` states already. The only error is `NoMemory`. `packed` is room for the packed
-    /// numbers of one.
+    /// there are `most` states already. The only error is `NoMemory`. `packed` is room for the
+    /// packed numbers of one.
     pub(crate) fn put_all(
         &mut self,
         alloc: Global,

@@ -15,7 +15,9 @@ steps-requires-clause-reached g c =
     next_reached g.L.PartialEq.eq (g.S.Space.can c.args.space.now) (g.S.Space.node c.args.space.now) cs es es
     c.self.inside.firsts.items c.self.inside.firsts.items c.clear.new.self c.args.self.now
     c.self.view_is c.requires.under c.requires.open c.args.words.now c.looked-place.result
-    (c.looked-place.ensures ∙ sym (ap (λ s. s.looked) c.self.view_is)) (here (c.self.inside.states) c.self.inside.firsts.items c.self.inside.counts.items c.args.self.now c.self.view_is c.looked-place.result c.args.words.now c.looked-place.ensures c.requires.words) 100000000 few
+    (c.looked-place.ensures ∙ sym (ap (λ s. s.looked) c.self.view_is))
+    (here (c.self.inside.states) c.self.inside.firsts.items c.self.inside.counts.items c.args.self.now
+    c.self.view_is c.looked-place.result c.args.words.now c.looked-place.ensures c.requires.words) 100000000 few
 
 pub is_wanted-requires-clause-reached : goal.is_wanted-requires-clause-reached
 is_wanted-requires-clause-reached g c =
@@ -26,7 +28,9 @@ is_wanted-requires-clause-reached g c =
     (next_reached g.L.PartialEq.eq (g.S.Space.can c.args.space.now) (g.S.Space.node c.args.space.now) cs es es
     c.self.inside.firsts.items c.self.inside.firsts.items c.clear.new.self c.args.self.now
     c.self.view_is c.requires.under c.requires.open c.args.words.now c.looked-place.result
-    (c.looked-place.ensures ∙ sym (ap (λ s. s.looked) c.self.view_is)) (here (c.self.inside.states) c.self.inside.firsts.items c.self.inside.counts.items c.args.self.now c.self.view_is c.looked-place.result c.args.words.now c.looked-place.ensures c.requires.words) 100000000 few)
+    (c.looked-place.ensures ∙ sym (ap (λ s. s.looked) c.self.view_is))
+    (here (c.self.inside.states) c.self.inside.firsts.items c.self.inside.counts.items c.args.self.now
+    c.self.view_is c.looked-place.result c.args.words.now c.looked-place.ensures c.requires.words) 100000000 few)
 
 pub is_wanted-requires-clause-steps : goal.is_wanted-requires-clause-steps
 is_wanted-requires-clause-steps g c =
@@ -38,7 +42,9 @@ returns-then-branch-clause-wanted g c = λ stops h path next.
     let ws = c.args.words.now in
     let same = next_is (g.S.Space.can c.args.space.now) (g.S.Space.node c.args.space.now) (g.S.Space.wanted c.args.space.now)
     c.self.inside.counts.items c.self.inside.states c.self.inside.firsts.items c.args.self.now c.self.view_is
-    c.looked-place.result ws c.looked-place.ensures (here (c.self.inside.states) c.self.inside.firsts.items c.self.inside.counts.items c.args.self.now c.self.view_is c.looked-place.result c.args.words.now c.looked-place.ensures c.requires.words) h next in
+    c.looked-place.result ws c.looked-place.ensures (here (c.self.inside.states) c.self.inside.firsts.items
+    c.self.inside.counts.items c.args.self.now c.self.view_is c.looked-place.result c.args.words.now
+    c.looked-place.ensures c.requires.words) h next in
     subst (λ t. (h : List g.row.L.Denot) → IsPath (g.S.Space.can t) h → g.S.Space.node t h ≡ ws → g.S.Space.wanted t h)
     c.in_ok-steps.ensures.same (c.in_ok-is_wanted.ensures.wanted c.if-branch.true) h path same
 
@@ -64,7 +70,9 @@ returns-then-not-branch-clause-under g c =
     c.self.inside.states c.put_all.new.self c.self.inside.firsts.items
     c.note.new.firsts.items c.steps.new.found c.args.self.now c.self.view_is c.requires.under c.requires.open
     c.args.words.now c.looked-place.result (c.looked-place.ensures ∙ sym (ap (λ s. s.looked) c.self.view_is))
-    (here (c.self.inside.states) c.self.inside.firsts.items c.self.inside.counts.items c.args.self.now c.self.view_is c.looked-place.result c.args.words.now c.looked-place.ensures c.requires.words) c.in_ok-steps.ensures.steps c.in_ok-note.ensures
+    (here (c.self.inside.states) c.self.inside.firsts.items c.self.inside.counts.items c.args.self.now c.self.view_is
+    c.looked-place.result c.args.words.now c.looked-place.ensures c.requires.words) c.in_ok-steps.ensures.steps
+    c.in_ok-note.ensures
     put.0 put.1
 
 pub returns-then-not-branch-clause-cut : goal.returns-then-not-branch-clause-cut
@@ -77,7 +85,9 @@ returns-then-not-branch-clause-left_out g c = λ h.
     c.self.inside.states c.put_all.new.self c.self.inside.firsts.items
     c.note.new.firsts.items c.steps.new.found c.args.self.now c.self.view_is c.requires.under c.requires.open
     c.args.words.now c.looked-place.result (c.looked-place.ensures ∙ sym (ap (λ s. s.looked) c.self.view_is))
-    (here (c.self.inside.states) c.self.inside.firsts.items c.self.inside.counts.items c.args.self.now c.self.view_is c.looked-place.result c.args.words.now c.looked-place.ensures c.requires.words) c.in_ok-steps.ensures.steps c.in_ok-note.ensures
+    (here (c.self.inside.states) c.self.inside.firsts.items c.self.inside.counts.items c.args.self.now c.self.view_is
+    c.looked-place.result c.args.words.now c.looked-place.ensures c.requires.words) c.in_ok-steps.ensures.steps
+    c.in_ok-note.ensures
     put.0 put.1 (c.in_ok-put_all.ensures.left c.if-not-branch.true)
 
 pub returns-clause-few : goal.returns-clause-few
@@ -95,7 +105,9 @@ returns-clause-under g c =
     c.self.inside.states c.put_all.new.self c.self.inside.firsts.items
     c.note.new.firsts.items c.steps.new.found c.args.self.now c.self.view_is c.requires.under c.requires.open
     c.args.words.now c.looked-place.result (c.looked-place.ensures ∙ sym (ap (λ s. s.looked) c.self.view_is))
-    (here (c.self.inside.states) c.self.inside.firsts.items c.self.inside.counts.items c.args.self.now c.self.view_is c.looked-place.result c.args.words.now c.looked-place.ensures c.requires.words) c.in_ok-steps.ensures.steps c.in_ok-note.ensures
+    (here (c.self.inside.states) c.self.inside.firsts.items c.self.inside.counts.items c.args.self.now c.self.view_is
+    c.looked-place.result c.args.words.now c.looked-place.ensures c.requires.words) c.in_ok-steps.ensures.steps
+    c.in_ok-note.ensures
     put.0 put.1 (put.2 c.if-not-branch.false))
 
 pub returns-then-not-branch-clause-none : goal.returns-then-not-branch-clause-none
@@ -120,4 +132,7 @@ returns-clause-none g c =
     (none_more (g.S.Space.can c.args.space.now) (g.S.Space.node c.args.space.now) (g.S.Space.wanted c.args.space.now) g.L.PartialEq.eq
     c.self.inside.counts.items c.self.inside.states c.put_all.new.self c.self.inside.firsts.items c.note.new.firsts.items c.args.self.now
     c.self.view_is c.requires.under c.requires.none c.looked-place.result c.steps.new.found put.0 put.1
-    ws (c.looked-place.ensures ∙ sym (ap (λ s. s.looked) c.self.view_is)) (here (c.self.inside.states) c.self.inside.firsts.items c.self.inside.counts.items c.args.self.now c.self.view_is c.looked-place.result c.args.words.now c.looked-place.ensures c.requires.words) unwanted (length c.steps.new.found))
+    ws (c.looked-place.ensures ∙ sym (ap (λ s. s.looked) c.self.view_is))
+    (here (c.self.inside.states) c.self.inside.firsts.items c.self.inside.counts.items c.args.self.now
+    c.self.view_is c.looked-place.result c.args.words.now c.looked-place.ensures c.requires.words) unwanted
+    (length c.steps.new.found))
