@@ -17,7 +17,7 @@ left-requires-clause-past c =
     let valid = c.self.invariant.valid in
     let line = c.self.invariant.line in
     let words = c.as_slice.result.now in
-    let at = sym c.in_ok-words.ensures ∙ (ap (λ o. option_map (λ w. w.items) o) c.in-Some.is ∙ ap Some (sym c.as_slice.ensures.value)) in
+    let at = ap Some c.as_slice.ensures.value ∙ (sym (ap (λ o. option_map (λ w. w.items) o) c.in-Some.is) ∙ c.in_ok-words.ensures) in
     let x = past_at def valid s line c.args.place words at in (
       x.0,
       legal_at def valid s line c.args.place x.0 x.1,
@@ -42,4 +42,4 @@ returns-clause-left c = subst
     let line = c.self.invariant.line in
     let legal = legal_at def valid s line c.args.place p is in
     c.in_ok-left.ensures.left p legal (words_at def valid s line c.args.place c.as_slice.result.now p
-    (sym c.in_ok-words.ensures ∙ (ap (λ o. option_map (λ w. w.items) o) c.in-Some.is ∙ ap Some (sym c.as_slice.ensures.value))) is))
+    (ap Some c.as_slice.ensures.value ∙ (sym (ap (λ o. option_map (λ w. w.items) o) c.in-Some.is) ∙ c.in_ok-words.ensures)) is))
