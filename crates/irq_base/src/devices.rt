@@ -37,6 +37,27 @@ pub enum Kind {
     Null,
     /// The handler never serves and never recognises its device.
     Stuck,
+    /// The handler never recognises its device, and what was asked is gone by then: a glitch, or a
+    /// posted write that came late. There is no thread.
+    Odd,
+    /// Handler and thread answer as the board says (`ToldAnswer`). `threaded`: some answer of the
+    /// handler wakes the thread; the thread serves then, and else the handler.
+    Told {
+        threaded: bool,
+    },
+}
+
+/// What the board says that a run of a told device does.
+#[derive(Clone, Copy, PartialEq, Eq)]
+pub enum ToldAnswer {
+    /// `IRQ_HANDLED`; the part that serves has served.
+    Handled,
+    /// `IRQ_WAKE_THREAD`.
+    Wake,
+    /// `IRQ_NONE`.
+    Nothing,
+    /// `IRQ_HANDLED`, and nothing is served: a poll or a program serves later.
+    Claims,
 }
 
 impl Kind {
@@ -46,7 +67,8 @@ impl Kind {
     {
         match self {
             Kind::Check | Kind::Null => true,
-            Kind::Direct | Kind::Stuck => false,
+            Kind::Direct | Kind::Stuck | Kind::Odd => false,
+            Kind::Told { threaded } => threaded,
         }
     }
 }
@@ -60,6 +82,11 @@ pub struct DeviceDef {
     pub line: LineNo,
     /// How its handlers work.
     pub kind: Kind,
+    /// On an edge line its signal stays until all is served: an ask makes an edge only if nothing of
+    /// it was unserved.
+    pub held: bool,
+    /// On an edge line no edge comes as its own interrupt is turned on.
+    pub forgets: bool,
 }
 
 /// A run of a handler.
@@ -71,6 +98,8 @@ pub struct Run {
     pub part: Part,
     /// How many asks of the device were unserved as the run began.
     pub unserved: u32,
+    /// What a told device is to answer in this run; none for others.
+    pub told: Option<ToldAnswer>,
 }
 
 /// The devices of a line, in order.
