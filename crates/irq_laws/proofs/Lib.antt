@@ -1,8 +1,10 @@
 pub mod Chosen
 pub mod ImpliesFlow
 pub mod ImpliesThread
+pub mod ImpliesCall
 pub mod ImpliesDriver
 pub mod Lists
+pub mod ActorSteps
 pub mod Progress
 pub mod RunsKept
 pub mod Mutex
