@@ -1,6 +1,6 @@
 -- What an entry implies that a driver alone makes, and what a call's step implies of the due call of
 -- its actor.
-use Rattle.std.proofs.Common.{◌≡◌, ℕ, Bool, true, false, not, cond, Option, Some, None, List, [], refl, sym, ap, ap₂, ◌∙◌, subst}
+use Rattle.std.proofs.Common.{◌≡◌, ℕ, Bool, true, false, not, ◌&&◌, cond, Option, Some, None, List, [], refl, sym, ap, ap₂, ◌∙◌, subst}
 use Rattle.std.specs.List.{list_any}
 use Rattle.irq_base.specs.declared.numbers.CpuNo.{CpuNo}
 use Rattle.irq_base.specs.declared.numbers.DevNo.{DevNo}
@@ -201,7 +201,7 @@ moment_due def r at past due = moment_row def r at past (driver_row def r past (
 -- ---- the due call of an actor
 
 -- the due call of a run, by its script
-handler_due : (def : LineDef) (d : DevNo) (past : List Entry) → due_in_run def parts.Primary d past
+pub handler_due : (def : LineDef) (d : DevNo) (past : List Entry) → due_in_run def parts.Primary d past
     ≡ due_of (calls_of_run def parts.Primary d past) (entries_of_run parts.Primary d past)
 handler_due def d past = if_makes (makes_calls def parts.Primary d past) (run_script def d parts.Primary) (entries_of_run parts.Primary d past)
   where
@@ -217,10 +217,7 @@ due_at_work def c d past f w =
     ∙ ap (λ (o : Option DevNo). due_of (calls_at_work def o past) (entries_at_work o past)) w
     ∙ sym (handler_due def d past)
 
-abbrev in_a_run : Bool → Bool → Bool
-in_a_run r t = cond r (not t) false
-
-run_is : (r t : Bool) → r ≡ true → t ≡ false → in_a_run r t ≡ true
+run_is : (r t : Bool) → r ≡ true → t ≡ false → (r && not t) ≡ true
 run_is true false a b = refl
 run_is false t a b = cc
 run_is true true a b = cc
@@ -318,7 +315,7 @@ handler_works def c due past h = by_work (at_work past) refl (some_of (is_cpu c 
         let n = ap (λ (o : Option DevNo). due_of (calls_at_work def o past) (entries_at_work o past)) (sym is) ∙ h.1 in
         record { of_flow = h.0; dev = d; is_at_work = is; is_due = handler_due def d past ∙ n }
 
-run_parts : (r t : Bool) → in_a_run r t ≡ true → (r ≡ true) × (t ≡ false)
+run_parts : (r t : Bool) → (r && not t) ≡ true → (r ≡ true) × (t ≡ false)
 run_parts true false h = (refl, refl)
 run_parts true true h = cc
 run_parts false t h = cc
