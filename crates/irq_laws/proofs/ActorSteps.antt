@@ -1,5 +1,5 @@
 -- What one more entry makes of an actor's calls, and of the entries that it has made of them.
-use Rattle.std.proofs.Common.{◌≡◌, ◌⊎◌, inl, inr, ℕ, Bool, true, false, not, ◌||◌, ◌&&◌, cond, Option, Some, None, is_some}
+use Rattle.std.proofs.Common.{◌≡◌, ℕ, Bool, true, false, not, ◌||◌, ◌&&◌, cond, Option, Some, None, is_some}
 use Rattle.std.proofs.Common.{List, [], ◌∷◌, ◌++◌, filter, reverse, refl, sym, ap, ap₂, ◌∙◌, subst}
 use Rattle.std.specs.List.{list_any}
 use Rattle.std.proofs.lemmas.Grind.{reverse_onto}
@@ -23,13 +23,13 @@ use Rattle.irq_base.specs.declared.entries.CallEntry.{CallEntry}
 use Rattle.irq_base.specs.Who.{actor_of}
 use Rattle.irq_model.specs.Places.{since}
 use Rattle.irq_model.specs.Kinds.{same_cpu, same_dev, same_actor, is_by, is_by_driver, is_driver, is_begin, is_begin_or_return}
-use Rattle.irq_model.specs.Kinds.{is_cpu_call, is_thread_call, is_thread_begin, is_thread_return, is_handle, is_leave, is_again}
+use Rattle.irq_model.specs.Kinds.{is_cpu_call, is_thread_call, is_thread_begin, is_thread_return}
 use Rattle.irq_model.specs.Lines.{run_script}
 use Rattle.irq_model.specs.Rounds.{flow, has_flow, is_cpu, at_work}
 use Rattle.irq_model.specs.Threads.{is_running}
-use Rattle.irq_model.specs.Due.{due_of, entries_by}
-use Rattle.irq_model.specs.Runs.{entries_of_run, makes_calls}
-use Rattle.irq_model.specs.RunLaws.{calls_of_run, is_in_run}
+use Rattle.irq_model.specs.Due.{due_of}
+use Rattle.irq_model.specs.Runs.{entries_of_run}
+use Rattle.irq_model.specs.RunLaws.{is_in_run}
 use Rattle.irq_model.specs.Next.{next_past}
 use Rattle.irq_model.specs.Legal.{IsDue}
 use Rattle.irq_steps.proofs.Same.{dev_from_same, cpu_from_same, driver_from_same}

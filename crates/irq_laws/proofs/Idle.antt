@@ -1,5 +1,5 @@
 -- A line on which nothing is at work.
-use Rattle.std.proofs.Common.{◌≡◌, Bool, true, false, ◌||◌, Option, Some, None, is_some, List, [], ◌∷◌, reverse, refl, sym, ap, ◌∙◌}
+use Rattle.std.proofs.Common.{◌≡◌, Bool, false, Option, Some, None, is_some, List, [], ◌∷◌, reverse, refl}
 use Rattle.std.specs.List.{list_any}
 use Rattle.std.proofs.lemmas.Bool.{or_parts}
 use Rattle.irq_base.specs.declared.numbers.CpuNo.{CpuNo}

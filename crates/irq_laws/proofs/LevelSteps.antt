@@ -1,5 +1,5 @@
 -- What an entry makes of the level: a run that served nothing leaves it as it was.
-use Rattle.std.proofs.Common.{◌≡◌, ℕ, min, Bool, true, false, not, ◌&&◌, Option, Some, None, List, ◌∷◌, nat_lt, refl, ap, ap₂, ◌∙◌}
+use Rattle.std.proofs.Common.{◌≡◌, ℕ, min, Bool, true, false, not, ◌&&◌, Option, Some, None, List, ◌∷◌, nat_lt, refl, ap, ap₂}
 use Rattle.std.proofs.lemmas.Bool.{and_right}
 use Rattle.irq_base.specs.declared.numbers.CpuNo.{CpuNo}
 use Rattle.irq_base.specs.declared.numbers.DevNo.{DevNo}

@@ -30,7 +30,7 @@ use Rattle.irq_model.specs.Links.{linked, is_linked, is_oneshot, linking_flags}
 use Rattle.irq_model.specs.Threads.{is_woken, is_running, is_unfinished}
 use Rattle.irq_model.specs.Due.{entries_by, due_call, holds_mutex}
 use Rattle.irq_model.specs.Kinds.{made_by}
-use Rattle.irq_model.specs.Next.{wake_answer, flags_differ, is_mismatch, same_flag}
+use Rattle.irq_model.specs.Next.{flags_differ, is_mismatch, same_flag}
 use Rattle.irq_model.specs.Reason.{is_called, is_being_freed, is_finishing}
 use Rattle.irq_model.specs.Legal.{IsDue}
 use Rattle.irq_model.specs.Valid.{IsValid, names_one_of}

@@ -1,8 +1,7 @@
 -- A line at rest: nothing is at work, all was delivered, and the drivers' calls are complete.
-use Rattle.std.proofs.Common.{◌≡◌, ℕ, suc, ◌⊎◌, inl, inr, Bool, true, false, not, ◌||◌, ◌&&◌, Option, Some, None, is_some, List, nat_lt, reverse, refl, sym, ap, ◌∙◌, subst, arith}
+use Rattle.std.proofs.Common.{◌≡◌, ℕ, suc, Bool, true, false, not, ◌||◌, ◌&&◌, Option, Some, None, is_some, List, nat_lt, reverse, refl, sym, ap, ◌∙◌, subst, arith}
 use Rattle.std.proofs.lemmas.Bool.{and_from, or_left, or_from, and_left, false_from_ne_true, ltb-false}
 use Rattle.irq_base.specs.declared.numbers.DevNo.{DevNo}
-use Rattle.irq_base.specs.declared.numbers.DriverNo.{DriverNo}
 use Rattle.irq_base.specs.declared.calls.Call.{Call}
 use Rattle.irq_base.specs.declared.calls.Call.TheVariants as calls
 use Rattle.irq_base.specs.declared.devices.DeviceDef.{DeviceDef}
@@ -21,7 +20,6 @@ use Rattle.irq_model.specs.Threads.{is_woken, is_running, is_unfinished, is_some
 use Rattle.irq_model.specs.Due.{due_call, holds_mutex}
 use Rattle.irq_model.specs.Reason.{is_called, is_finishing}
 use Rattle.irq_model.specs.Owed.{is_owed, IsDelivered}
-use Rattle.irq_model.specs.Next.{next}
 use Rattle.irq_model.specs.Laws.{IsHandledNext, IsServedWhenIdle}
 use Rattle.irq_model.specs.Legal.{IsLegal}
 use Rattle.irq_model.specs.Settled.{IsSettled}

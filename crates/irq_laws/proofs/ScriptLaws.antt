@@ -1,6 +1,6 @@
 -- An actor's entries are the entries of its calls, in the order of its script, each once: a driver's,
 -- a handler's in its run, a thread's in each of its runs.
-use Rattle.std.proofs.Common.{◌≡◌, ℕ, zero, suc, ◌+◌, ◌<◌, ◌≤◌, ◌==◌, ◌⊎◌, inl, inr, Bool, true, false, not, ◌&&◌, cond, Option, Some, None, List, [], ◌∷◌, ◌++◌}
+use Rattle.std.proofs.Common.{◌≡◌, ℕ, suc, ◌<◌, ◌≤◌, ◌==◌, inl, inr, Bool, true, false, not, ◌&&◌, cond, Option, Some, None, List, [], ◌∷◌, ◌++◌}
 use Rattle.std.proofs.Common.{reverse, length, drop, nat_lt, is_some, refl, sym, ap, ap₂, ◌∙◌, subst, arith, length-append}
 use Rattle.std.proofs.Common.{drop_of_length-le, append_assoc, append-nil}
 use Rattle.std.proofs.lemmas.List.{drop_at}
@@ -33,19 +33,18 @@ use Rattle.irq_base.specs.declared.entries.UnlinkAnswer.{UnlinkAnswer}
 use Rattle.irq_base.specs.declared.entries.UnlinkAnswer.TheVariants as unlinks
 use Rattle.irq_base.specs.Who.{actor_of}
 use Rattle.irq_model.specs.Places.{EachEntry}
-use Rattle.irq_model.specs.Kinds.{made_by, is_by, is_call, is_cpu_call, is_thread_call, is_return, is_thread_return}
-use Rattle.irq_model.specs.Rounds.{flow, has_flow, is_cpu, at_work}
+use Rattle.irq_model.specs.Kinds.{made_by, is_by, is_cpu_call, is_thread_call, is_return, is_thread_return}
+use Rattle.irq_model.specs.Rounds.{flow, is_cpu, at_work}
 use Rattle.irq_model.specs.Threads.{is_running}
 use Rattle.irq_model.specs.Due.{finds_nothing, begins_not_there, entries_of_call, due_of}
 use Rattle.irq_model.specs.Next.{next_step, next_past}
-use Rattle.irq_model.specs.Runs.{due_in_run, entries_of_run}
+use Rattle.irq_model.specs.Runs.{entries_of_run}
 use Rattle.irq_model.specs.RunLaws.{calls_of_run, is_in_run, FollowsRunScripts}
 use Rattle.irq_model.specs.Scripts.{MakesSteps, MakesAll, MakesAllOf, MakesSome, AreMadeBy, step_in, steps_in, FollowsScripts}
 use Rattle.irq_model.specs.Legal.{IsDue, IsLegal, IsLegalPast}
 use Rattle.irq_steps.proofs.Same.{dev_from_same, same_self_cpu, actor_from_same}
 use Rattle.irq_laws.specs.Actors.{by_someone, calls_of, calls_at_work, entries_of, entries_at_work, due_of_actor}
 use Rattle.irq_laws.specs.Kept.{KeepsRuns}
-use Rattle.irq_laws.proofs.Lists.{both_ways}
 use Rattle.irq_laws.proofs.RunsKept.{runs_more, no_runs}
 use Rattle.irq_laws.proofs.ActorSteps.{Turn, goes as goes_turn, stays, begins, ends, turn}
 use Rattle.irq_laws.proofs.Progress.{makes_one, same_count, same_call, due_at}
@@ -200,7 +199,6 @@ nothing_made (calls.Wake d) = (made (called.Wake true d ∷ []), (refl, refl))
 nothing_made (calls.Quiet d) = (made (called.Quiet d ∷ []), (refl, refl))
 nothing_made (calls.Arm d) = (made (called.Arm true d ∷ []), (refl, refl))
 nothing_made (calls.Serve d) = (made (called.Serve d 0 ∷ []), (refl, refl))
-
 
 none_made : (cs : List Call) → AreMadeBy cs []
 none_made [] = refl
@@ -449,9 +447,13 @@ GoesNext def a e past = (c : Call) × (n : ℕ) × (due_of_actor def a past ≡ 
 step_goes : (def : LineDef) (a : Actor) (past : List Entry) (e : Entry) (due : Call × ℕ) → due_of_actor def a past ≡ Some due
     → (call : CallEntry) × (next_step def past due ≡ Some call) × (made_by a call ≡ e) → GoesNext def a e past
 step_goes def a past e due is m =
-    let row = step_row def (Some due) due.0 due.1 past m.0 refl m.1 in
-    (due.0, due.1, is, subst (λ (x : Entry). GoesOn due.0 due.1 x) m.2
-    (goes_step due.0 (shared_due def due.0 due.1 past m.0 m.1) due.1 a m.0 (row_goes def due.0 due.1 past m.0 row)))
+    let row = step_row def (Some due) due.0 due.1 past m.0 refl m.1 in (
+      due.0,
+      due.1,
+      is,
+      subst (λ (x : Entry). GoesOn due.0 due.1 x) m.2
+          (goes_step due.0 (shared_due def due.0 due.1 past m.0 m.1) due.1 a m.0 (row_goes def due.0 due.1 past m.0 row)),
+    )
 
 driver_goes : (def : LineDef) (s : DriverNo) (past : List Entry) (e : Entry) → DriverRow def s past e → GoesNext def (actors.Driver s) e past
 driver_goes def s past e (ask d n is same) = (calls.Ask d, n, is, subst (λ (x : Entry). GoesOn (calls.Ask d) n x) same (goes_ask _ s d n))

@@ -1,8 +1,8 @@
 -- No standstill: where no actor has a step, whoever isn't done waits for himself, or for one that does.
-use Rattle.std.proofs.Common.{◌≡◌, ◌⊎◌, inl, inr, ℕ, zero, suc, ◌+◌, ◌==◌, Bool, true, false, not, ◌||◌, ◌&&◌, cond, IsSome, Option, Some, None, is_some}
-use Rattle.std.proofs.Common.{List, [], ◌∷◌, All, option_map, reverse, refl, sym, ap, ap₂, ◌∙◌, subst, arith, eqb-true}
+use Rattle.std.proofs.Common.{◌≡◌, ◌⊎◌, inl, inr, ℕ, zero, suc, ◌==◌, Bool, true, false, not, ◌||◌, ◌&&◌, cond, IsSome, Option, Some, None, is_some}
+use Rattle.std.proofs.Common.{List, [], ◌∷◌, option_map, reverse, refl, sym, ap, ap₂, ◌∙◌, subst, arith, eqb-true}
 use Rattle.std.specs.List.{list_any, AllByRecursion}
-use Rattle.std.proofs.lemmas.Bool.{and_parts, and_from, and_right, or_cases, or_left, or_right, or_from, eqb-false, false_from_ne_true, true_from_ne_false}
+use Rattle.std.proofs.lemmas.Bool.{and_parts, and_from, and_right, or_cases, or_from, eqb-false, false_from_ne_true}
 use Rattle.std.proofs.lemmas.List.Elements.{recursion_from_All}
 use Rattle.irq_base.specs.declared.numbers.CpuNo.{CpuNo}
 use Rattle.irq_base.specs.declared.numbers.DevNo.{DevNo}
@@ -22,29 +22,29 @@ use Rattle.irq_base.specs.declared.entries.CallEntry.{CallEntry}
 use Rattle.irq_base.specs.declared.entries.CallEntry.TheVariants as called
 use Rattle.irq_base.specs.declared.entries.UnlinkAnswer.TheVariants as unlinks
 use Rattle.irq_base.specs.Who.{actor_of}
-use Rattle.irq_model.specs.Places.{last_place, since, count_of}
-use Rattle.irq_model.specs.Kinds.{same_dev, made_by, is_by, is_call, is_freed_by, is_thread_begin, is_thread_return, same_actor, ends_free}
+use Rattle.irq_model.specs.Places.{last_place}
+use Rattle.irq_model.specs.Kinds.{same_dev, made_by, is_by, is_call, is_freed_by, ends_free}
 use Rattle.irq_model.specs.Lines.{has_device, kind_of, run_script, script_in, same_part}
-use Rattle.irq_model.specs.Links.{linked, is_oneshot}
-use Rattle.irq_model.specs.Rounds.{flow, has_flow, is_cpu, at_work, first_left}
+use Rattle.irq_model.specs.Links.{is_oneshot}
+use Rattle.irq_model.specs.Rounds.{flow, has_flow, is_cpu, at_work}
 use Rattle.irq_model.specs.Threads.{is_woken, is_running, active_count}
 use Rattle.irq_model.specs.Due.{due_of, due_call, is_being_freed_at, holds_mutex}
 use Rattle.irq_model.specs.Runs.{due_in_run, entries_of_run, makes_calls}
-use Rattle.irq_model.specs.Next.{next, next_past, next_step, next_of_call, next_of_driver, next_of_thread, next_of_cpu, next_in_flow, next_take}
-use Rattle.irq_model.specs.Next.{handler_or_return, call_or_return, finish_unmasks, begin_or_end, hard_clear_of, synced_of, freed_of, unlink_answer}
-use Rattle.irq_model.specs.Legal.{IsDue, IsLegal, IsLegalPast}
+use Rattle.irq_model.specs.Next.{next, next_past, next_step, next_of_driver, next_of_thread, next_in_flow, next_take}
+use Rattle.irq_model.specs.Next.{handler_or_return, call_or_return, hard_clear_of, synced_of, freed_of, unlink_answer}
+use Rattle.irq_model.specs.Legal.{IsLegalPast}
 use Rattle.irq_model.specs.Valid.{IsValid}
 use Rattle.irq_model.specs.ValidRuns.{HasValidRuns, may_stand}
-use Rattle.irq_model.specs.Waits.{Want, flow_ends, threads_rest, thread_rests, mutex_free, nothing_wanted, wanted_by, wanted_of, wanted_by_thread}
-use Rattle.irq_model.specs.Waits.{wanted_at_work, wanted_by_cpu, wanted, maker_of, mutex_holder, StandsIn, WaitsFor, WaitsThrough, IsHungPast}
+use Rattle.irq_model.specs.Waits.{Want, flow_ends, threads_rest, thread_rests, mutex_free, nothing_wanted, wanted_by, wanted_of}
+use Rattle.irq_model.specs.Waits.{wanted_at_work, wanted, maker_of, mutex_holder, StandsIn, WaitsFor, IsHungPast}
 use Rattle.irq_model.specs.Waits.{IsHeldUpPast, is_unfinished_actor, NoStandstillPast}
-use Rattle.irq_steps.proofs.Same.{same_self_cpu, same_self_actor, dev_from_same, cpu_from_same, actor_from_same}
+use Rattle.irq_steps.proofs.Same.{same_self_cpu, dev_from_same, cpu_from_same, actor_from_same}
 use Rattle.irq_laws.specs.Actors.{due_of_actor}
-use Rattle.irq_laws.specs.Kept.{Kept, KeepsRuns, freeing, freed_on}
+use Rattle.irq_laws.specs.Kept.{Kept, freeing, freed_on}
 use Rattle.irq_laws.proofs.Chosen.{the_same}
-use Rattle.irq_laws.proofs.Lists.{both_ways, any_imply}
+use Rattle.irq_laws.proofs.Lists.{both_ways}
 use Rattle.irq_laws.proofs.ActorSteps.{turn}
-use Rattle.irq_laws.proofs.Progress.{same_call, Within, earlier, by_this, within}
+use Rattle.irq_laws.proofs.Progress.{Within, earlier, by_this, within}
 use Rattle.irq_laws.proofs.Requested.{one_of}
 use Rattle.irq_laws.proofs.Mutex.{unlinks_some, owned, one_later, same_place, holder}
 use Rattle.irq_laws.proofs.BlockLaws.{none_counted}

@@ -1,5 +1,5 @@
 -- The maker of the free that is under way has it due.
-use Rattle.std.proofs.Common.{◌≡◌, ℕ, zero, suc, ◌+◌, ◌<◌, Bool, true, false, cond, Option, Some, List, [], ◌∷◌, ◌++◌, length, nat_lt}
+use Rattle.std.proofs.Common.{◌≡◌, ℕ, suc, ◌<◌, Bool, true, false, cond, Some, List, [], ◌∷◌, ◌++◌, length, nat_lt}
 use Rattle.std.proofs.Common.{refl, sym, ap, ◌∙◌, subst, arith}
 use Rattle.std.proofs.lemmas.Bool.{ltb-true, lt-ltb}
 use Rattle.irq_base.specs.declared.numbers.DevNo.{DevNo}
@@ -14,7 +14,7 @@ use Rattle.irq_base.specs.declared.entries.CallEntry.TheVariants as called
 use Rattle.irq_base.specs.declared.entries.UnlinkAnswer.TheVariants as unlinks
 use Rattle.irq_model.specs.Kinds.{made_by, is_by, same_actor}
 use Rattle.irq_model.specs.Due.{begins_not_there, entries_of_call}
-use Rattle.irq_model.specs.Next.{next_of_free, next_past}
+use Rattle.irq_model.specs.Next.{next_of_free}
 use Rattle.irq_model.specs.Legal.{IsDue, IsLegalPast}
 use Rattle.irq_steps.proofs.Same.{same_self_actor}
 use Rattle.irq_laws.specs.Actors.{due_of_actor}
@@ -78,9 +78,11 @@ call_within def b (called.Unlink (unlinks.Unlinked last) x) past a d due runs f 
     let here : due_of_actor def b (made_by b (called.Unlink (unlinks.Unlinked last) x) ∷ past) ≡ Some (calls.Free x, 1) =
     goes_on_with def b (made_by b (called.Unlink (unlinks.Unlinked last) x)) past (calls.Free x) 0
     (turn def b (made_by b (called.Unlink (unlinks.Unlinked last) x)) past due runs) mine
-    (unlink_due def b x (unlinks.Unlinked last) past due).call (unlink_goes x b last) in
-    (0, subst (λ (y : Actor × DevNo). due_of_actor def y.0
-    (made_by b (called.Unlink (unlinks.Unlinked last) x) ∷ past) ≡ Some (calls.Free y.1, 1)) same here)
+    (unlink_due def b x (unlinks.Unlinked last) past due).call (unlink_goes x b last) in (
+      0,
+      subst (λ (y : Actor × DevNo). due_of_actor def y.0
+          (made_by b (called.Unlink (unlinks.Unlinked last) x) ∷ past) ≡ Some (calls.Free y.1, 1)) same here,
+    )
 call_within def b (called.Unlink unlinks.NotThere x) past a d due runs f k h = not_freeing past _ (unlink_due def b x unlinks.NotThere past due).no_mutex h
 call_within def b (called.Freed x) past a d due runs f k h = cc
 call_within def b call past a d due runs f k h = goes_on def (made_by b call) past a d due runs f (is_by a (made_by b call)) refl (k h)
