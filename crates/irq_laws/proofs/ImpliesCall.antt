@@ -225,6 +225,14 @@ synced_step def due past (disable_synced n is some more rest same) = rest
 synced_step def due past (synced n is some rest same) = rest
 synced_step def due past x = let n = kinds_agree x in cc
 
+-- a sync's end is the third entry of a disable, or the second of a sync
+pub synced_call : (def : LineDef) (due : Option (Call × ℕ)) (past : List Entry) → Row def due past called.Synced
+    → ((n : ℕ) × (due ≡ Some (calls.Disable, n)) × ((n == 0) ≡ false) × ((n == 1) ≡ false))
+    ⊎ ((n : ℕ) × (due ≡ Some (calls.Sync, n)) × ((n == 0) ≡ false))
+synced_call def due past (disable_synced n is some more rest same) = inl (n, is, some, more)
+synced_call def due past (synced n is some rest same) = inr (n, is, some)
+synced_call def due past x = let n = kinds_agree x in cc
+
 pub enable_step : (def : LineDef) (due : Option (Call × ℕ)) (answer : EnableAnswer) (past : List Entry)
     → Row def due past (called.Enable answer) → answer ≡ enable_answer def past
 enable_step def due answer past (enable n is same) = (let a : answer ≡ enable_answer def past = cc in a)

@@ -250,7 +250,7 @@ call_due def (actors.Thread d) call past due =
     record { due = u.due; is_due = due_in_thread def d past u.running u.not_returned ∙ u.is_due; step = u.step }
 call_due def (actors.Driver r) call past due = driver_step def r call past (driver_row def r past (by.DriverCall r call) due)
 
-call_row : (def : LineDef) (a : Actor) (call : CallEntry) (past : List Entry) → IsDue def (made_by a call) past
+pub call_row : (def : LineDef) (a : Actor) (call : CallEntry) (past : List Entry) → IsDue def (made_by a call) past
     → Row def (due_of_actor def a past) past call
 call_row def a call past due =
     let u = call_due def a call past due in

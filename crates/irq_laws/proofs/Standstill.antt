@@ -188,7 +188,7 @@ script_stands def (c ∷ cs) d part h = by_test (same_dev d c.0 && same_part par
         subst (λ (x : Part). may_stand (kind_of def d) x d c.2 ≡ true) its (subst (λ (x : DevNo). may_stand (kind_of def x) c.1 x c.2 ≡ true) dev h.0) in
         rw is (here, rest)
 
-run_stands : (def : LineDef) (past : List Entry) (part : Part) (d : DevNo) (c : Call) (n : ℕ) → HasValidRuns def
+pub run_stands : (def : LineDef) (past : List Entry) (part : Part) (d : DevNo) (c : Call) (n : ℕ) → HasValidRuns def
     → due_in_run def part d past ≡ Some (c, n) → may_stand (kind_of def d) part d c ≡ true
 run_stands def past part d c n runs h = by_test (makes_calls def part d past) refl
   where
@@ -226,7 +226,7 @@ stuck def past a c n is wants (by_thread d m w free one t) =
 stuck def past a c n is wants (by_mutex w h) = on_mutex (wants ∙ w) h
 
 -- r: it runs, w: it is woken, t: its handler returned, h: a flow is in progress
-row_none : (r w t o f h : Bool) (begins : Entry) (goes : Option Entry) (finishes ends : Entry) → row r w t o f h begins goes finishes ends ≡ None
+pub row_none : (r w t o f h : Bool) (begins : Entry) (goes : Option Entry) (finishes ends : Entry) → row r w t o f h begins goes finishes ends ≡ None
     → ((r ≡ false) × (w ≡ false)) ⊎ (((r ≡ true) × (t ≡ false) × (goes ≡ None)) ⊎ ((r ≡ true) × (t ≡ true) × (h ≡ true)))
 row_none false false t o f h a b c d is = inl (refl, refl)
 row_none false true t o f h a b c d is = cc
