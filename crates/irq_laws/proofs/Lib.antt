@@ -37,4 +37,6 @@ pub mod CellSteps
 pub mod Starts
 pub mod CellKept
 pub mod LogLaws
+pub mod ToCome
+pub mod Owes
 pub mod OwnLaws
