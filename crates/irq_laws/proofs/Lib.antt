@@ -39,4 +39,6 @@ pub mod CellKept
 pub mod LogLaws
 pub mod ToCome
 pub mod Owes
+pub mod Sums
+pub mod LeftEnabled
 pub mod OwnLaws

@@ -23,7 +23,8 @@ ghost use Rattle.irq_model.specs.Owed.{IsCovered, IsDelivered};
 ghost use Rattle.irq_model.specs.Reason.{HasReason, OneIsCalled, OneIsFreed};
 ghost use Rattle.irq_model.specs.Scripts.{FollowsScripts};
 ghost use Rattle.irq_model.specs.Rounds.{flow, has_flow};
-ghost use Rattle.irq_model.specs.RunLaws.{FollowsRunScripts};
+ghost use Rattle.irq_model.specs.RunLaws.{FollowsRunScripts, EnablesWhatItDisables};
+ghost use Rattle.irq_model.specs.RunLaws.{IsLeftEnabled};
 ghost use Rattle.irq_model.specs.Settled.{IsSettled};
 ghost use Rattle.irq_model.specs.Next.{next};
 ghost use Rattle.irq_model.specs.Signal.{target};
@@ -219,4 +220,13 @@ pub fn log_is_no_rule()
         → next (with_log def n) h a ≡ next def h a }
     ensures legal { (def : LineDef) (n : ℕ) (h : List Entry) → IsLegal def h
         → IsLegal (with_log def n) h }
+{}
+
+/// Not left disabled: where each run that disables the line has its thread enable it, and each driver
+/// enables as often as it disables, a line at rest with something linked is enabled, unless an end
+/// killed it since its depth was last set anew.
+#[tactic(auto, using(crate::proofs::LeftEnabled::left_enabled))]
+pub fn left_enabled()
+    ensures law { (def : LineDef) (h : List Entry) → IsValid def → EnablesWhatItDisables def
+        → IsLegal def h → IsAtRest def h → IsLeftEnabled def h }
 {}
