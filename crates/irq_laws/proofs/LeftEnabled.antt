@@ -4,7 +4,7 @@ use Rattle.std.proofs.Common.{◌≡◌, ℕ, zero, suc, ◌+◌, ◌-◌, ◌<�
 use Rattle.std.proofs.Common.{List, [], ◌∷◌, ◌++◌, filter, reverse, slice_get, refl, sym, ap, ◌∙◌, subst, arith, eqb-true}
 use Rattle.std.specs.List.{list_any}
 use Rattle.std.proofs.lemmas.Grind.{reverse_onto}
-use Rattle.std.proofs.lemmas.Bool.{and_parts, or_cases, or_parts, or_from, or_left, or_right, not-true, false_from_ne_true}
+use Rattle.std.proofs.lemmas.Bool.{and_parts, or_cases, or_parts, or_left, or_right, not-true, false_from_ne_true}
 use Rattle.irq_base.specs.declared.numbers.CpuNo.{CpuNo}
 use Rattle.irq_base.specs.declared.numbers.DevNo.{DevNo}
 use Rattle.irq_base.specs.declared.numbers.DriverNo.{DriverNo}
@@ -22,7 +22,6 @@ use Rattle.irq_base.specs.declared.entries.Entry.{Entry}
 use Rattle.irq_base.specs.declared.entries.Entry.TheVariants as by
 use Rattle.irq_base.specs.declared.entries.CpuEntry.{CpuEntry}
 use Rattle.irq_base.specs.declared.entries.CpuEntry.TheVariants as cpus
-use Rattle.irq_base.specs.declared.entries.DriverEntry.{DriverEntry}
 use Rattle.irq_base.specs.declared.entries.DriverEntry.TheVariants as drivers
 use Rattle.irq_base.specs.declared.entries.TakeAnswer.TheVariants as takes
 use Rattle.irq_base.specs.declared.entries.Note.{Note}
@@ -48,7 +47,7 @@ use Rattle.irq_model.specs.Threads.{is_woken, is_running, is_unfinished}
 use Rattle.irq_model.specs.Due.{calls_by, entries_by, due_call, due_of}
 use Rattle.irq_model.specs.Runs.{entries_of_run}
 use Rattle.irq_model.specs.Reason.{is_called, is_being_freed}
-use Rattle.irq_model.specs.RunLaws.{is_disabling, is_enabling, is_in_run, noauto_request, EnablesWhatItDisables, killed_since_reset, IsLeftEnabled}
+use Rattle.irq_model.specs.RunLaws.{is_disabling, is_enabling, noauto_request, EnablesWhatItDisables, killed_since_reset, IsLeftEnabled}
 use Rattle.irq_model.specs.Next.{enable_answer, opened_by_request, resend_of, is_only, is_off_now}
 use Rattle.irq_model.specs.Legal.{IsDue, IsLegal, IsLegalPast}
 use Rattle.irq_model.specs.Valid.{IsValid}
@@ -74,7 +73,7 @@ use Rattle.irq_laws.proofs.TakeLaws.{one_if}
 use Rattle.irq_laws.proofs.KeptAlways.{kept}
 use Rattle.irq_laws.proofs.Idle.{IsIdle, at_rest_idle}
 use Rattle.irq_laws.proofs.ToCome.{to_come, come_fewer, come_more, come_below, come_done, enables, is_enable, disables_of, enables_of, own_come, entry_marks}
-use Rattle.irq_laws.proofs.Owes.{is_cpu_disable, is_dev, owes_enable, IsOwing, by_handler, by_wake, by_run, not_twice, owing_kept}
+use Rattle.irq_laws.proofs.Owes.{is_dev, owes_enable, IsOwing, by_handler, by_wake, by_run, not_twice, owing_kept}
 use Rattle.irq_laws.proofs.Sums.{sum_to, sum_most, sum_none, sum_more, sum_most_but}
 
 -- ---- what is counted

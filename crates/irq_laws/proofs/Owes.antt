@@ -1,14 +1,13 @@
 -- Which devices owe an enable, of a line whose handlers leave the enable to their threads: a handler of
 -- the device disabled the line in this round, and the thread hasn't enabled it since.
-use Rattle.std.proofs.Common.{◌≡◌, ℕ, zero, suc, ◌+◌, ◌<◌, ◌≤◌, ◌==◌, ◌⊎◌, inl, inr, Bool, true, false, not, ◌||◌, ◌&&◌, cond, Option, Some, None, is_some}
-use Rattle.std.proofs.Common.{List, [], ◌∷◌, ◌++◌, filter, reverse, length, drop, nat_lt, slice_get, refl, sym, ap, ap₂, ◌∙◌, subst, arith}
+use Rattle.std.proofs.Common.{◌≡◌, ℕ, zero, suc, ◌+◌, ◌≤◌, ◌==◌, ◌⊎◌, inl, inr, Bool, true, false, not, ◌||◌, ◌&&◌, cond, Option, Some, None}
+use Rattle.std.proofs.Common.{List, [], ◌∷◌, ◌++◌, filter, reverse, length, drop, nat_lt, slice_get, refl, sym, ap, ◌∙◌, subst, arith}
 use Rattle.std.specs.List.{list_any}
 use Rattle.std.proofs.lemmas.Grind.{reverse_onto}
-use Rattle.std.proofs.lemmas.Bool.{and_parts, and_from, or_cases, or_left, or_right, or_parts, not-true, false_from_ne_true}
+use Rattle.std.proofs.lemmas.Bool.{and_parts, and_from, or_cases, or_left, or_right, not-true}
 use Rattle.irq_base.specs.declared.numbers.CpuNo.{CpuNo}
 use Rattle.irq_base.specs.declared.numbers.DevNo.{DevNo}
 use Rattle.irq_base.specs.declared.calls.Call.{Call}
-use Rattle.irq_base.specs.declared.devices.Answer.{Answer}
 use Rattle.irq_base.specs.declared.devices.Answer.TheVariants as answers
 use Rattle.irq_base.specs.declared.devices.Kind.{Kind}
 use Rattle.irq_base.specs.declared.devices.Kind.TheVariants as kinds
@@ -16,21 +15,18 @@ use Rattle.irq_base.specs.declared.devices.Part.TheVariants as parts
 use Rattle.irq_base.specs.declared.devices.ToldAnswer.{ToldAnswer}
 use Rattle.irq_base.specs.declared.devices.ToldAnswer.TheVariants as tolds
 use Rattle.irq_base.specs.declared.lines.LineDef.{LineDef}
-use Rattle.irq_base.specs.declared.entries.Actor.{Actor}
 use Rattle.irq_base.specs.declared.entries.Actor.TheVariants as actors
 use Rattle.irq_base.specs.declared.entries.Entry.{Entry}
 use Rattle.irq_base.specs.declared.entries.Entry.TheVariants as by
 use Rattle.irq_base.specs.declared.entries.CpuEntry.TheVariants as cpus
 use Rattle.irq_base.specs.declared.entries.ThreadEntry.{ThreadEntry}
 use Rattle.irq_base.specs.declared.entries.ThreadEntry.TheVariants as threads
-use Rattle.irq_base.specs.declared.entries.TakeAnswer.TheVariants as takes
 use Rattle.irq_base.specs.declared.entries.CallEntry.{CallEntry}
 use Rattle.irq_base.specs.Handlers.{answer_of, answer_of_told}
 use Rattle.irq_model.specs.Places.{since, before, count_of}
 use Rattle.irq_model.specs.Kinds.{same_dev, is_begin, is_begin_or_return, is_cpu_call, is_thread_call, is_thread_begin, disables, is_wake, wakes}
 use Rattle.irq_model.specs.Lines.{kind_of, run_script, told_answers}
-use Rattle.irq_model.specs.Links.{linked}
-use Rattle.irq_model.specs.Rounds.{flow, is_cpu, has_begun, begins_round, at_work}
+use Rattle.irq_model.specs.Rounds.{has_begun, begins_round, at_work}
 use Rattle.irq_model.specs.Threads.{is_woken, is_running}
 use Rattle.irq_model.specs.Due.{due_of, entries_of_call}
 use Rattle.irq_model.specs.Runs.{due_in_run, entries_of_run, makes_calls, answer_of_run_now, is_recognised, met_by, told_of}

@@ -57,14 +57,14 @@ use Rattle.irq_laws.proofs.ImpliesDriver.{driver_row, DriverRow, ask, request, a
 -- ---- steps of calls among entries
 
 -- a call that drivers, handlers and threads make alike
-abbrev is_shared : Call → Bool
+abbrev pub is_shared : Call → Bool
 is_shared (calls.Ask d) = false
 is_shared (calls.Request d flags) = false
 is_shared (calls.Affinity mask) = false
 is_shared (calls.Moment at) = false
 is_shared c = true
 
-shared_all : (c : Call) → is_shared c ≡ true → (es : List Entry) → MakesAll c es → MakesSteps c (steps_in es) × (length (steps_in es) ≡ length es)
+pub shared_all : (c : Call) → is_shared c ≡ true → (es : List Entry) → MakesAll c es → MakesSteps c (steps_in es) × (length (steps_in es) ≡ length es)
 shared_all (calls.Ask d) other es h = cc
 shared_all (calls.Request d flags) other es h = cc
 shared_all (calls.Affinity mask) other es h = cc
@@ -88,7 +88,7 @@ one_step (by.ThreadCall x call) = omega arith
 one_step (by.DriverCall s call) = omega arith
 one_step e = omega arith
 
-few_steps : (xs : List Entry) → length (steps_in xs) ≤ length xs
+pub few_steps : (xs : List Entry) → length (steps_in xs) ≤ length xs
 few_steps [] = omega arith
 few_steps (x ∷ xs) = let l = length-append (step_in x) (steps_in xs) in let o = one_step x in let f = few_steps xs in omega (arith, l, o, f)
 
@@ -161,7 +161,7 @@ all_steps c cs h = absurd h
 shared_count : (c : Call) → is_shared c ≡ true → (es : List Entry) → MakesAll c es → entries_of_call c es ≡ length es
 shared_count c is es h = let m = shared_all c is es h in counts_alike c es m.1 ∙ all_steps c (steps_in es) m.0 ∙ m.1
 
-all_count : (c : Call) (es : List Entry) → MakesAll c es → entries_of_call c es ≡ length es
+pub all_count : (c : Call) (es : List Entry) → MakesAll c es → entries_of_call c es ≡ length es
 all_count (calls.Ask d) (by.Driver r (drivers.Ask edge dev) ∷ []) h = refl
 all_count (calls.Request d flags) (by.Driver r (drivers.Request given answer opened dev) ∷ []) h = refl
 all_count (calls.Affinity mask) (by.Driver r (drivers.Affinity answer given) ∷ []) h = refl

@@ -1,5 +1,5 @@
 -- Sums over numbers below a bound.
-use Rattle.std.proofs.Common.{◌≡◌, ℕ, zero, suc, ◌+◌, ◌<◌, ◌≤◌, ◌==◌, Bool, true, false, refl, sym, ap, ◌∙◌, subst, arith, eqb-true}
+use Rattle.std.proofs.Common.{◌≡◌, ℕ, zero, suc, ◌+◌, ◌<◌, ◌≤◌, ◌==◌, Bool, true, false, refl, sym, subst, arith, eqb-true}
 use Rattle.std.proofs.lemmas.Bool.{false_from_ne_true, eqb-false}
 
 abbrev pub sum_to : (ℕ → ℕ) → ℕ → ℕ

@@ -1,5 +1,5 @@
 -- How many calls of a kind are to come in a script: those that have made no entry yet.
-use Rattle.std.proofs.Common.{◌≡◌, ℕ, suc, ◌+◌, ◌≤◌, ◌==◌, ◌⊎◌, inl, inr, Bool, true, false, ◌&&◌, cond, Option, Some, None, List, [], ◌∷◌, ◌++◌}
+use Rattle.std.proofs.Common.{◌≡◌, ℕ, ◌+◌, ◌≤◌, ◌==◌, Bool, true, false, ◌&&◌, cond, Some, None, List, [], ◌∷◌, ◌++◌}
 use Rattle.std.proofs.Common.{length, drop, nat_lt, refl, sym, ap, ap₂, ◌∙◌, subst, arith, length-append, drop_of_length-le, eqb-true}
 use Rattle.std.proofs.lemmas.List.{drop-append-le}
 use Rattle.std.proofs.lemmas.Bool.{ltb-true, ltb-false, lt-ltb, le-ltb, false_from_ne_true}
@@ -10,8 +10,6 @@ use Rattle.irq_base.specs.declared.lines.LineDef.{LineDef}
 use Rattle.irq_base.specs.declared.entries.Actor.{Actor}
 use Rattle.irq_base.specs.declared.entries.Actor.TheVariants as actors
 use Rattle.irq_base.specs.declared.entries.Entry.{Entry}
-use Rattle.irq_base.specs.declared.entries.Entry.TheVariants as by
-use Rattle.irq_base.specs.declared.entries.DriverEntry.TheVariants as drivers
 use Rattle.irq_base.specs.declared.entries.CallEntry.{CallEntry}
 use Rattle.irq_base.specs.declared.entries.CallEntry.TheVariants as called
 use Rattle.irq_base.specs.Who.{actor_of}
@@ -23,8 +21,6 @@ use Rattle.irq_model.specs.RunLaws.{is_disabling, is_enabling}
 use Rattle.irq_model.specs.Legal.{IsDue}
 use Rattle.irq_steps.proofs.Same.{actor_from_same}
 use Rattle.irq_laws.specs.Actors.{calls_of, entries_of, due_of_actor}
-use Rattle.irq_laws.proofs.Lists.{both_ways}
-use Rattle.irq_laws.proofs.ActorSteps.{Turn, goes as goes_turn, stays, begins, ends}
 use Rattle.irq_laws.proofs.Progress.{makes_one, same_count, same_call, due_at, standing}
 use Rattle.irq_laws.proofs.ImpliesFlow.{made_step}
 use Rattle.irq_laws.proofs.ImpliesCall.{Row, step_row, unlink, free_clear, freed as freed_row, disable, disable_clear, disable_synced, nosync, enable}

@@ -1,33 +1,13 @@
 -- The laws, of histories.
-use Rattle.std.proofs.Common.{◌≡◌, ℕ, ◌+◌, ◌≤◌, Bool, true, false, not, ◌&&◌, subst, Option, Some, None, List, ◌∷◌, reverse, length, refl, ap, ◌∙◌, arith}
-use Rattle.std.proofs.lemmas.List.{length-reverse}
+use Rattle.std.proofs.Common.{◌≡◌, ℕ, ◌+◌, ◌≤◌, List, reverse, arith}
 use Rattle.irq_base.specs.declared.lines.LineDef.{LineDef}
 use Rattle.irq_base.specs.declared.entries.Entry.{Entry}
-use Rattle.irq_base.specs.declared.entries.Actor.{Actor}
-use Rattle.irq_base.specs.declared.lines.FlowKind.{FlowKind}
-use Rattle.irq_base.specs.declared.lines.FlowKind.TheVariants as flows
-use Rattle.irq_model.specs.Places.{count_of}
-use Rattle.irq_model.specs.Kinds.{is_busy, is_start}
-use Rattle.irq_model.specs.Lines.{is_level_flow, is_eoi_flow}
-use Rattle.irq_model.specs.Masks.{is_masked}
-use Rattle.irq_model.specs.Rounds.{has_flow}
-use Rattle.irq_storms.specs.Judged.{one_if}
-use Rattle.irq_model.specs.Bounds.{level_bound, bound}
-use Rattle.irq_model.specs.Next.{next, next_past}
-use Rattle.irq_model.specs.Legal.{IsDue, IsLegal}
+use Rattle.irq_model.specs.Legal.{IsLegal}
 use Rattle.irq_model.specs.Valid.{IsValid}
-use Rattle.irq_storms.specs.Storms.{RunsAreCounted, CallsAreCounted, AsksAreCounted, EdgeIsCounted, LevelIsCounted}
+use Rattle.irq_storms.specs.Storms.{RunsAreCounted, CallsAreCounted}
 use Rattle.irq_storms.proofs.RunCounts.{begins_past, returns_past, rounds_past}
 use Rattle.irq_storms.proofs.ThreadCounts.{begins_of, returns_of, finishes_of, dones_of}
 use Rattle.irq_storms.proofs.CallCounts.{driver_entries, asks_of_drivers, renewals_of_drivers}
-use Rattle.irq_storms.proofs.EdgeCounts.{agains_past}
-use Rattle.irq_storms.proofs.EdgeBound.{edge_counts_of}
-use Rattle.irq_storms.proofs.ServedCounts.{served_exactly, served_of, served_past}
-use Rattle.irq_storms.proofs.DeviceSums.{served_of_all}
-use Rattle.irq_storms.proofs.KillCounts.{shut_past, closed_past, may_be_busy, busy_past, none_busy, offs_past}
-use Rattle.irq_storms.proofs.EndCounts.{handled_past, deferred_past, clearing_past, nothing_past}
-use Rattle.irq_storms.proofs.LevelBound.{level_counts, within, within_past, bound_below_level}
-use Rattle.irq_laws.proofs.OwnLaws.{due_is_own}
 
 below : (t m n : ℕ) → t + m ≤ n → t ≤ n
 below t m n h = omega (arith, h)
@@ -55,66 +35,3 @@ calls_are_counted def h legal = record {
       = asks_of_drivers def (reverse h) legal;
   renewals = renewals_of_drivers def (reverse h) legal;
 }
-
-pub edge_is_counted : (def : LineDef) (h : List Entry) → IsLegal def h → EdgeIsCounted def h
-edge_is_counted def h legal edge =
-    let counts = edge_counts_of def h legal edge in record { agains = agains_past def (reverse h) legal; rounds = counts.rounds; takes = counts.takes }
-
-no_eoi : (f : FlowKind) → is_level_flow f ≡ true → is_eoi_flow f ≡ false
-no_eoi flows.Level h = refl
-no_eoi flows.Edge h = cc
-no_eoi flows.Eoi h = cc
-
-on_level_flow : (def : LineDef) (past : List Entry) → is_level_flow def.flow ≡ true
-    → count_of is_busy past + one_if (may_be_busy def past) ≤ count_of is_start past
-    → count_of is_busy past + one_if (has_flow def past && not (is_masked def past)) ≤ count_of is_start past
-on_level_flow def past flow h = subst (λ (b : Bool). count_of is_busy past + one_if
-    (not b && (has_flow def past && not (is_masked def past))) ≤ count_of is_start past) (no_eoi def.flow flow) h
-
-pub level_is_counted : (def : LineDef) (h : List Entry) → IsValid def → IsLegal def h → LevelIsCounted def h
-level_is_counted def h valid legal level =
-    let past = reverse h in
-    record {
-      handled = handled_past def past valid legal level;
-      deferred = deferred_past def past legal;
-      clearing = clearing_past def past;
-      shut = shut_past def past valid legal level;
-      nothing = nothing_past def past valid legal level;
-      breaks = (level_counts def past valid legal level).breaks;
-      busy = λ flow. on_level_flow def past flow (busy_past def past valid legal level);
-      none_busy = none_busy def past legal level;
-      off = offs_past def past valid legal level;
-      closed = closed_past def past valid legal;
-    }
-
-pub asks_are_counted : (def : LineDef) (h : List Entry) → IsValid def → IsLegal def h → AsksAreCounted def h
-asks_are_counted def h valid legal =
-    record {
-      exact = λ d. served_exactly def d (reverse h) valid legal;
-      runs
-          = λ d. served_of def d (reverse h) valid legal;
-      all = served_of_all def (reverse h) valid legal;
-      all_runs
-          = served_past def (reverse h) valid legal;
-    }
-
-pub within_bound : (def : LineDef) (h : List Entry) → IsValid def → IsLegal def h → length h ≤ bound def
-within_bound def h valid legal = let n = within def h valid legal in let l = length-reverse h in omega (arith, n, l)
-
-pub within_level_bound : (def : LineDef) (h : List Entry) → IsValid def → IsLegal def h → length h ≤ level_bound def
-within_level_bound def h valid legal = let n = within_bound def h valid legal in let l = bound_below_level def in omega (arith, n, l)
-
--- one more entry that is due makes a legal history one longer
-one_longer : (def : LineDef) (h : List Entry) (a : Actor) (e : Entry) → IsValid def → IsLegal def h → next def h a ≡ Some e → length (reverse h) + 1 ≤ bound def
-one_longer def h a e valid legal due =
-    let own = due_is_own def h a e due in
-    let is : IsDue def e (reverse h) = ap (λ (b : Actor). next_past def (reverse h) b) own ∙ due in
-    let n : length (e ∷ reverse h) ≤ bound def = within_past def (e ∷ reverse h) valid (is, legal) in
-    omega (arith, n)
-
-pub never_full : (def : LineDef) (h : List Entry) (a : Actor) → IsValid def → IsLegal def h → bound def ≤ def.log → length h ≡ def.log → next def h a ≡ None
-never_full def h a valid legal ample full = by_due (next def h a) refl
-  where
-    by_due : (o : Option Entry) → next def h a ≡ o → o ≡ None
-    by_due None is = refl
-    by_due (Some e) is = let n = one_longer def h a e valid legal is in let l = length-reverse h in absurd (omega (arith, n, l, ample, full))

@@ -3,13 +3,5 @@ pub mod CallCounts
 pub mod Running
 pub mod RunCounts
 pub mod ThreadCounts
-pub mod EdgeCounts
-pub mod EdgeBound
+pub mod RoundCounts
 pub mod Laws
-pub mod ServedCounts
-pub mod KillCounts
-pub mod WindowRule
-pub mod EndCounts
-pub mod LevelBound
-pub mod DeviceSums
-pub mod StormRows

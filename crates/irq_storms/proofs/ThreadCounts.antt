@@ -50,7 +50,7 @@ begin_tells def d e past due h = cc
 pub return_tells : (def : LineDef) (d : DevNo) (e : Entry) (past : List Entry) → IsDue def e past
     → is_thread_return d e ≡ true → (is_running past d ≡ true) × (has_returned past d ≡ false)
 return_tells def d (by.Thread x (threads.Return handled served)) past due h =
-    let u = thread_return_due _ def x served past due in
+    let u = thread_return_due def x handled served past due in
     let same = sym (dev_from_same d x h) in
     (subst (λ (y : DevNo). is_running past y ≡ true) same u.running, subst (λ (y : DevNo). has_returned past y ≡ false) same u.not_returned)
 return_tells def d e past due h = cc
@@ -183,10 +183,6 @@ dev_key _ = 0
 pub swapped : (a b : Bool) → (a && b) ≡ (b && a)
 swapped a b = grind arith
 
-key_wakes : (k : ℕ) (e : Entry) → wakes (record { 0 = k }) e ≡ (returns_wake e && (k == dev_key e))
-key_wakes k (by.Cpu cpu (cpus.Return answer dev served)) = swapped (k == dev.0) (is_wake answer)
-key_wakes k e = refl
-
 key_begin : (k : ℕ) (e : Entry) → is_thread_begin (record { 0 = k }) e ≡ (is_any_thread_begin e && (k == dev_key e))
 key_begin k (by.Thread dev threads.Begin) = refl
 key_begin k e = refl
@@ -205,18 +201,6 @@ key_done k e = refl
 
 plain : (a b m p q : ℕ) → a ≡ p → b ≡ q → a + m ≤ b → p ≤ q
 plain a b m p q h i j = omega (arith, h, i, j)
-
-pub thread_begins_past : (def : LineDef) (past : List Entry) → IsLegalPast def past → count_of is_any_thread_begin past ≤ count_of is_any_return past
-thread_begins_past def past legal =
-    let all = counts_by_key dev_key past is_any_thread_begin returns_wake
-    (λ k. plain _ _ _ _ _ (count_ext _ _ past (key_begin k)) (count_ext _ _ past (key_wakes k))
-    (begins_of def (record { 0 = k }) past legal)) in
-    let some = count_imply returns_wake is_any_return past is_return in
-    omega (arith, all, some)
-  where
-    is_return : (e : Entry) → returns_wake e ≡ true → is_any_return e ≡ true
-    is_return (by.Cpu cpu (cpus.Return answer dev served)) h = refl
-    is_return e h = cc
 
 pub thread_returns_past : (def : LineDef) (past : List Entry) → IsLegalPast def past → count_of is_any_thread_return past ≤ count_of is_any_thread_begin past
 thread_returns_past def past legal =

@@ -22,7 +22,7 @@ use Rattle.irq_storms.specs.Judged.{one_if, handled_ends, nothing_ends, deferred
 use Rattle.irq_storms.specs.Judged.{clearing_ends, breaks, serving_marks, allowed}
 
 -- runs are counted: a round calls each device's handler once at most, and has one end at most; a
--- thread runs no more often than returns woke it
+-- thread runs no more often than it was woken
 pub record RunsAreCounted (def : LineDef) (h : List Entry) : Type 0 where
   pub begins : count_of is_any_begin (reverse h) ≤ length def.devices * count_of
       (begins_round def) (reverse h)
@@ -37,12 +37,12 @@ pub record RunsAreCounted (def : LineDef) (h : List Entry) : Type 0 where
   pub dones : (d : DevNo)
       → count_of (is_done d) (reverse h) ≤ count_of (is_thread_begin d) (reverse h)
 
--- calls are counted: an ask makes one entry, any other call at most three; at most one of these
--- starts the line, links a device or hands in a moment
+-- drivers' calls are counted: an ask makes one entry, any other call at most three; at most one of
+-- these starts the line, links a device or hands in a moment
 pub record CallsAreCounted (def : LineDef) (h : List Entry) : Type 0 where
   pub entries : count_of is_by_any_driver (reverse h) ≤ ask_calls def + 3 * other_calls def
   pub asks : count_of is_any_ask (reverse h) ≤ ask_calls def
-  pub renewals : count_of is_renewal (reverse h) ≤ other_calls def
+  pub renewals : count_of (λ e. is_by_any_driver e && is_renewal e) (reverse h) ≤ other_calls def
 
 -- asks are counted: each ask of a device is either served or unserved, and each run that served
 -- something has an ask of its own

@@ -20,9 +20,8 @@ use Rattle.irq_model.specs.Lines.{is_device, has_device, is_in_mask, is_eoi_flow
 use Rattle.irq_model.specs.Links.{is_linked}
 use Rattle.irq_model.specs.Places.{last_of}
 use Rattle.irq_model.specs.Links.{is_oneshot}
-use Rattle.irq_model.specs.Waiting.{is_soft}
-use Rattle.irq_model.specs.Rounds.{closes, cpu_of_handle, flow, has_flow, is_cpu, at_work}
-use Rattle.irq_model.specs.Signal.{lowest_from, mask_in_force, target, signals}
+use Rattle.irq_model.specs.Rounds.{closes, cpu_of_handle, flow, has_flow, is_cpu}
+use Rattle.irq_model.specs.Signal.{lowest_from, mask_in_force, target}
 use Rattle.irq_model.specs.Threads.{is_woken, is_running}
 use Rattle.irq_model.specs.Due.{calls_by, due_of, due_call, entries_by}
 use Rattle.irq_model.specs.Reason.{is_being_freed, is_called}

@@ -1,23 +1,20 @@
 -- If none of the line's actors has a due entry, no actor has; and if none of them is hung, the line is
 -- at rest.
-use Rattle.std.proofs.Common.{◌≡◌, ◌⊎◌, inl, inr, ℕ, zero, suc, Bool, true, false, ◌||◌, cond, Option, Some, None, is_some, List, reverse, refl, sym, ap, ◌∙◌, subst}
+use Rattle.std.proofs.Common.{◌≡◌, ◌⊎◌, inl, inr, ℕ, zero, suc, Bool, true, false, cond, Option, Some, None, is_some, List, reverse, refl, sym, ap, ◌∙◌, subst}
 use Rattle.std.proofs.lemmas.Bool.{or_right, false_from_ne_true}
 use Rattle.irq_base.specs.declared.calls.Call.{Call}
-use Rattle.irq_base.specs.declared.numbers.CpuNo.{CpuNo}
-use Rattle.irq_base.specs.declared.numbers.DevNo.{DevNo}
-use Rattle.irq_base.specs.declared.numbers.DriverNo.{DriverNo}
 use Rattle.irq_base.specs.declared.lines.LineDef.{LineDef}
 use Rattle.irq_base.specs.declared.entries.Actor.{Actor}
 use Rattle.irq_base.specs.declared.entries.Actor.TheVariants as actors
 use Rattle.irq_base.specs.declared.entries.Entry.{Entry}
-use Rattle.irq_model.specs.Rounds.{flow, is_cpu, at_work}
+use Rattle.irq_model.specs.Rounds.{at_work}
 use Rattle.irq_model.specs.Threads.{is_woken, is_running}
 use Rattle.irq_model.specs.Due.{due_call}
-use Rattle.irq_model.specs.Next.{next, next_past}
-use Rattle.irq_model.specs.Legal.{IsLegal, IsLegalPast}
+use Rattle.irq_model.specs.Next.{next}
+use Rattle.irq_model.specs.Legal.{IsLegal}
 use Rattle.irq_model.specs.Valid.{IsValid}
 use Rattle.irq_model.specs.ValidRuns.{HasValidRuns}
-use Rattle.irq_model.specs.Waits.{Want, flow_ends, threads_rest, thread_rests, mutex_free, nothing_wanted, wanted, wanted_of, wanted_at_work, wanted_by_thread}
+use Rattle.irq_model.specs.Waits.{Want, nothing_wanted, wanted, wanted_of, wanted_at_work, wanted_by_thread}
 use Rattle.irq_model.specs.Waits.{StandsIn, WaitsFor, WaitsThrough, IsHungPast, IsHeldUpPast, is_unfinished_actor, IsAtRest}
 use Rattle.irq_laws.proofs.KeptAlways.{kept}
 use Rattle.irq_laws.proofs.Standstill.{no_standstill}
