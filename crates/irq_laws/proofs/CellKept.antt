@@ -1,5 +1,6 @@
 -- Each entry drives the cell to the marks that are read off the past.
-use Rattle.std.proofs.Common.{◌≡◌, ℕ, Bool, true, false, not, ◌||◌, ◌&&◌, cond, is_some, Option, Some, None, List, [], ◌∷◌, nat_lt, reverse, refl, sym, ap, ◌∙◌, arith}
+use Rattle.std.proofs.Common.{◌≡◌, ℕ, Bool, true, false, not, ◌||◌, ◌&&◌, cond, is_some, Option, Some, None, List, []}
+use Rattle.std.proofs.Common.{◌∷◌, nat_lt, reverse, refl, sym, ap, ◌∙◌, arith}
 use Rattle.std.proofs.lemmas.Bool.{and_parts, and_from, and_right, or_parts, false_from_ne_true}
 use Rattle.std.specs.List.{list_any}
 use Rattle.irq_base.specs.declared.numbers.CpuNo.{CpuNo}
@@ -59,7 +60,8 @@ use Rattle.irq_laws.proofs.CellSteps.{unmask_to, leaves, resend_to, again_to, ed
 -- ---- the level
 
 edge_high : (def : LineDef) (past : List Entry) → is_edge_line def ≡ true → is_high def past ≡ false
-edge_high def past edge = ap (λ (b : Bool). not b && list_any (λ (x : DeviceDef). not (is_quiet past x.dev) && nat_lt 0 (unserved_asks def x.dev past)) def.devices) edge
+edge_high def past edge = ap (λ (b : Bool). not b && list_any
+    (λ (x : DeviceDef). not (is_quiet past x.dev) && nat_lt 0 (unserved_asks def x.dev past)) def.devices) edge
 
 -- ---- an entry that is neither a take, nor an end, nor moves the level
 
@@ -620,17 +622,41 @@ record HasTestsOf (e : Entry) (call : CallEntry) : Type 0 where
 
 call_tests : (a : Actor) (call : CallEntry) → HasTestsOf (made_by a call) call
 call_tests (actors.Cpu c) call =
-    record { is_plain = plain _ refl refl refl refl; comes = refl; moves = refl; deepens = no_kill (disables call); ends = refl; opened = refl; no_reopening = refl }
+    record {
+      is_plain = plain _ refl refl refl refl;
+      comes = refl;
+      moves = refl;
+      deepens = no_kill (disables call);
+      ends = refl;
+      opened = refl;
+      no_reopening = refl;
+    }
   where
     no_kill : (d : Bool) → (d || false) ≡ d
     no_kill d = grind arith
 call_tests (actors.Thread x) call =
-    record { is_plain = plain _ refl refl refl refl; comes = refl; moves = refl; deepens = no_kill (disables call); ends = refl; opened = refl; no_reopening = refl }
+    record {
+      is_plain = plain _ refl refl refl refl;
+      comes = refl;
+      moves = refl;
+      deepens = no_kill (disables call);
+      ends = refl;
+      opened = refl;
+      no_reopening = refl;
+    }
   where
     no_kill : (d : Bool) → (d || false) ≡ d
     no_kill d = grind arith
 call_tests (actors.Driver r) call =
-    record { is_plain = plain _ refl refl refl refl; comes = refl; moves = refl; deepens = no_kill (disables call); ends = refl; opened = refl; no_reopening = refl }
+    record {
+      is_plain = plain _ refl refl refl refl;
+      comes = refl;
+      moves = refl;
+      deepens = no_kill (disables call);
+      ends = refl;
+      opened = refl;
+      no_reopening = refl;
+    }
   where
     no_kill : (d : Bool) → (d || false) ≡ d
     no_kill d = grind arith
@@ -700,7 +726,8 @@ cell_call def (called.Arm edge d) e past due t =
 cell_call def (called.Quiet d) e past due t =
     levels def e past t.is_plain (edgeless_by def (called.Quiet d) e past t refl refl) (masked_as_before def (called.Quiet d) e past t refl refl refl)
 cell_call def (called.Serve d count) e past due t =
-    levels def e past t.is_plain (edgeless_by def (called.Serve d count) e past t refl refl) (masked_as_before def (called.Serve d count) e past t refl refl refl)
+    levels def e past t.is_plain (edgeless_by def (called.Serve d count) e past t refl refl)
+    (masked_as_before def (called.Serve d count) e past t refl refl refl)
 cell_call def call e past due t =
     quiet def e past t.is_plain t.moves (edgeless_by def call e past t refl refl) (masked_as_before def call e past t refl refl refl)
 

@@ -350,12 +350,14 @@ clear_more def e past due runs k a d h = by_turn (within def a e past (calls.Fre
         let s = free_step def a e past d 1 due mine before in
         clear_now def a e past d s.0 runs s.2 (free_row def d 1 past s.0 s.1)
 
-clears_flow : (def : LineDef) (b : Actor) (call : CallEntry) (past : List Entry) → IsDue def (made_by b call) past → clears call ≡ true → has_flow def past ≡ false
+clears_flow : (def : LineDef) (b : Actor) (call : CallEntry) (past : List Entry) → IsDue def (made_by b call) past
+    → clears call ≡ true → has_flow def past ≡ false
 clears_flow def b called.HardClear past due h = hard_clear_due def b past due
 clears_flow def b call past due h = cc
 
 -- the device of a free whose hard clear is there is the one that is being freed
-cleared_freeing : (def : LineDef) (past : List Entry) → KeepsFrees def past → (d : DevNo) → is_cleared past d ≡ true → (a : Actor) × (freeing past ≡ Some (a, d))
+cleared_freeing : (def : LineDef) (past : List Entry) → KeepsFrees def past → (d : DevNo) → is_cleared past d ≡ true
+    → (a : Actor) × (freeing past ≡ Some (a, d))
 cleared_freeing def past k d h =
     let o = clearer past d h in
     let f = k.one_maker o.maker o.dev o.stands_there in
@@ -378,7 +380,8 @@ call_cleared def b call e past true is made same due runs k d h =
 
 cleared_more : (def : LineDef) (e : Entry) (past : List Entry) → IsDue def e past → KeepsRuns def past
     → KeepsFrees def past → (d : DevNo) → is_cleared (e ∷ past) d ≡ true → is_called (e ∷ past) d ≡ false
-cleared_more def (by.CpuCall c call) past due runs k d h = call_cleared def (actors.Cpu c) call (by.CpuCall c call) past (clears call) refl refl refl due runs k d h
+cleared_more def (by.CpuCall c call) past due runs k d h
+    = call_cleared def (actors.Cpu c) call (by.CpuCall c call) past (clears call) refl refl refl due runs k d h
 cleared_more def (by.ThreadCall x call) past due runs k d h =
     call_cleared def (actors.Thread x) call (by.ThreadCall x call) past (clears call) refl refl refl due runs k d h
 cleared_more def (by.DriverCall s call) past due runs k d h =

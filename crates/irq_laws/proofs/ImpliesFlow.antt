@@ -1,5 +1,6 @@
 -- What a processor's entry implies when it is due: the conditions of its row.
-use Rattle.std.proofs.Common.{◌≡◌, ℕ, ◌⊎◌, inl, inr, Bool, true, false, not, ◌&&◌, cond, Option, Some, None, List, is_some, option_map, refl, sym, ap, ◌∙◌, subst}
+use Rattle.std.proofs.Common.{◌≡◌, ℕ, ◌⊎◌, inl, inr, Bool, true, false, not, ◌&&◌, cond, Option, Some, None, List}
+use Rattle.std.proofs.Common.{is_some, option_map, refl, sym, ap, ◌∙◌, subst}
 use Rattle.irq_base.specs.declared.numbers.CpuNo.{CpuNo}
 use Rattle.irq_base.specs.declared.numbers.DevNo.{DevNo}
 use Rattle.irq_base.specs.declared.devices.Answer.{Answer}
@@ -242,7 +243,8 @@ pub end_due : (def : LineDef) (c : CpuNo) (again unmask : Bool) (note : Note) (p
     → IsDue def (by.Cpu c (cpus.End again unmask note)) past → IsEndDue def c again unmask note past
 end_due def c again unmask note past due = end_from def c again unmask note past (cpu_row def c past (by.Cpu c (cpus.End again unmask note)) due)
 
-handler_call_from : (def : LineDef) (c : CpuNo) (call : CallEntry) (past : List Entry) → CpuRow def c past (by.CpuCall c call) → IsHandlerCallDue def c call past
+handler_call_from : (def : LineDef) (c : CpuNo) (call : CallEntry) (past : List Entry)
+    → CpuRow def c past (by.CpuCall c call) → IsHandlerCallDue def c call past
 handler_call_from def c call past (calls x u same) = let s : x ≡ call = cc in subst (λ (y : CallEntry). IsHandlerCallDue def c y past) s u
 handler_call_from def c call past (returns x f w n same) = cc
 handler_call_from def c call past (begins x f w l same) = cc
@@ -250,7 +252,8 @@ handler_call_from def c call past (ends f w l same) = cc
 handler_call_from def c call past (takes f t s same) = cc
 handler_call_from def c call past (resent f t s o same) = cc
 
-pub handler_call_due : (def : LineDef) (c : CpuNo) (call : CallEntry) (past : List Entry) → IsDue def (by.CpuCall c call) past → IsHandlerCallDue def c call past
+pub handler_call_due : (def : LineDef) (c : CpuNo) (call : CallEntry) (past : List Entry)
+    → IsDue def (by.CpuCall c call) past → IsHandlerCallDue def c call past
 handler_call_due def c call past due = handler_call_from def c call past (cpu_row def c past (by.CpuCall c call) due)
 
 -- a processor's flow is a flow

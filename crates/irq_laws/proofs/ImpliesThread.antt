@@ -151,7 +151,8 @@ thread_return_from def d handled served past (done r t a same) = cc
 
 pub thread_return_due : (def : LineDef) (d : DevNo) (handled : Bool) (served : ℕ) (past : List Entry)
     → IsDue def (by.Thread d (threads.Return handled served)) past → IsThreadReturnDue def d handled served past
-thread_return_due def d handled served past due = thread_return_from def d handled served past (thread_row def d past (by.Thread d (threads.Return handled served)) due)
+thread_return_due def d handled served past due = thread_return_from def d handled served past
+    (thread_row def d past (by.Thread d (threads.Return handled served)) due)
 
 finish_from : (def : LineDef) (d : DevNo) (kept unmask : Bool) (past : List Entry)
     → ThreadRow def d past (by.Thread d (threads.Finish kept unmask)) → IsFinishDue def d kept unmask past
@@ -178,12 +179,14 @@ done_from def d past (finishes r t o f h same) = cc
 pub done_due : (def : LineDef) (d : DevNo) (past : List Entry) → IsDue def (by.Thread d threads.Done) past → IsDoneDue d past
 done_due def d past due = done_from def d past (thread_row def d past (by.Thread d threads.Done) due)
 
-thread_call_from : (def : LineDef) (d : DevNo) (call : CallEntry) (past : List Entry) → ThreadRow def d past (by.ThreadCall d call) → IsThreadCallDue def d call past
+thread_call_from : (def : LineDef) (d : DevNo) (call : CallEntry) (past : List Entry)
+    → ThreadRow def d past (by.ThreadCall d call) → IsThreadCallDue def d call past
 thread_call_from def d call past (calls x u same) = let s : x ≡ call = cc in subst (λ (y : CallEntry). IsThreadCallDue def d y past) s u
 thread_call_from def d call past (begins r w same) = cc
 thread_call_from def d call past (returns r t n same) = cc
 thread_call_from def d call past (finishes r t o f h same) = cc
 thread_call_from def d call past (done r t a same) = cc
 
-pub thread_call_due : (def : LineDef) (d : DevNo) (call : CallEntry) (past : List Entry) → IsDue def (by.ThreadCall d call) past → IsThreadCallDue def d call past
+pub thread_call_due : (def : LineDef) (d : DevNo) (call : CallEntry) (past : List Entry)
+    → IsDue def (by.ThreadCall d call) past → IsThreadCallDue def d call past
 thread_call_due def d call past due = thread_call_from def d call past (thread_row def d past (by.ThreadCall d call) due)

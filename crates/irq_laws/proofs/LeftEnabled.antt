@@ -39,7 +39,8 @@ use Rattle.irq_model.specs.Places.{since_place, count_of}
 use Rattle.irq_model.specs.Kinds.{same_dev, made_by, is_by, is_by_driver, is_disable, disables, is_kill, is_start, is_started_opened, is_lowering_opened}
 use Rattle.irq_model.specs.Kinds.{opened_by_enable, opened_by_call, is_linked_request, is_last_unlink, unlinks_last}
 use Rattle.irq_model.specs.Lines.{is_device, is_edge_line, run_script}
-use Rattle.irq_model.specs.Links.{linked, is_linked, is_empty, is_none_linked, is_first_request, is_reset, is_deepening, is_lowering, depth, is_disabled, has_spurious_mark}
+use Rattle.irq_model.specs.Links.{linked, is_linked, is_empty, is_none_linked, is_first_request, is_reset, is_deepening}
+use Rattle.irq_model.specs.Links.{is_lowering, depth, is_disabled, has_spurious_mark}
 use Rattle.irq_model.specs.Waiting.{is_pending}
 use Rattle.irq_model.specs.Spurious.{note_of}
 use Rattle.irq_model.specs.Rounds.{has_flow, begins_round, at_work}
@@ -382,7 +383,8 @@ no_round : (def : LineDef) (c : CpuNo) (t : CpuEntry) (past : List Entry) → be
 no_round def c t past h = ap (λ (b : Bool). sum_to (λ (k : ℕ). one_if (not b && owes_enable def past (dev_at k))) (wide def.devices)) h
 
 -- a thread's call pays at most one
-thread_pays : (def : LineDef) (x : DevNo) (call : CallEntry) (past : List Entry) → owed def past ≤ owed def (by.ThreadCall x call ∷ past) + one_if (enables call)
+thread_pays : (def : LineDef) (x : DevNo) (call : CallEntry) (past : List Entry)
+    → owed def past ≤ owed def (by.ThreadCall x call ∷ past) + one_if (enables call)
 thread_pays def x call past = by_test (enables call) refl
   where
     by_test : (b : Bool) → enables call ≡ b → owed def past ≤ owed def (by.ThreadCall x call ∷ past) + one_if b
@@ -403,7 +405,8 @@ at_work_below def past k d w = named_below def.devices d (by_name (list_any (is_
     unnamed : list_any (is_device d) def.devices ≡ false → ⊥
     unnamed none =
         let out = or_parts (is_linked past d) (is_being_freed past d)
-        (false_from_ne_true (is_linked past d || is_being_freed past d) (λ h. both_ways (list_any (is_device d) def.devices) (there_named def past k d h) none)) in
+        (false_from_ne_true (is_linked past d || is_being_freed past d)
+        (λ h. both_ways (list_any (is_device d) def.devices) (there_named def past k d h) none)) in
         let rest = k.rest.at_rest d out.0 out.1 in
         let r1 = or_parts (is_woken past d) _ rest in
         let r2 = or_parts (is_running past d) _ r1.1 in
@@ -513,7 +516,8 @@ thread_keeps : (def : LineDef) → EnablesWhatItDisables def → (x : DevNo) (ca
 thread_keeps def rules x call past due =
     let u = thread_call_due def x call past due in
     let at : due_of (run_script def x parts.Thread) (entries_of_run parts.Thread x past) ≡ Some u.due = u.is_due in
-    let m = entry_marks def (actors.Thread x) (by.ThreadCall x call) past u.due due (same_self x) (due_in_thread def x past u.running u.not_returned ∙ u.is_due) in
+    let m = entry_marks def (actors.Thread x) (by.ThreadCall x call) past u.due due (same_self x)
+    (due_in_thread def x past u.running u.not_returned ∙ u.is_due) in
     let more = come_more is_disabling (run_script def x parts.Thread) (entries_of_run parts.Thread x past) (by.ThreadCall x call) u.due.0 u.due.1 at in
     let below = come_below is_disabling (run_script def x parts.Thread) (entries_of_run parts.Thread x past) in
     false_from_ne_true (disables call) (λ is. none_of_script
@@ -538,7 +542,8 @@ module _ (def : LineDef) (rules : EnablesWhatItDisables def) where
           quiet_sum (depth past) (depth (by.Cpu c t ∷ past)) (owed def past) (owed def (by.Cpu c t ∷ past)) (disables_due def past) (enables_due def past)
           (is_deepening (by.Cpu c t)) (is_lowering (by.Cpu c t)) at alive (sym (no_round def c t past is)) paid
   paid_more (by.CpuCall c call) past due legal k no_reset alive some paid =
-      cpu_sum (depth past) (depth (by.CpuCall c call ∷ past)) (owed def past) (owed def (by.CpuCall c call ∷ past)) (disables_due def past) (enables_due def past)
+      cpu_sum (depth past) (depth (by.CpuCall c call ∷ past)) (owed def past) (owed def (by.CpuCall c call ∷ past))
+      (disables_due def past) (enables_due def past)
       (disables call) (is_lowering (by.CpuCall c call))
       (same_mark (is_deepening (by.CpuCall c call)) (disables call) (depth past) (depth (by.CpuCall c call ∷ past)) (is_lowering (by.CpuCall c call))
       (or_false (disables call)) (depth_is (by.CpuCall c call) past no_reset k.depth.exact))
@@ -554,7 +559,8 @@ module _ (def : LineDef) (rules : EnablesWhatItDisables def) where
       (thread_keeps def rules x call past due) (thread_pays def x call past) (fewer def rules past)
       (λ is. call_lowers def (actors.Thread x) call past due some is) paid
   paid_more (by.Driver r t) past due legal k no_reset alive some paid =
-      let g = driver_goes def r (by.Driver r t) past due (same_self_driver r) (same_self_driver r) (λ j other. other) (driver_row def r past (by.Driver r t) due) in
+      let g = driver_goes def r (by.Driver r t) past due (same_self_driver r) (same_self_driver r) (λ j other. other)
+      (driver_row def r past (by.Driver r t) due) in
       driver_sum (depth past) (depth (by.Driver r t ∷ past)) (owed def past) (disables_due def past) (disables_due def (by.Driver r t ∷ past))
       (enables_due def past) (enables_due def (by.Driver r t ∷ past)) false false (is_lowering (by.Driver r t))
       (depth_is (by.Driver r t) past no_reset k.depth.exact) g.0 g.1 (fewer def rules (by.Driver r t ∷ past)) (λ is. cc) (λ is. cc) paid
@@ -587,7 +593,8 @@ module _ (def : LineDef) (rules : EnablesWhatItDisables def) where
   paid valid [] legal some calm = cc
   paid valid (e ∷ past) legal some calm = by_reset (is_reset (e ∷ past)) refl (paid valid past legal.1)
     where
-      by_reset : (b : Bool) → is_reset (e ∷ past) ≡ b → (is_none_linked past ≡ false → killed_since_reset past ≡ false → IsPaid def past) → IsPaid def (e ∷ past)
+      by_reset : (b : Bool) → is_reset (e ∷ past) ≡ b →
+          (is_none_linked past ≡ false → killed_since_reset past ≡ false → IsPaid def past) → IsPaid def (e ∷ past)
       by_reset true is deeper = paid_first e past legal.0 is some
       by_reset false is deeper =
           let calm_parts : (is_kill e ≡ false) × (killed_since_reset past ≡ false) =

@@ -51,7 +51,8 @@ unserved_by : (def : LineDef) (d : DevNo) (e : Entry) (past : List Entry)
     → unserved_asks def d (e ∷ past) ≡ unserved_asks def d past
 unserved_by def d e past h i = ap₂ (λ (n m : ℕ). min n m) h i
 
-left_quiet : (part : Option Part) (d : DevNo) (e : Entry) (past : List Entry) → moves_level e ≡ false → left_by_runs part d (e ∷ past) ≡ left_by_runs part d past
+left_quiet : (part : Option Part) (d : DevNo) (e : Entry) (past : List Entry) → moves_level e ≡ false
+    → left_by_runs part d (e ∷ past) ≡ left_by_runs part d past
 left_quiet part d (by.Driver driver (drivers.Ask makes dev)) past h = cc
 left_quiet part d (by.Cpu cpu (cpus.Return answer dev served)) past h = cc
 left_quiet part d (by.Thread dev (threads.Return handled served)) past h = cc

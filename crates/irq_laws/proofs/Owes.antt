@@ -153,7 +153,8 @@ in_handler : (def : LineDef) (c : CpuNo) (call : CallEntry) (past : List Entry) 
 in_handler def c call past d due w =
     let u = handler_call_due def c call past due in
     let same : d ≡ u.dev = the_same d u.dev (sym w ∙ u.is_at_work) in
-    let in_run : due_in_run def parts.Primary d past ≡ Some u.due = subst (λ (x : DevNo). due_in_run def parts.Primary x past ≡ Some u.due) (sym same) u.is_due in
+    let in_run : due_in_run def parts.Primary d past ≡ Some u.due
+    = subst (λ (x : DevNo). due_in_run def parts.Primary x past ≡ Some u.due) (sym same) u.is_due in
     let r = recognised_by def past d u.due in_run in
     let m = entry_marks def (actors.Cpu c) (by.CpuCall c call) past u.due due (same_self_cpu c) (due_at_work def c d past u.of_flow w ∙ in_run) in
     record { due = u.due; makes = r.0; is_due = r.1; marks = m.0 }
@@ -207,7 +208,8 @@ module _ (def : LineDef) (rules : EnablesWhatItDisables def) where
   work_before (by.Cpu c (cpus.Return answer x served)) past d due begun h = cc
   work_before e past d due begun h = (h, refl)
 
-  makes_same : (e : Entry) (past : List Entry) (d : DevNo) → is_begin d e ≡ false → makes_calls def parts.Primary d (e ∷ past) ≡ makes_calls def parts.Primary d past
+  makes_same : (e : Entry) (past : List Entry) (d : DevNo) → is_begin d e ≡ false
+      → makes_calls def parts.Primary d (e ∷ past) ≡ makes_calls def parts.Primary d past
   makes_same e past d h = rw h refl
 
   still_spent : (e : Entry) (past : List Entry) (d : DevNo) → IsDue def e past → at_work past ≡ Some d → at_work (e ∷ past) ≡ Some d → is_begin d e ≡ false
@@ -224,7 +226,8 @@ module _ (def : LineDef) (rules : EnablesWhatItDisables def) where
   handler_owes (by.Cpu c (cpus.Return answer x served)) past d due k w =
       let u = return_due def c x answer served past due in
       let same : d ≡ x = the_same d x (sym w ∙ u.is_at_work) in
-      let here : answer ≡ answer_of_run_now def parts.Primary d past = u.answer_is ∙ ap (λ (y : DevNo). answer_of_run_now def parts.Primary y past) (sym same) in
+      let here : answer ≡ answer_of_run_now def parts.Primary d past = u.answer_is
+      ∙ ap (λ (y : DevNo). answer_of_run_now def parts.Primary y past) (sym same) in
       let wakes_it : is_wake (answer_of_run_now def parts.Primary d past) ≡ true =
       kind_wakes def d past (kind_of def d) (rules.handlers d k.disables_once).0 (k.recognised w) in
       by_wake (or_left _ _ (and_from _ _ (subst (λ (y : DevNo). same_dev d y ≡ true) same (same_self d)) (ap is_wake here ∙ wakes_it)))
@@ -258,9 +261,11 @@ module _ (def : LineDef) (rules : EnablesWhatItDisables def) where
       → IsOwing def (by.Thread d t ∷ past) d
   own_thread threads.Begin past d due r l = both_ways (is_running past d) (in_run_parts _ _ r).0 (thread_begin_due def d past due).not_running
   own_thread (threads.Return handled served) past d due r l =
-      let none = come_done is_enabling (run_script def d parts.Thread) (entries_of_run parts.Thread d past) (thread_return_due def d handled served past due).no_call in
+      let none = come_done is_enabling (run_script def d parts.Thread) (entries_of_run parts.Thread d past)
+      (thread_return_due def d handled served past due).no_call in
       absurd (omega (arith, none, l))
-  own_thread (threads.Finish kept unmask) past d due r l = both_ways (has_returned past d) (finish_due def d kept unmask past due).returned (in_run_parts _ _ r).1
+  own_thread (threads.Finish kept unmask) past d due r l
+      = both_ways (has_returned past d) (finish_due def d kept unmask past due).returned (in_run_parts _ _ r).1
   own_thread threads.Done past d due r l = both_ways (has_returned past d) (done_due def d past due).returned (in_run_parts _ _ r).1
 
   other_thread : (t : ThreadEntry) (past : List Entry) (d x : DevNo) → same_dev d x ≡ false → is_in_run past d ≡ true → Comes d past
@@ -284,7 +289,8 @@ module _ (def : LineDef) (rules : EnablesWhatItDisables def) where
       let u = thread_call_due def x call past due in
       let at : due_of (run_script def d parts.Thread) (entries_of_run parts.Thread d past) ≡ Some u.due =
       subst (λ (y : DevNo). due_of (run_script def y parts.Thread) (entries_of_run parts.Thread y past) ≡ Some u.due) (sym equal) u.is_due in
-      let m = entry_marks def (actors.Thread x) (by.ThreadCall x call) past u.due due (same_self x) (due_in_thread def x past u.running u.not_returned ∙ u.is_due) in
+      let m = entry_marks def (actors.Thread x) (by.ThreadCall x call) past u.due due (same_self x)
+      (due_in_thread def x past u.running u.not_returned ∙ u.is_due) in
       let none : enables call ≡ false = ap (λ (b : Bool). b && enables call) (sym same) ∙ no_enable in
       let mark = ap one_if (sym m.1 ∙ none) in
       let more = come_more is_enabling (run_script def d parts.Thread) (entries_of_run parts.Thread d past) (by.ThreadCall x call) u.due.0 u.due.1 at in
@@ -305,7 +311,8 @@ module _ (def : LineDef) (rules : EnablesWhatItDisables def) where
           own_thread_at x equal due r l
         where
           own_thread_at : (x : DevNo) → d ≡ x → IsDue def (by.Thread x t) past → is_in_run past d ≡ true → Comes d past → IsOwing def (by.Thread x t ∷ past) d
-          own_thread_at x is due r l = subst (λ (y : DevNo). IsDue def (by.Thread y t) past → IsOwing def (by.Thread y t ∷ past) d) is (λ q. own_thread t past d q r l) due
+          own_thread_at x is due r l = subst (λ (y : DevNo). IsDue def (by.Thread y t) past
+              → IsOwing def (by.Thread y t ∷ past) d) is (λ q. own_thread t past d q r l) due
   run_owes (by.ThreadCall x call) past d due no_enable r l = thread_call_owes call past d x (same_dev d x) refl due no_enable r l
   run_owes e past d due no_enable r l = by_run r l
 

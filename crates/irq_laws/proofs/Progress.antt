@@ -153,7 +153,8 @@ pub within : (def : LineDef) (a : Actor) (e : Entry) (past : List Entry) (d : Ca
 within def a e past d m (stays other cs es) h =
     earlier other (sym (ap₂ (λ (x : List Call) (y : List Entry). due_of x y) cs es) ∙ h)
 within def a e past d m (begins none es) h =
-    absurd (let zero = fresh (calls_of def a (e ∷ past)) d (suc m) (sym (ap (λ (y : List Entry). due_of (calls_of def a (e ∷ past)) y) es) ∙ h) in omega (arith, zero))
+    absurd (let zero = fresh (calls_of def a (e ∷ past)) d (suc m)
+    (sym (ap (λ (y : List Entry). due_of (calls_of def a (e ∷ past)) y) es) ∙ h) in omega (arith, zero))
 within def a e past d m (ends none cs es) h =
     let n = sym (ap₂ (λ (x : List Call) (y : List Entry). due_of x y) cs es) ∙ h in cc
 within def a e past d m (goes mine due is_due cs es) h =

@@ -1,5 +1,6 @@
 -- A line at rest: nothing is at work, all was delivered, and the drivers' calls are complete.
-use Rattle.std.proofs.Common.{◌≡◌, ℕ, suc, Bool, true, false, not, ◌||◌, ◌&&◌, Option, Some, None, is_some, List, nat_lt, reverse, refl, sym, ap, ◌∙◌, subst, arith}
+use Rattle.std.proofs.Common.{◌≡◌, ℕ, suc, Bool, true, false, not, ◌||◌, ◌&&◌, Option, Some, None, is_some, List}
+use Rattle.std.proofs.Common.{nat_lt, reverse, refl, sym, ap, ◌∙◌, subst, arith}
 use Rattle.std.proofs.lemmas.Bool.{and_from, or_left, or_from, and_left, false_from_ne_true, ltb-false}
 use Rattle.irq_base.specs.declared.numbers.DevNo.{DevNo}
 use Rattle.irq_base.specs.declared.calls.Call.{Call}

@@ -459,7 +459,13 @@ driver_goes : (def : LineDef) (s : DriverNo) (past : List Entry) (e : Entry) →
 driver_goes def s past e (ask d n is same) = (calls.Ask d, n, is, subst (λ (x : Entry). GoesOn (calls.Ask d) n x) same (goes_ask _ s d n))
 driver_goes def s past e (request d flags n is free same) =
     (calls.Request d flags, n, is, subst (λ (x : Entry). GoesOn (calls.Request d flags) n x) same (goes_request s d flags _ _ n))
-driver_goes def s past e (affinity mask n is same) = (calls.Affinity mask, n, is, subst (λ (x : Entry). GoesOn (calls.Affinity mask) n x) same (goes_affinity s mask _ n))
+driver_goes def s past e (affinity mask n is same) = (
+  calls.Affinity mask,
+  n,
+  is,
+  subst
+      (λ (x : Entry). GoesOn (calls.Affinity mask) n x) same (goes_affinity s mask _ n),
+)
 driver_goes def s past e (moment at n is same) = (calls.Moment at, n, is, subst (λ (x : Entry). GoesOn (calls.Moment at) n x) same (goes_moment s at n))
 driver_goes def s past e (step due call is h same) = step_goes def (actors.Driver s) past e due is (call, h, same)
 
@@ -491,7 +497,8 @@ follows_more def a e past due (goes_turn mine d is cs es) f =
     (extends (calls_of def a past) (entries_of def a past) e n.0 n.1 f n.2 n.3))
 follows_more def a e past due (stays other cs es) f =
     subst (λ (x : List Call). AreMadeBy x (entries_of def a (e ∷ past))) (sym cs) (subst (λ (x : List Entry). AreMadeBy (calls_of def a past) x) (sym es) f)
-follows_more def a e past due (begins none es) f = subst (λ (x : List Entry). AreMadeBy (calls_of def a (e ∷ past)) x) (sym es) (none_made (calls_of def a (e ∷ past)))
+follows_more def a e past due (begins none es) f = subst (λ (x : List Entry). AreMadeBy (calls_of def a (e ∷ past)) x)
+    (sym es) (none_made (calls_of def a (e ∷ past)))
 follows_more def a e past due (ends none cs es) f = subst (λ (x : List Call). AreMadeBy x (entries_of def a (e ∷ past))) (sym cs) es
 
 follows_none : (def : LineDef) (a : Actor) → FollowsActor def [] a
@@ -524,7 +531,8 @@ all_made (c ∷ cs) es f none = by_test (nat_lt (length es) (entries_of_call c e
     by_test false is (inl some) deeper =
         let le : entries_of_call c es ≤ length es = ltb-false (length es) (entries_of_call c es) is in
         let nothing = no_more c es some.0 le some.1 in
-        let all : MakesAll c es = subst (λ (xs : List Entry). MakesAll c xs) (append-nil es) (subst (λ (xs : List Entry). MakesAll c (es ++ xs)) nothing some.1) in
+        let all : MakesAll c es = subst (λ (xs : List Entry). MakesAll c xs) (append-nil es)
+        (subst (λ (xs : List Entry). MakesAll c (es ++ xs)) nothing some.1) in
         let count = all_count c es all in
         let left = ap (λ (b : Bool). cond b (due_at c (length es)) (due_of cs (drop (entries_of_call c es) es))) (sym is) ∙ none in
         let empty : drop (entries_of_call c es) es ≡ [] = drop_of_length-le es (omega (arith, count)) in

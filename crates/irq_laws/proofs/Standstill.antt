@@ -87,7 +87,8 @@ free_blocked def past d n true o iz io h =
     (cond (n == 1) (hard_clear_of def past) (freed_of d past))) (sym iz) ∙ h))
 free_blocked def past d n false true iz io h =
     by_flow (ap₂ (λ (b e : Bool). cond b mutex_free (cond e flow_ends (thread_rests d))) iz io)
-    (unless_none (has_flow def past) called.HardClear (ap₂ (λ (b e : Bool). cond b (cond (holds_mutex past) None (Some (called.Unlink (unlink_answer d past) d)))
+    (unless_none (has_flow def past) called.HardClear (ap₂
+    (λ (b e : Bool). cond b (cond (holds_mutex past) None (Some (called.Unlink (unlink_answer d past) d)))
     (cond e (hard_clear_of def past) (freed_of d past))) (sym iz) (sym io) ∙ h))
 free_blocked def past d n false false iz io h =
     let m = some_before n iz in
@@ -99,7 +100,8 @@ free_blocked def past d n false false iz io h =
 disable_blocked : (def : LineDef) (past : List Entry) (n : ℕ) (z o : Bool) → (n == 0) ≡ z → (n == 1) ≡ o
     → next_step def past (calls.Disable, n) ≡ None → IsBlocked def past calls.Disable n
 disable_blocked def past n true o iz io h =
-    let x : Some called.Disable ≡ None = ap (λ (b : Bool). cond b (Some called.Disable) (cond (n == 1) (hard_clear_of def past) (synced_of def past))) (sym iz) ∙ h in cc
+    let x : Some called.Disable ≡ None = ap (λ (b : Bool). cond b (Some called.Disable)
+    (cond (n == 1) (hard_clear_of def past) (synced_of def past))) (sym iz) ∙ h in cc
 disable_blocked def past n false true iz io h =
     by_flow (ap₂ (λ (b e : Bool). cond b nothing_wanted (cond e flow_ends threads_rest)) iz io)
     (unless_none (has_flow def past) called.HardClear (ap₂ (λ (b e : Bool). cond b (Some called.Disable)
@@ -328,7 +330,8 @@ past_clear c n = false
 never_cleared : {P : Type 0} (def : LineDef) (past : List Entry) (c : CpuNo) (call : CallEntry) → is_cpu c (flow def past) ≡ true
     → hard_clear_of def past ≡ Some call → P
 never_cleared def past c call f h =
-    let n : ◌≡◌ {A = Option CallEntry} None (Some call) = ap (λ (b : Bool). cond b None (Some called.HardClear)) (sym (has_a_flow c (flow def past) f)) ∙ h in cc
+    let n : ◌≡◌ {A = Option CallEntry} None (Some call)
+    = ap (λ (b : Bool). cond b None (Some called.HardClear)) (sym (has_a_flow c (flow def past) f)) ∙ h in cc
 
 still_unclear : (def : LineDef) (past : List Entry) (c : CpuNo) (x : Call) (m : ℕ) (call : CallEntry) → is_cpu c (flow def past) ≡ true
     → past_clear x m ≡ false → next_step def past (x, m) ≡ Some call → past_clear x (suc m) ≡ false
@@ -355,7 +358,8 @@ unclear : (def : LineDef) (past : List Entry) → IsLegalPast def past → (c : 
     → due_of_actor def (actors.Cpu c) past ≡ Some (x, n) → past_clear x n ≡ false
 unclear def [] legal c x n h = cc
 unclear def (e ∷ past) legal c x zero h = none_clear x
-unclear def (e ∷ past) legal c x (suc m) h = by_turn (within def (actors.Cpu c) e past x m (turn def (actors.Cpu c) e past legal.0 (runs_past def past legal.1)) h)
+unclear def (e ∷ past) legal c x (suc m) h = by_turn (within def (actors.Cpu c) e past x m
+    (turn def (actors.Cpu c) e past legal.0 (runs_past def past legal.1)) h)
     (λ n is. unclear def past legal.1 c x n is)
   where
     by_turn : Within def (actors.Cpu c) e past x m → ((n : ℕ) → due_of_actor def (actors.Cpu c) past ≡ Some (x, n) → past_clear x n ≡ false)
@@ -383,10 +387,12 @@ later_holder : (a : Actor) (f : Actor → Bool) (e : Entry) (past : List Entry) 
 later_holder a f e past no_unlink no_end free deeper =
     ap (λ (b : Bool). maker_of (cond b (e ∷ past) (last_place (λ x u. owned (λ d. true) f (e ∷ x) u) past)))
     (ap (λ (b : Bool). b && not (f (actor_of e) || list_any (is_freed_by (actor_of e)) [])) no_unlink)
-    ∙ ap maker_of (last_ext (λ x u. owned (λ d. true) f (e ∷ x) u) (owned (λ d. true) (λ r. f r || is_freed_by r e)) past (λ x u. one_later (λ d. true) f e x u))
+    ∙ ap maker_of (last_ext (λ x u. owned (λ d. true) f (e ∷ x) u) (owned (λ d. true) (λ r. f r || is_freed_by r e))
+    past (λ x u. one_later (λ d. true) f e x u))
     ∙ deeper (λ r. f r || is_freed_by r e) (or_from (f a) _ free (and_right (is_by a e) _ no_end))
 
-this_holder : (a b : Actor) (d : DevNo) (x : DevNo) (f : Actor → Bool) (last : Bool) (past : List Entry) → ◌≡◌ {A = Option (Actor × DevNo)} (Some (b, x)) (Some (a, d))
+this_holder : (a b : Actor) (d : DevNo) (x : DevNo) (f : Actor → Bool) (last : Bool) (past : List Entry)
+    → ◌≡◌ {A = Option (Actor × DevNo)} (Some (b, x)) (Some (a, d))
     → f a ≡ false → (e : Entry) → actor_of e ≡ b → is_call (unlinks_some (λ d. true)) e ≡ true
     → maker_of (last_place (owned (λ d. true) f) (e ∷ past)) ≡ Some a
 this_holder a b d x f last past is free e by unlinks =
@@ -402,7 +408,8 @@ call_holder : (a b : Actor) (d : DevNo) (f : Actor → Bool) (call : CallEntry) 
     → actor_of e ≡ b → is_call (unlinks_some (λ d. true)) e ≡ unlinks_some (λ d. true) call → is_call ends_free e ≡ ends_free call → f a ≡ false
     → (freeing past ≡ Some (a, d) → (g : Actor → Bool) → g a ≡ false → maker_of (last_place (owned (λ d. true) g) past) ≡ Some a)
     → maker_of (last_place (owned (λ d. true) f) (e ∷ past)) ≡ Some a
-call_holder a b d f (called.Unlink (unlinks.Unlinked last) x) e past is by unlinks_it ends_it free deeper = this_holder a b d x f last past is free e by unlinks_it
+call_holder a b d f (called.Unlink (unlinks.Unlinked last) x) e past is by unlinks_it ends_it free deeper
+    = this_holder a b d x f last past is free e by unlinks_it
 call_holder a b d f (called.Freed x) e past is by unlinks_it ends_it free deeper = cc
 call_holder a b d f (called.Unlink unlinks.NotThere x) e past is by unlinks_it ends_it free deeper = later_holder a f e past unlinks_it ends_it free (deeper is)
 call_holder a b d f call e past is by unlinks_it ends_it free deeper = later_holder a f e past unlinks_it ends_it free (deeper is)
@@ -497,7 +504,8 @@ some_dev : (p : DevNo → Bool) (xs : List DeviceDef) → list_any (λ x. p x.de
 some_dev p [] h = cc
 some_dev p (x ∷ xs) h = by_case (or_cases (p x.dev) (list_any (λ y. p y.dev) xs) h) (some_dev p xs)
   where
-    by_case : (p x.dev ≡ true) ⊎ (list_any (λ y. p y.dev) xs ≡ true) → (list_any (λ y. p y.dev) xs ≡ true → (d : DevNo) × (p d ≡ true)) → (d : DevNo) × (p d ≡ true)
+    by_case : (p x.dev ≡ true) ⊎ (list_any (λ y. p y.dev) xs ≡ true)
+        → (list_any (λ y. p y.dev) xs ≡ true → (d : DevNo) × (p d ≡ true)) → (d : DevNo) × (p d ≡ true)
     by_case (inl here) deeper = (x.dev, here)
     by_case (inr there) deeper = deeper there
 
@@ -596,7 +604,8 @@ module _ (def : LineDef) (past : List Entry) (valid : IsValid def) (runs : HasVa
           let there = there_named def past (kept def past valid legal) d (running_there def past (kept def past valid legal) d running) in
           ap (λ (b : Bool). cond b (next_of_thread def d past) None) (sym there) ∙ still (actors.Thread d)
 
-      in_thread : is_running past d ≡ true → has_returned past d ≡ false → next_of_thread def d past ≡ call_or_return def d past (due_in_run def parts.Thread d past)
+      in_thread : is_running past d ≡ true → has_returned past d ≡ false
+          → next_of_thread def d past ≡ call_or_return def d past (due_in_run def parts.Thread d past)
       in_thread r t = rw (r, t) refl
 
   wants_mutex_waits : (a : Actor) → wanted def a past ≡ mutex_free → holds_mutex past ≡ true → Waits a

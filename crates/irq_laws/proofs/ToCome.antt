@@ -197,7 +197,8 @@ at_call x c m n z call is same marks =
     subst (λ (y : CallEntry). Marks c n y) same (subst (λ (k : ℕ). Marks c k z) s.1 (subst (λ (y : Call). Marks y m z) s.0 marks))
 
 -- a call of one entry has made none while it is due
-one_only : (cs : List Call) (es : List Entry) (c : Call) (n : ℕ) → due_of cs es ≡ Some (c, n) → ((own : List Entry) → entries_of_call c own ≡ 1) → (n == 0) ≡ true
+one_only : (cs : List Call) (es : List Entry) (c : Call) (n : ℕ) → due_of cs es ≡ Some (c, n)
+    → ((own : List Entry) → entries_of_call c own ≡ 1) → (n == 0) ≡ true
 one_only cs es c n h one =
     let s = standing cs es c n h in
     let counts : n ≡ length s.own = s.counts in
@@ -216,8 +217,10 @@ row_marks def cs es c n past call due (freed_row d m is some more rest same) = a
 row_marks def cs es c n past call due (disable is same) = at_call _ c 0 n _ call (sym is) same (refl, refl)
 row_marks def cs es c n past call due (disable_clear is no_flow same) = at_call _ c 1 n _ call (sym is) same (refl, refl)
 row_marks def cs es c n past call due (disable_synced m is some more rest same) = at_call _ c m n _ call (sym is) same (sym some, refl)
-row_marks def cs es c n past call due (nosync m is same) = at_call _ c m n _ call (sym is) same (sym (one_only cs es calls.DisableNosync m (due ∙ is) (λ own. refl)), refl)
-row_marks def cs es c n past call due (enable m is same) = at_call _ c m n _ call (sym is) same (refl, sym (one_only cs es calls.Enable m (due ∙ is) (λ own. refl)))
+row_marks def cs es c n past call due (nosync m is same)
+    = at_call _ c m n _ call (sym is) same (sym (one_only cs es calls.DisableNosync m (due ∙ is) (λ own. refl)), refl)
+row_marks def cs es c n past call due (enable m is same)
+    = at_call _ c m n _ call (sym is) same (refl, sym (one_only cs es calls.Enable m (due ∙ is) (λ own. refl)))
 row_marks def cs es c n past call due (sync_clear is no_flow same) = at_call _ c 0 n _ call (sym is) same (refl, refl)
 row_marks def cs es c n past call due (synced m is some rest same) = at_call _ c m n _ call (sym is) same (refl, refl)
 row_marks def cs es c n past call due (hard m is no_flow same) = at_call _ c m n _ call (sym is) same (refl, refl)
@@ -245,13 +248,17 @@ step_marks def a past e due is m =
 driver_marks : (def : LineDef) (r : DriverNo) (past : List Entry) (e : Entry) (due : Call × ℕ) → due_of_actor def (actors.Driver r) past ≡ Some due
     → DriverRow def r past e → MarksOf due e
 driver_marks def r past e due is (ask d n at same) = let s = same_call (calls.Ask d) due.0 n due.1 (sym at ∙ is) in
-    subst (λ (x : Entry). MarksOf due x) same (subst (λ (c : Call). (false ≡ (is_disabling c && (due.1 == 0))) × (false ≡ (is_enabling c && (due.1 == 0)))) s.0 (refl, refl))
+    subst (λ (x : Entry). MarksOf due x) same (subst (λ (c : Call). (false ≡ (is_disabling c && (due.1 == 0)))
+    × (false ≡ (is_enabling c && (due.1 == 0)))) s.0 (refl, refl))
 driver_marks def r past e due is (request d flags n at free same) = let s = same_call (calls.Request d flags) due.0 n due.1 (sym at ∙ is) in
-    subst (λ (x : Entry). MarksOf due x) same (subst (λ (c : Call). (false ≡ (is_disabling c && (due.1 == 0))) × (false ≡ (is_enabling c && (due.1 == 0)))) s.0 (refl, refl))
+    subst (λ (x : Entry). MarksOf due x) same (subst (λ (c : Call). (false ≡ (is_disabling c && (due.1 == 0)))
+    × (false ≡ (is_enabling c && (due.1 == 0)))) s.0 (refl, refl))
 driver_marks def r past e due is (affinity mask n at same) = let s = same_call (calls.Affinity mask) due.0 n due.1 (sym at ∙ is) in
-    subst (λ (x : Entry). MarksOf due x) same (subst (λ (c : Call). (false ≡ (is_disabling c && (due.1 == 0))) × (false ≡ (is_enabling c && (due.1 == 0)))) s.0 (refl, refl))
+    subst (λ (x : Entry). MarksOf due x) same (subst (λ (c : Call). (false ≡ (is_disabling c && (due.1 == 0)))
+    × (false ≡ (is_enabling c && (due.1 == 0)))) s.0 (refl, refl))
 driver_marks def r past e due is (moment t n at same) = let s = same_call (calls.Moment t) due.0 n due.1 (sym at ∙ is) in
-    subst (λ (x : Entry). MarksOf due x) same (subst (λ (c : Call). (false ≡ (is_disabling c && (due.1 == 0))) × (false ≡ (is_enabling c && (due.1 == 0)))) s.0 (refl, refl))
+    subst (λ (x : Entry). MarksOf due x) same (subst (λ (c : Call). (false ≡ (is_disabling c && (due.1 == 0)))
+    × (false ≡ (is_enabling c && (due.1 == 0)))) s.0 (refl, refl))
 driver_marks def r past e due is (step x call at h same) =
     step_marks def (actors.Driver r) past e due is
     (call, subst (λ (y : Call × ℕ). next_step def past y ≡ Some call) (the_due x due (sym at ∙ is)) h, same)

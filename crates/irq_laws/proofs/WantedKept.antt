@@ -118,7 +118,8 @@ not_that def past k a x d within linked = false_from_ne_true (same_dev d x)
     (sym (dev_from_same d x same)) (k.unlinked a x within)))
 
 -- a device is wanted after an entry that no driver makes, as before it
-same_wanted : (def : LineDef) (e : Entry) (past : List Entry) (d : DevNo) → ((r : DriverNo) → is_by_driver r e ≡ false) → Wanted def past d → Wanted def (e ∷ past) d
+same_wanted : (def : LineDef) (e : Entry) (past : List Entry) (d : DevNo) → ((r : DriverNo) → is_by_driver r e ≡ false)
+    → Wanted def past d → Wanted def (e ∷ past) d
 same_wanted def e past d other v =
     record {
       driver = v.driver;

@@ -1,4 +1,5 @@
--- An actor's calls: a driver's script, the script of a handler that is at work, or of a thread in its
+-- An actor's calls: a driver's script, the script of a handler that is at work, or of a thread in
+-- its
 -- run; and the entries that it has made of them.
 use Rattle.std.specs.Prelude.{ℕ, if◌then◌else◌, Option, Some, None, List, []}
 use Rattle.irq_base.specs.declared.numbers.DevNo.{DevNo}

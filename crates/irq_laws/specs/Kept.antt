@@ -60,7 +60,8 @@ pub record KeepsFrees (def : LineDef) (past : List Entry) : Type 0 where
       → freeing past ≡ Some (a, d)
   pub one_device : (d : DevNo) → is_being_freed past d ≡ true
       → (a : Actor) × (freeing past ≡ Some (a, d))
-  pub within : (a : Actor) (d : DevNo) (n : ℕ) → due_of_actor def a past ≡ Some (calls.Free d, suc n)
+  pub within : (a : Actor) (d : DevNo) (n : ℕ)
+      → due_of_actor def a past ≡ Some (calls.Free d, suc n)
       → freeing past ≡ Some (a, d)
   -- what is being freed isn't linked
   pub unlinked : (a : Actor) (d : DevNo) → freeing past ≡ Some (a, d) → is_linked past d ≡ false

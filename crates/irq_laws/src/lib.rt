@@ -195,7 +195,8 @@ pub fn call_waits()
 {}
 
 /// No standstill among drivers: where no flow is in progress and no thread is woken or in a run, a
-/// driver whose calls aren't complete may add its next entry, or the maker of the free that is under
+/// driver whose calls aren't complete may add its next entry, or the maker of the free that is
+/// under
 /// way may.
 pub fn drivers_move()
     ensures law { (def : LineDef) (h : List Entry) → IsValid def → IsLegal def h
@@ -222,7 +223,8 @@ pub fn log_is_no_rule()
         → IsLegal (with_log def n) h }
 {}
 
-/// Not left disabled: where each run that disables the line has its thread enable it, and each driver
+/// Not left disabled: where each run that disables the line has its thread enable it, and each
+/// driver
 /// enables as often as it disables, a line at rest with something linked is enabled, unless an end
 /// killed it since its depth was last set anew.
 #[tactic(auto, using(crate::proofs::LeftEnabled::left_enabled))]

@@ -1,6 +1,7 @@
 -- What drivers add to a history: each driver adds the entries of its calls, so all drivers together
 -- add no more entries than the calls of the line make.
-use Rattle.std.proofs.Common.{◌≡◌, ℕ, ◌+◌, ◌*◌, ◌≤◌, ◌==◌, inl, inr, Bool, true, false, not, ◌||◌, ◌&&◌, cond, List, [], ◌∷◌, ◌++◌, filter, reverse, length, refl, ap, arith}
+use Rattle.std.proofs.Common.{◌≡◌, ℕ, ◌+◌, ◌*◌, ◌≤◌, ◌==◌, inl, inr, Bool, true, false, not, ◌||◌, ◌&&◌, cond, List, []}
+use Rattle.std.proofs.Common.{◌∷◌, ◌++◌, filter, reverse, length, refl, ap, arith}
 use Rattle.std.proofs.lemmas.Bool.{and_parts}
 use Rattle.std.proofs.lemmas.Grind.{reverse_onto}
 use Rattle.irq_base.specs.declared.numbers.DriverNo.{DriverNo}
@@ -296,7 +297,8 @@ driver_entries def past legal =
 
 pub asks_of_drivers : (def : LineDef) (past : List Entry) → IsLegalPast def past → count_of is_any_ask past ≤ ask_calls def
 asks_of_drivers def past legal =
-    let all = of_drivers is_any_ask (λ c. one_if (is_ask_call c)) ask_by_driver (λ c es h. (renews c es h).0) def past (λ r. follows_past def past legal (actors.Driver r)) in
+    let all = of_drivers is_any_ask (λ c. one_if (is_ask_call c)) ask_by_driver (λ c es h. (renews c es h).0) def past
+    (λ r. follows_past def past legal (actors.Driver r)) in
     let weights = count_total (λ (c : DriverNo × Call). is_ask_call c.1) def.calls in
     omega (arith, all, weights)
 

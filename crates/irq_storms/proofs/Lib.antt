@@ -4,4 +4,5 @@ pub mod Running
 pub mod RunCounts
 pub mod ThreadCounts
 pub mod RoundCounts
+pub mod EdgeCounts
 pub mod Laws

@@ -94,7 +94,7 @@ opens_so E f p w g (opens.Started resends.No) k = by_none E f p w
 opens_so E f p w g (opens.Started resends.Chip) k = by_chip E f p w (chip_pends E p g (k resends.Chip refl))
 opens_so E f p w g (opens.Started resends.Soft) k = by_soft E f p w (soft_pends E p g (k resends.Soft refl))
 
-again_pends : (def : LineDef) (f : FlowKind) (past : List Entry) (note : Note) → again_by def f past note ≡ true → is_pending def past ≡ true
+pub again_pends : (def : LineDef) (f : FlowKind) (past : List Entry) (note : Note) → again_by def f past note ≡ true → is_pending def past ≡ true
 again_pends def flows.Edge past note h = (and_parts (is_pending def past) (not (is_off_now past note)) h).0
 again_pends def flows.Eoi past note h = (and_parts (is_pending def past) (not (is_off_now past note)) (and_parts (is_edge_line def) _ h).1).0
 again_pends def flows.Level past note h = cc
@@ -106,7 +106,8 @@ WaitsCounted def e past = one_if (begins_round def e) + one_if (is_pending def (
     ≤ one_if (is_pending def past) + one_if (is_soft past) + one_if (is_line_take e)
 
 waits_more : (def : LineDef) (e : Entry) (past : List Entry) → IsDue def e past → WaitsCounted def e past
-waits_more def (by.Cpu c (cpus.Take ways.Line takes.Handle)) past due = line_handled (is_edge_line def) (is_eoi_flow def.flow) (is_pending def past) (is_soft past)
+waits_more def (by.Cpu c (cpus.Take ways.Line takes.Handle)) past due
+    = line_handled (is_edge_line def) (is_eoi_flow def.flow) (is_pending def past) (is_soft past)
 waits_more def (by.Cpu c (cpus.Take ways.Line takes.Busy)) past due =
     line_left false true (is_edge_line def) (is_eoi_flow def.flow) (is_pending def past) (is_soft past)
 waits_more def (by.Cpu c (cpus.Take ways.Line takes.Off)) past due =
@@ -150,6 +151,13 @@ rounds_below def (e ∷ past) legal edge =
   where
     summed : (r' a' r a x y m n : ℕ) → r' ≡ r + x → a' ≡ a + y → r + m ≤ a → x + n ≤ m + y → r' + n ≤ a'
     summed r' a' r a x y m n h i j l = omega (arith, h, i, j, l)
+
+pub rounds_of_edges : (def : LineDef) (past : List Entry) → IsLegalPast def past → is_edge_line def ≡ true
+    → count_of (begins_round def) past ≤ count_of is_device_edge past
+rounds_of_edges def past legal edge = plain _ _ _ (rounds_below def past legal edge)
+  where
+    plain : (r m a : ℕ) → r + m ≤ a → r ≤ a
+    plain r m a h = omega (arith, h)
 
 pub rounds_past : (def : LineDef) (past : List Entry) → IsLegalPast def past → RoundsAreCountedPast def past
 rounds_past def past legal edge = plain _ _ _ _ _ _ (rounds_below def past legal edge)

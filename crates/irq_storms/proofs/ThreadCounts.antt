@@ -9,14 +9,13 @@ use Rattle.irq_base.specs.declared.entries.CpuEntry.TheVariants as cpus
 use Rattle.irq_base.specs.declared.entries.ThreadEntry.TheVariants as threads
 use Rattle.irq_base.specs.declared.entries.DriverEntry.TheVariants as drivers
 use Rattle.irq_model.specs.Places.{since, count_of}
-use Rattle.irq_model.specs.Kinds.{is_wake, wakes, returns_wake, is_thread_begin, is_thread_return, is_finish, is_done}
+use Rattle.irq_model.specs.Kinds.{wakes, is_thread_begin, is_thread_return, is_finish, is_done}
 use Rattle.irq_model.specs.Threads.{is_woken, is_running}
 use Rattle.irq_model.specs.Legal.{IsDue, IsLegalPast}
 use Rattle.irq_steps.proofs.Same.{dev_from_same}
 use Rattle.irq_laws.proofs.ImpliesThread.{has_returned, has_finished, thread_begin_due, thread_return_due, finish_due, done_due}
 use Rattle.irq_storms.specs.Judged.{one_if}
-use Rattle.irq_storms.specs.Tests.{is_any_return}
-use Rattle.irq_storms.proofs.Counting.{count_ext, count_imply, counts_by_key}
+use Rattle.irq_storms.proofs.Counting.{count_ext, counts_by_key}
 use Rattle.irq_storms.proofs.Running.{StaysBelow, runs_below}
 
 -- ---- entries of threads, of any device

@@ -7,7 +7,7 @@ use Rattle.irq_base.specs.declared.entries.Entry.{Entry}
 use Rattle.irq_model.specs.Places.{stands, count_of}
 use Rattle.irq_model.specs.Kinds.{wakes, is_thread_begin, is_thread_return, is_finish, is_done}
 use Rattle.irq_model.specs.Kinds.{is_take, is_busy, is_off, is_again, is_any_ask, is_ask, is_kill}
-use Rattle.irq_model.specs.Kinds.{is_start}
+use Rattle.irq_model.specs.Kinds.{is_start, is_device_edge}
 use Rattle.irq_model.specs.Lines.{is_edge_line, is_level_line, is_level_flow, is_eoi_flow}
 use Rattle.irq_model.specs.Links.{is_disabled}
 use Rattle.irq_model.specs.Asks.{unserved_asks}
@@ -56,13 +56,15 @@ pub record AsksAreCounted (def : LineDef) (h : List Entry) : Type 0 where
       def.devices ≡ count_of is_any_ask (reverse h)
   pub all_runs : count_of is_any_serving (reverse h) ≤ count_of is_any_ask (reverse h)
 
--- an edge line is counted: an end that goes on has a take of its own that was answered Busy, so
--- each round has an ask or a start of its own
+-- an edge line is counted: an end that goes on has a take of its own that was answered Busy, and
+-- each round an edge of its own; there are no more takes than edges of devices, starts and ends that
+-- go on
 pub record IsEdgeCounted (def : LineDef) (past : List Entry) : Type 0 where
   pub agains : count_of is_again past + one_if (has_flow def past
       && is_pending def past) ≤ count_of is_busy past
-  pub rounds : count_of (begins_round def) past ≤ ask_calls def + other_calls def
-  pub takes : count_of is_take past ≤ 2 * (ask_calls def + other_calls def)
+  pub rounds : count_of (begins_round def) past ≤ count_of is_device_edge past
+  pub takes : count_of is_take past
+      ≤ count_of is_device_edge past + count_of is_start past + count_of is_again past
 
 abbrev pub EdgeIsCounted : LineDef → List Entry → Type 0
 EdgeIsCounted def h = is_edge_line def ≡ true → IsEdgeCounted def (reverse h)

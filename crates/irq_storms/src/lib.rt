@@ -1,4 +1,5 @@
-//! How many entries of each kind a legal history of an interrupt line has at most: counts that every
+//! How many entries of each kind a legal history of an interrupt line has at most: counts that
+//! every
 //! entry keeps. Each is the clause of a function with an empty body, so that crates above can call
 //! it or cite its lemma.
 #![tactic(auto)]
@@ -9,7 +10,7 @@ ghost use Rattle.irq_base.specs.declared.entries.Entry.{Entry};
 ghost use Rattle.irq_model.specs.Legal.{IsLegal};
 ghost use Rattle.irq_model.specs.RunBounds.{RoundsAreCountedPast};
 ghost use Rattle.irq_model.specs.Valid.{IsValid};
-ghost use Rattle.irq_storms.specs.Storms.{RunsAreCounted, CallsAreCounted};
+ghost use Rattle.irq_storms.specs.Storms.{RunsAreCounted, CallsAreCounted, EdgeIsCounted};
 
 /// Runs are counted: a round calls each device's handler once at most, and has one end at most; a
 /// thread runs no more often than it was woken.
@@ -30,4 +31,11 @@ pub fn calls_are_counted()
 pub fn rounds_are_counted()
     ensures law { (def : LineDef) (h : List Entry) → IsLegal def h
         → RoundsAreCountedPast def (reverse h) }
+{}
+
+/// An edge line is counted: each round has an edge of its own that a device made, and there are no
+/// more takes than such edges, starts and ends that go on.
+#[tactic(auto, using(crate::proofs::EdgeCounts::edge_is_counted))]
+pub fn edge_is_counted()
+    ensures law { (def : LineDef) (h : List Entry) → IsLegal def h → EdgeIsCounted def h }
 {}

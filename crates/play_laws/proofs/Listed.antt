@@ -181,7 +181,8 @@ flow_listed def (e ∷ past) c legal is = by_test (is_handle e || closes def e) 
     by_test false t deeper = deeper (sym (ap (λ (b : Bool). cpu_of_handle (cond b (Some e) (last_of (λ e. is_handle e || closes def e) past))) t) ∙ is)
 
 -- the flow is that of one of the line's processors
-pub flow_of_own : (def : LineDef) (past : List Entry) (c : CpuNo) → IsLegalPast def past → is_cpu c (flow def past) ≡ true → IsOneOf (actors.Cpu c) (cpus_of def)
+pub flow_of_own : (def : LineDef) (past : List Entry) (c : CpuNo) → IsLegalPast def past
+    → is_cpu c (flow def past) ≡ true → IsOneOf (actors.Cpu c) (cpus_of def)
 flow_of_own def past c legal is = in_flow (flow def past) refl is
   where
     in_flow : (o : Option CpuNo) → flow def past ≡ o → is_cpu c o ≡ true → IsOneOf (actors.Cpu c) (cpus_of def)

@@ -1,5 +1,6 @@
 -- A disable that isn't complete goes on once the line's threads and processors rest.
-use Rattle.std.proofs.Common.{◌≡◌, ℕ, ◌==◌, ◌⊎◌, inl, inr, Option, is_some, sym, Bool, true, false, not, ◌||◌, cond, IsSome, Some, None, List, [], ◌∷◌, reverse, refl, ap, ◌∙◌}
+use Rattle.std.proofs.Common.{◌≡◌, ℕ, ◌==◌, ◌⊎◌, inl, inr, Option, is_some, sym, Bool, true, false, not, ◌||◌, cond}
+use Rattle.std.proofs.Common.{IsSome, Some, None, List, [], ◌∷◌, reverse, refl, ap, ◌∙◌}
 use Rattle.std.specs.List.{list_any}
 use Rattle.std.proofs.lemmas.Bool.{or_from, or_left, or_right}
 use Rattle.irq_base.specs.declared.devices.DeviceDef.{DeviceDef}

@@ -49,7 +49,8 @@ use Rattle.irq_laws.proofs.RunLaws.{synchronised}
 use Rattle.irq_laws.proofs.ImpliesFlow.{again_by, has_a_flow, take_due, return_due, end_due, handler_call_due}
 use Rattle.irq_laws.proofs.ImpliesThread.{thread_begin_due, done_due, thread_call_due}
 use Rattle.irq_laws.proofs.ImpliesDriver.{opened_with, request_due, hard_clear_due}
-use Rattle.sleep_laws.specs.Sleeping.{enables, wakes_by_driver, is_disable_by, is_synced_by, is_enable_by, disturbs, since_disable, before_disable, is_suspended, is_left_alone}
+use Rattle.sleep_laws.specs.Sleeping.{enables, wakes_by_driver, is_disable_by, is_synced_by, is_enable_by, disturbs}
+use Rattle.sleep_laws.specs.Sleeping.{since_disable, before_disable, is_suspended, is_left_alone}
 use Rattle.sleep_laws.proofs.Waits.{is_hard_clear_by, cleared_before}
 
 -- `older`: what stood before the disable; `newer`: what came since
@@ -99,7 +100,9 @@ quiet def (by.CpuCall c call) past due none = let q = call_quiet call past none 
     record { no_reset = or_from _ _ q.0 refl; no_lowering = q.1; no_start = q.2; no_disable = q.3; same_links = q.4 }
 quiet def (by.ThreadCall x call) past due none = let q = call_quiet call past none in
     record { no_reset = or_from _ _ q.0 refl; no_lowering = q.1; no_start = q.2; no_disable = q.3; same_links = q.4 }
-quiet def (by.DriverCall s call) past due none = let q = call_quiet call past (but_wakes (disables call) (enables call) (unlinks_one call) (wakes_by_driver (by.DriverCall s call)) none) in
+quiet def (by.DriverCall s call) past due none = let q
+    = call_quiet call past (but_wakes (disables call) (enables call) (unlinks_one call)
+    (wakes_by_driver (by.DriverCall s call)) none) in
     record { no_reset = or_from _ _ q.0 refl; no_lowering = q.1; no_start = q.2; no_disable = q.3; same_links = q.4 }
   where
     but_wakes : (d e u w : Bool) → (d || (e || (false || (u || w)))) ≡ false → (d || (e || (false || (u || false)))) ≡ false

@@ -22,7 +22,8 @@ use Rattle.irq_steps.proofs.Same.{same_self_driver}
 use Rattle.irq_steps.proofs.DueSteps.{entries_more, entries_same}
 use Rattle.irq_laws.proofs.Chosen.{the_same}
 use Rattle.irq_laws.proofs.Lists.{both_ways}
-use Rattle.sleep_laws.specs.Sleeping.{has_calm_runs, is_disable_by, is_enable_by, disturbs, is_other_call, since_disable, is_suspended, is_left_alone, others_only_ask}
+use Rattle.sleep_laws.specs.Sleeping.{has_calm_runs, is_disable_by, is_enable_by, disturbs, is_other_call}
+use Rattle.sleep_laws.specs.Sleeping.{since_disable, is_suspended, is_left_alone, others_only_ask}
 use Rattle.sleep_laws.proofs.Calm.{handler_moves_not, thread_moves_not}
 use Rattle.sleep_laws.proofs.Waits.{own_due, not_own, made_unless, made_when}
 

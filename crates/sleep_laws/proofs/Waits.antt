@@ -95,7 +95,8 @@ cleared_since def r (e ∷ past) legal w = by_wait w (cleared_since def r past l
     t : Turn def (actors.Driver r) e past
     t = turn def (actors.Driver r) e past legal.0 (runs_past def past legal.1)
 
-    later : is_by (actors.Driver r) e ≡ false → Waits def r past → (Waits def r past → list_any (is_hard_clear_by r) (since_disable r past) ≡ true) → IsClearedAfter r past e
+    later : is_by (actors.Driver r) e ≡ false → Waits def r past
+        → (Waits def r past → list_any (is_hard_clear_by r) (since_disable r past) ≡ true) → IsClearedAfter r past e
     later other before deeper =
         ap (λ (b : Bool). list_any (is_hard_clear_by r) (cond b [] (e ∷ since (is_disable_by r) past))) (not_own r e (sym (same_maker r (actor_of e)) ∙ other))
         ∙ or_right (is_hard_clear_by r e) (list_any (is_hard_clear_by r) (since_disable r past)) (deeper before)
@@ -104,11 +105,13 @@ cleared_since def r (e ∷ past) legal w = by_wait w (cleared_since def r past l
     here is = subst (λ (x : Entry). IsClearedAfter r past x) (sym is)
         (or_left (same_driver r r) (list_any (is_hard_clear_by r) (since_disable r past)) (same_self_driver r))
 
-    by_disable : Within def (actors.Driver r) e past calls.Disable 1 → (Waits def r past → list_any (is_hard_clear_by r) (since_disable r past) ≡ true) → IsClearedAfter r past e
+    by_disable : Within def (actors.Driver r) e past calls.Disable 1
+        → (Waits def r past → list_any (is_hard_clear_by r) (since_disable r past) ≡ true) → IsClearedAfter r past e
     by_disable (earlier other before) deeper = later other (in_disable before) deeper
     by_disable (by_this mine before more) deeper = here (own_clear def r past e calls.Disable 1 legal.0 mine before refl)
 
-    by_sync : Within def (actors.Driver r) e past calls.Sync 0 → (Waits def r past → list_any (is_hard_clear_by r) (since_disable r past) ≡ true) → IsClearedAfter r past e
+    by_sync : Within def (actors.Driver r) e past calls.Sync 0
+        → (Waits def r past → list_any (is_hard_clear_by r) (since_disable r past) ≡ true) → IsClearedAfter r past e
     by_sync (earlier other before) deeper = later other (in_sync before) deeper
     by_sync (by_this mine before more) deeper = here (own_clear def r past e calls.Sync 0 legal.0 mine before refl)
 

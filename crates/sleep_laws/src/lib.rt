@@ -18,7 +18,8 @@ ghost use Rattle.irq_model.specs.Legal.{IsLegal};
 ghost use Rattle.irq_model.specs.Next.{next};
 ghost use Rattle.irq_model.specs.Valid.{IsValid};
 ghost use Rattle.irq_model.specs.ValidRuns.{HasValidRuns};
-ghost use Rattle.sleep_laws.specs.Sleeping.{is_suspended, is_left_alone, others_only_ask, has_calm_runs};
+ghost use Rattle.sleep_laws.specs.Sleeping.{is_suspended, is_left_alone, others_only_ask};
+ghost use Rattle.sleep_laws.specs.Sleeping.{has_calm_runs};
 ghost use Rattle.sleep_laws.specs.Slept.{SleepsSoundly, ResumesAsItWas};
 
 /// While a line sleeps it is disabled and at rest: no handler is called, no thread begins a run,
@@ -47,7 +48,8 @@ pub fn left_alone()
 {}
 
 /// Falling asleep never gets stuck: once no thread and no processor of the line may add an entry, a
-/// driver whose disable isn't complete may, if no run of the line's devices disables, enables, frees
+/// driver whose disable isn't complete may, if no run of the line's devices disables, enables,
+/// frees
 /// or waits. The scripts of runs are as a board may have them.
 pub fn falls_asleep()
     ensures law { (def : LineDef) (h : List Entry) (r : DriverNo) (n : ℕ)
