@@ -42,7 +42,8 @@ pub record RunsAreCounted (def : LineDef) (h : List Entry) : Type 0 where
 pub record CallsAreCounted (def : LineDef) (h : List Entry) : Type 0 where
   pub entries : count_of is_by_any_driver (reverse h) ≤ ask_calls def + 3 * other_calls def
   pub asks : count_of is_any_ask (reverse h) ≤ ask_calls def
-  pub renewals : count_of (λ e. is_by_any_driver e && is_renewal e) (reverse h) ≤ other_calls def
+  pub renewals : count_of (λ e. is_by_any_driver e && is_renewal e) (reverse h)
+      ≤ other_calls def
 
 -- asks are counted: each ask of a device is either served or unserved, and each run that served
 -- something has an ask of its own
@@ -57,8 +58,8 @@ pub record AsksAreCounted (def : LineDef) (h : List Entry) : Type 0 where
   pub all_runs : count_of is_any_serving (reverse h) ≤ count_of is_any_ask (reverse h)
 
 -- an edge line is counted: an end that goes on has a take of its own that was answered Busy, and
--- each round an edge of its own; there are no more takes than edges of devices, starts and ends that
--- go on
+-- each round an edge of its own; there are no more takes than edges of devices, starts and ends
+-- that go on
 pub record IsEdgeCounted (def : LineDef) (past : List Entry) : Type 0 where
   pub agains : count_of is_again past + one_if (has_flow def past
       && is_pending def past) ≤ count_of is_busy past
