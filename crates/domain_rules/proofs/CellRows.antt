@@ -18,6 +18,13 @@ latch = refl
 remap_latch : cell (levels.Remap ∷ levels.Latch ∷ []) ≡ (true, true, true, false)
 remap_latch = refl
 
+-- a latch that can't send again by itself
+pin : cell (levels.Pin ∷ []) ≡ (true, true, false, false)
+pin = refl
+
+remap_pin : cell (levels.Remap ∷ levels.Pin ∷ []) ≡ (true, true, false, false)
+remap_pin = refl
+
 plain : cell (levels.Plain ∷ []) ≡ (false, false, false, false)
 plain = refl
 
@@ -29,6 +36,9 @@ msi_remap_vector = refl
 
 msi_latch : cell (levels.Msi ∷ levels.Latch ∷ []) ≡ (true, false, true, false)
 msi_latch = refl
+
+msi_pin : cell (levels.Msi ∷ levels.Pin ∷ []) ≡ (true, false, false, false)
+msi_pin = refl
 
 msi_plain : cell (levels.Msi ∷ levels.Plain ∷ []) ≡ (true, false, false, false)
 msi_plain = refl
@@ -72,6 +82,9 @@ handled_by trigger flow = (trigger, flow)
 
 edges : handling levels.Latch ≡ handled_by triggers.Edge flows.Edge
 edges = refl
+
+pin_edges : handling levels.Pin ≡ handled_by triggers.Edge flows.Edge
+pin_edges = refl
 
 plain_edges : handling levels.Plain ≡ handled_by triggers.Edge flows.Edge
 plain_edges = refl
