@@ -1,14 +1,11 @@
 //! The scripts and the answers of a line's runs.
-ghost use Rattle.std.specs.Prelude.{◌≡◌, ◌+◌, ◌^◌, ◌<◌, ◌≤◌, true, length, IsSome, IfOk};
-ghost use Rattle.irq_base.specs.declared.devices.Part.{Part};
-ghost use Rattle.irq_base.specs.declared.numbers.DevNo.{DevNo};
-ghost use Rattle.irq_model.specs.Lines.{has_device, run_script, told_answers};
+ghost use Rattle.std.specs.Prelude.{◌≡◌, ◌+◌, ◌^◌, ◌<◌, ◌≤◌, length, IsSome, IfOk};
 ghost use Rattle.irq_model.specs.Valid.{HasDistinctDevices};
-ghost use Rattle.device_table.specs.Rows.{at, change, all_with};
+ghost use Rattle.device_table.specs.Rows.{change, all_with};
 ghost use Rattle.run_scripts.specs.Places.{first_place, first_row, row_at, place_at, turn_at};
 ghost use Rattle.run_scripts.specs.Places.{after_begin, after_return, after_call, placed};
 ghost use Rattle.run_scripts.specs.Places.{handler_begun, thread_begun, row_advanced};
-ghost use Rattle.run_scripts.specs.Runs.{script_of, answers_of, call_of, due_of, told_of};
+ghost use Rattle.run_scripts.specs.Runs.{AreRunsOf, answers_of, call_of, due_of, told_of};
 
 use crate::groups::Groups;
 use crate::rows::{RunPlace, RunRow, Turn};
@@ -47,10 +44,7 @@ impl RunScripts {
         requires few { length def.now.devices ≤ 256 }
         requires few_calls { length def.now.runs ≤ 256 }
         requires few_answers { length def.now.told ≤ 65536 }
-        ensures calls { IfOk result (λ s. (d : DevNo) (part : Part) → has_device def.now d ≡ true
-            → script_of s d part ≡ run_script def.now d part) }
-        ensures answers { IfOk result (λ s. (d : DevNo) (part : Part) → has_device def.now d ≡ true
-            → answers_of s d part ≡ told_answers def.now d part) }
+        ensures runs { IfOk result (λ s. AreRunsOf def.now s) }
         ensures places { IfOk result (λ s. s.places
             ≡ record { work = first_place; rows = all_with first_row def.now.devices }) }
     {
