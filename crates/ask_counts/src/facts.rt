@@ -127,7 +127,7 @@ fn serves_itself(runs: &RunCallList, dev: DevNo, part: Part) -> bool
 {
     for i in 0..runs.len() {
         if let Some((owner, its_part, call)) = runs.get(i) {
-            if is_own(dev, part, owner, its_part) && serves_this(dev, call) {
+            if is_own_serve(dev, part, owner, its_part, call) {
                 return true;
             }
         }
@@ -135,11 +135,12 @@ fn serves_itself(runs: &RunCallList, dev: DevNo, part: Part) -> bool
     false
 }
 
-/// Whether that part of the device is the one that makes the call.
-fn is_own(dev: DevNo, part: Part, owner: DevNo, its_part: Part) -> bool
-    ensures { result ≡ (same_dev dev owner && same_part part its_part) }
+/// Whether that part of the device makes the call, and serves the device by it.
+fn is_own_serve(dev: DevNo, part: Part, owner: DevNo, its_part: Part, call: Call) -> bool
+    ensures { result ≡ ((same_dev dev owner && same_part part its_part)
+        && serves_itself dev call) }
 {
-    dev == owner && same_part(part, its_part)
+    dev == owner && same_part(part, its_part) && serves_this(dev, call)
 }
 
 /// Whether both are the same part.
