@@ -17,6 +17,13 @@ take_item (y ∷ ys) (suc i) x h =
     let more : take (i + 1) ys ≡ take i ys ++ x ∷ [] = take_item ys i x h in
     ap (λ n. take n (y ∷ ys)) (add-one (suc i)) ∙ ap (λ zs. y ∷ zs) (ap (λ n. take n ys) (sym (add-one i)) ∙ more)
 
+-- all of a list
+pub take_past : {A : Type 0} (xs : List A) (i : ℕ) → length xs ≤ i → take i xs ≡ xs
+take_past [] zero h = refl
+take_past [] (suc i) h = refl
+take_past (x ∷ xs) zero h = absurd (omega arith)
+take_past (x ∷ xs) (suc i) h = ap (λ ys. x ∷ ys) (take_past xs i (omega arith))
+
 module _ {A : Type 0} where
   -- the item itself, if it is of that part of d
   abbrev pub one_of : DevNo → Part → DevNo × Part × A → List A
@@ -32,6 +39,14 @@ module _ {A : Type 0} where
           ≡ cond b (x.2 ∷ group_in cs d part) (group_in cs d part) ++ one_of d part c
       by_test true h = ap (λ xs. x.2 ∷ xs) h
       by_test false h = h
+
+  -- what one more item of the list makes of it; `mine`: it is of that part of d
+  pub group_more : (cs : List (DevNo × Part × A)) (i : ℕ) (c : DevNo × Part × A) (d : DevNo) (part : Part) (mine : Bool)
+      → slice_get cs i ≡ Some c → (same_dev d c.0 && same_part part c.1) ≡ mine
+      → group_in (take (i + 1) cs) d part ≡ group_in (take i cs) d part ++ cond mine (c.2 ∷ []) []
+  group_more cs i c d part mine at is =
+      ap (λ xs. group_in xs d part) (take_item cs i c at)
+      ∙ (group_last (take i cs) c d part ∙ ap (λ b. group_in (take i cs) d part ++ cond b (c.2 ∷ []) []) is)
 
   -- it has no more items than the list
   pub group_few : (cs : List (DevNo × Part × A)) (d : DevNo) (part : Part) → length (group_in cs d part) ≤ length cs
@@ -61,8 +76,9 @@ module _ {A : Type 0} where
   pub get_dropped : (xs : List A) (f p : ℕ) → slice_get (drop f xs) p ≡ slice_get xs (f + p)
   get_dropped [] zero p = refl
   get_dropped [] (suc f) p = refl
-  get_dropped (x ∷ xs) zero p = refl
-  get_dropped (x ∷ xs) (suc f) p = get_dropped xs f p
+  get_dropped (x ∷ xs) zero p = ap (slice_get (x ∷ xs)) (let e : p ≡ 0 + p = omega arith in e)
+  get_dropped (x ∷ xs) (suc f) p =
+      get_dropped xs f p ∙ ap (slice_get (x ∷ xs)) (let e : suc (f + p) ≡ suc f + p = omega arith in e)
 
   -- the item at a place of those that stand from f on, n of them
   pub get_at : (xs : List A) (f n p : ℕ) → p < n → slice_get (take n (drop f xs)) p ≡ slice_get xs (f + p)

@@ -85,19 +85,21 @@ module _ {A : Type 0} (cs : List (DevNo × Part × A)) where
       → items_at (a ++ laid_items xs) (span_of (laid_spans n xs) d part) ≡ group_in cs d part
   found_after a n [] d part long h = cc
   found_after a n (x ∷ xs) d part long h = by_test (same_dev d x.dev) refl h
+      (found_after (a ++ both_of x.dev) (n + length (both_of x.dev)) xs d part (omega (arith, length-append a (both_of x.dev))))
     where
       next : ℕ
       next = n + length (both_of x.dev)
 
       by_test : (b : Bool) → same_dev d x.dev ≡ b → (b || list_any (is_device d) xs) ≡ true
+          → (list_any (is_device d) xs ≡ true
+          → items_at ((a ++ both_of x.dev) ++ laid_items xs) (span_of (laid_spans next xs) d part) ≡ group_in cs d part)
           → items_at (a ++ (both_of x.dev ++ laid_items xs)) (span_in (cond b (Some (spans_from n cs x.dev)) (at (laid_spans next xs) d)) part)
           ≡ group_in cs d part
-      by_test true is h =
+      by_test true is h rest =
           at_first a (laid_items xs) n x.dev part long ∙ ap (λ (e : DevNo). group_in cs e part) (sym (dev_from_same d x.dev is))
-      by_test false is h =
-          let far : next ≡ length (a ++ both_of x.dev) = omega (arith, length-append a (both_of x.dev)) in
+      by_test false is h rest =
           ap (λ ys. items_at ys (span_of (laid_spans next xs) d part)) (sym (append_assoc a (both_of x.dev) (laid_items xs)))
-          ∙ found_after (a ++ both_of x.dev) next xs d part far h
+          ∙ rest h
 
   pub found : (xs : List DeviceDef) (d : DevNo) (part : Part) → list_any (is_device d) xs ≡ true
       → items_at (laid_items xs) (span_of (laid_spans 0 xs) d part) ≡ group_in cs d part
@@ -127,4 +129,4 @@ module _ {A : Type 0} (cs : List (DevNo × Part × A)) where
       by_test false rest = omega (arith, rest, length-append (both_of x.dev) (laid_items xs))
 
   pub within : (xs : List DeviceDef) → AreWithin (laid_items xs) (laid_spans 0 xs)
-  within xs d part = within_after 0 xs d part
+  within xs d part = let h = within_after 0 xs d part in omega (arith, h)
