@@ -48,6 +48,19 @@ module _ {A : Type 0} where
       ap (λ xs. group_in xs d part) (take_item cs i c at)
       ∙ (group_last (take i cs) c d part ∙ ap (λ b. group_in (take i cs) d part ++ cond b (c.2 ∷ []) []) is)
 
+  pub pushed : (cs : List (DevNo × Part × A)) (i : ℕ) (c : DevNo × Part × A) (d : DevNo) (part : Part) (old now new : List A)
+      → slice_get cs i ≡ Some c → (same_dev d c.0 && same_part part c.1) ≡ true → now ≡ old ++ group_in (take i cs) d part
+      → new ≡ now ++ c.2 ∷ [] → new ≡ old ++ group_in (take (i + 1) cs) d part
+  pushed cs i c d part old now new at mine was is =
+      is ∙ (ap (λ xs. xs ++ c.2 ∷ []) was
+      ∙ (append_assoc old (group_in (take i cs) d part) (c.2 ∷ []) ∙ ap (λ xs. old ++ xs) (sym (group_more cs i c d part true at mine))))
+
+  pub passed : (cs : List (DevNo × Part × A)) (i : ℕ) (c : DevNo × Part × A) (d : DevNo) (part : Part) (old now : List A)
+      → slice_get cs i ≡ Some c → (same_dev d c.0 && same_part part c.1) ≡ false → now ≡ old ++ group_in (take i cs) d part
+      → now ≡ old ++ group_in (take (i + 1) cs) d part
+  passed cs i c d part old now at other was =
+      was ∙ ap (λ xs. old ++ xs) (sym (group_more cs i c d part false at other ∙ append-nil (group_in (take i cs) d part)))
+
   -- it has no more items than the list
   pub group_few : (cs : List (DevNo × Part × A)) (d : DevNo) (part : Part) → length (group_in cs d part) ≤ length cs
   group_few [] d part = omega arith

@@ -149,9 +149,9 @@ fn push_group<T: Copy>(
 {
     let from = items.len();
     for i in 0..list.len() {
-        if let Some((owner, its_part, item)) = list.get(i) {
-            if is_own(dev, part, owner, its_part) {
-                items.push(item)?;
+        if let Some(item) = list.get(i) {
+            if is_own(dev, part, item.0, item.1) {
+                items.push(item.2)?;
             }
         }
     }
