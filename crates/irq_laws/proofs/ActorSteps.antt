@@ -1,5 +1,5 @@
 -- What one more entry makes of an actor's calls, and of the entries that it has made of them.
-use Rattle.std.proofs.Common.{◌≡◌, ◌⊎◌, inl, inr, ℕ, Bool, true, false, not, ◌||◌, ◌&&◌, cond, Option, Some, None, is_some}
+use Rattle.std.proofs.Common.{◌≡◌, ℕ, Bool, true, false, not, ◌||◌, ◌&&◌, cond, Option, Some, None, is_some}
 use Rattle.std.proofs.Common.{List, [], ◌∷◌, ◌++◌, filter, reverse, refl, sym, ap, ap₂, ◌∙◌, subst}
 use Rattle.std.specs.List.{list_any}
 use Rattle.std.proofs.lemmas.Grind.{reverse_onto}
@@ -7,6 +7,7 @@ use Rattle.irq_base.specs.declared.numbers.CpuNo.{CpuNo}
 use Rattle.irq_base.specs.declared.numbers.DevNo.{DevNo}
 use Rattle.irq_base.specs.declared.numbers.DriverNo.{DriverNo}
 use Rattle.irq_base.specs.declared.calls.Call.{Call}
+use Rattle.irq_base.specs.declared.calls.Call.TheVariants as calls
 use Rattle.irq_base.specs.declared.devices.Part.TheVariants as parts
 use Rattle.irq_base.specs.declared.lines.LineDef.{LineDef}
 use Rattle.irq_base.specs.declared.entries.Actor.{Actor}
@@ -22,15 +23,16 @@ use Rattle.irq_base.specs.declared.entries.CallEntry.{CallEntry}
 use Rattle.irq_base.specs.Who.{actor_of}
 use Rattle.irq_model.specs.Places.{since}
 use Rattle.irq_model.specs.Kinds.{same_cpu, same_dev, same_actor, is_by, is_by_driver, is_driver, is_begin, is_begin_or_return}
-use Rattle.irq_model.specs.Kinds.{is_cpu_call, is_thread_call, is_thread_begin, is_thread_return, is_handle, is_leave, is_again}
+use Rattle.irq_model.specs.Kinds.{is_cpu_call, is_thread_call, is_thread_begin, is_thread_return}
 use Rattle.irq_model.specs.Lines.{run_script}
 use Rattle.irq_model.specs.Rounds.{flow, has_flow, is_cpu, at_work}
 use Rattle.irq_model.specs.Threads.{is_running}
-use Rattle.irq_model.specs.Due.{due_of, entries_by}
-use Rattle.irq_model.specs.Runs.{entries_of_run, makes_calls}
-use Rattle.irq_model.specs.RunLaws.{calls_of_run, is_in_run}
+use Rattle.irq_model.specs.Due.{due_of}
+use Rattle.irq_model.specs.Runs.{entries_of_run}
+use Rattle.irq_model.specs.RunLaws.{is_in_run}
+use Rattle.irq_model.specs.Next.{next_past}
 use Rattle.irq_model.specs.Legal.{IsDue}
-use Rattle.irq_steps.proofs.Same.{dev_from_same, cpu_from_same, same_self_cpu}
+use Rattle.irq_steps.proofs.Same.{dev_from_same, cpu_from_same, driver_from_same}
 use Rattle.irq_steps.proofs.RoundSteps.{flow_quiet}
 use Rattle.irq_laws.specs.Kept.{KeepsRuns}
 use Rattle.irq_laws.specs.Actors.{calls_of, calls_at_work, entries_of, entries_at_work, due_of_actor}
@@ -38,11 +40,11 @@ use Rattle.irq_laws.proofs.Lists.{both_ways}
 use Rattle.irq_laws.proofs.RunsKept.{handle_idle}
 use Rattle.irq_laws.proofs.ImpliesFlow.{take_due, begin_due, return_due, end_due, handler_call_due}
 use Rattle.irq_laws.proofs.ImpliesThread.{thread_begin_due, thread_return_due, finish_due, done_due, thread_call_due, has_returned}
-use Rattle.irq_laws.proofs.ImpliesDriver.{due_at_work, due_in_thread}
+use Rattle.irq_laws.proofs.ImpliesDriver.{due_at_work, due_in_thread, call_due, DriverRow, driver_row, ask, request, affinity, moment, step}
 
 -- the actor makes one entry more; or another does; or a run of it begins; or none of it is there
 pub data Turn (def : LineDef) (a : Actor) (e : Entry) (past : List Entry) : Type 0 where
-  goes : is_by a e ≡ true → calls_of def a (e ∷ past) ≡ calls_of def a past
+  goes : is_by a e ≡ true → (due : Call × ℕ) → due_of_actor def a past ≡ Some due → calls_of def a (e ∷ past) ≡ calls_of def a past
       → entries_of def a (e ∷ past) ≡ entries_of def a past ++ e ∷ [] → Turn def a e past
   stays : is_by a e ≡ false → calls_of def a (e ∷ past) ≡ calls_of def a past
       → entries_of def a (e ∷ past) ≡ entries_of def a past → Turn def a e past
@@ -60,12 +62,30 @@ by_driver r (actors.Driver s) = refl
 by_driver r (actors.Thread d) = refl
 by_driver r (actors.Cpu c) = refl
 
-driver_turn : (def : LineDef) (r : DriverNo) (e : Entry) (past : List Entry) (b : Bool) → is_by_driver r e ≡ b → Turn def (actors.Driver r) e past
-driver_turn def r e past true is =
-    goes (by_driver r (actor_of e) ∙ is) refl
+is_the_driver : (r : DriverNo) (x : Actor) → is_driver r x ≡ true → x ≡ actors.Driver r
+is_the_driver r (actors.Driver s) h = ap actors.Driver (sym (driver_from_same r s h))
+is_the_driver r (actors.Thread d) h = cc
+is_the_driver r (actors.Cpu c) h = cc
+
+abbrev HasDue : LineDef → Actor → List Entry → Type 0
+HasDue def a past = (due : Call × ℕ) × (due_of_actor def a past ≡ Some due)
+
+driver_has : (def : LineDef) (r : DriverNo) (past : List Entry) (e : Entry) → DriverRow def r past e → HasDue def (actors.Driver r) past
+driver_has def r past e (ask d n is same) = ((calls.Ask d, n), is)
+driver_has def r past e (request d flags n is free same) = ((calls.Request d flags, n), is)
+driver_has def r past e (affinity mask n is same) = ((calls.Affinity mask, n), is)
+driver_has def r past e (moment at n is same) = ((calls.Moment at, n), is)
+driver_has def r past e (step due call is h same) = (due, is)
+
+driver_turn : (def : LineDef) (r : DriverNo) (e : Entry) (past : List Entry) (b : Bool) → is_by_driver r e ≡ b → IsDue def e past
+    → Turn def (actors.Driver r) e past
+driver_turn def r e past true is due =
+    let whose = is_the_driver r (actor_of e) is in
+    let h = driver_has def r past e (driver_row def r past e (ap (next_past def past) (sym whose) ∙ due)) in
+    goes (by_driver r (actor_of e) ∙ is) h.0 h.1 refl
     (ap (λ (b : Bool). reverse (cond b (e ∷ filter (is_by_driver r) past) (filter (is_by_driver r) past))) is
     ∙ reverse_onto (filter (is_by_driver r) past) e [])
-driver_turn def r e past false is =
+driver_turn def r e past false is due =
     stays (by_driver r (actor_of e) ∙ is) refl
     (ap (λ (b : Bool). reverse (cond b (e ∷ filter (is_by_driver r) past) (filter (is_by_driver r) past))) is)
 
@@ -136,7 +156,8 @@ thread_call_turn def d x call past true same due =
     let is : is_in_run past x ≡ true = in_the_run (is_running past x) (has_returned past x) u.running u.not_returned in
     let mine : is_in_run past d ≡ true = subst (λ (y : DevNo). is_in_run past y ≡ true) (sym (dev_from_same d x same)) is in
     let own : List Entry = filter (is_thread_call d) (since (is_thread_begin d) past) in
-    goes same refl
+    let h = call_due def (actors.Thread x) call past due in
+    goes same h.due (subst (λ (y : DevNo). due_of_actor def (actors.Thread y) past ≡ Some h.due) (sym (dev_from_same d x same)) h.is_due) refl
     (ap₂ (λ (b c : Bool). cond b (reverse (cond c (by.ThreadCall x call ∷ own) own)) []) mine same
     ∙ reverse_onto own (by.ThreadCall x call) []
     ∙ ap (λ (b : Bool). cond b (reverse own) [] ++ by.ThreadCall x call ∷ []) (sym mine))
@@ -279,7 +300,8 @@ cpu_call_turn def c x call past true same due =
     let mine = own_flow c x (flow def past) same u.of_flow in
     let e = by.CpuCall x call in
     let still : flow def (by.CpuCall x call ∷ past) ≡ flow def past = flow_quiet def (by.CpuCall x call) past refl refl refl in
-    goes same
+    let h = call_due def (actors.Cpu x) call past due in
+    goes same h.due (subst (λ (y : CpuNo). due_of_actor def (actors.Cpu y) past ≡ Some h.due) (sym (cpu_from_same c x same)) h.is_due)
     (ap₂ (λ (f : Option CpuNo) (cs : List Call). CallsBy c f cs) still (calls_same def (at_work past) (by.CpuCall x call) past refl))
     (ap₂ (λ (f : Option CpuNo) (es : List Entry). EntriesBy c f es) still (entries_more (at_work past) u.dev (by.CpuCall x call) past u.is_at_work refl refl)
     ∙ both_in (is_cpu c (flow def past)) (entries_at_work (at_work past) past) (by.CpuCall x call) mine)
@@ -291,7 +313,7 @@ cpu_call_turn def c x call past true same due =
 -- ---- every actor, and every entry
 
 pub turn : (def : LineDef) (a : Actor) (e : Entry) (past : List Entry) → IsDue def e past → KeepsRuns def past → Turn def a e past
-turn def (actors.Driver r) e past due k = driver_turn def r e past (is_by_driver r e) refl
+turn def (actors.Driver r) e past due k = driver_turn def r e past (is_by_driver r e) refl due
 turn def (actors.Thread d) (by.Thread x t) past due k = by_dev (same_dev d x) refl
   where
     by_dev : (b : Bool) → same_dev d x ≡ b → Turn def (actors.Thread d) (by.Thread x t) past

@@ -1,7 +1,7 @@
 -- What the step of a call implies when it is due, whoever makes it: the call that it belongs to, and
 -- the conditions of its row.
 use Rattle.std.proofs.Common.{◌≡◌, ℕ, ◌⊎◌, inl, inr, Bool, true, false, ◌||◌, ◌==◌, cond, Option, Some, None, List}
-use Rattle.std.proofs.Common.{refl, sym, ap, ◌∙◌, eqb-true}
+use Rattle.std.proofs.Common.{sym, ap, ◌∙◌, eqb-true}
 use Rattle.std.proofs.lemmas.Bool.{or_parts}
 use Rattle.irq_base.specs.declared.numbers.DevNo.{DevNo}
 use Rattle.irq_base.specs.declared.calls.Call.{Call}

@@ -1,7 +1,6 @@
 -- What an entry implies that a driver alone makes, and what a call's step implies of the due call of
 -- its actor.
-use Rattle.std.proofs.Common.{◌≡◌, ℕ, Bool, true, false, not, cond, Option, Some, None, List, [], refl, sym, ap, ap₂, ◌∙◌, subst}
-use Rattle.std.specs.List.{list_any}
+use Rattle.std.proofs.Common.{◌≡◌, ℕ, Bool, true, false, not, ◌&&◌, cond, Option, Some, None, List, [], refl, sym, ap, ap₂, ◌∙◌}
 use Rattle.irq_base.specs.declared.numbers.CpuNo.{CpuNo}
 use Rattle.irq_base.specs.declared.numbers.DevNo.{DevNo}
 use Rattle.irq_base.specs.declared.numbers.DriverNo.{DriverNo}
@@ -24,24 +23,21 @@ use Rattle.irq_base.specs.declared.entries.LinkAnswer.{LinkAnswer}
 use Rattle.irq_base.specs.declared.entries.LinkAnswer.TheVariants as links
 use Rattle.irq_base.specs.declared.entries.UnlinkAnswer.{UnlinkAnswer}
 use Rattle.irq_base.specs.declared.entries.AffinityAnswer.{AffinityAnswer}
-use Rattle.irq_base.specs.Who.{actor_of}
-use Rattle.irq_model.specs.Places.{since}
 use Rattle.irq_model.specs.Asks.{unserved_asks}
-use Rattle.irq_model.specs.Kinds.{made_by, is_thread_begin, is_thread_return}
-use Rattle.irq_model.specs.Lines.{run_script, has_device}
+use Rattle.irq_model.specs.Kinds.{made_by}
+use Rattle.irq_model.specs.Lines.{run_script}
 use Rattle.irq_model.specs.Rounds.{flow, has_flow, is_cpu, at_work}
 use Rattle.irq_model.specs.Threads.{is_running, active_count}
 use Rattle.irq_model.specs.Due.{due_of, due_call, holds_mutex}
 use Rattle.irq_model.specs.Runs.{due_in_run, entries_of_run, makes_calls}
 use Rattle.irq_model.specs.RunLaws.{calls_of_run, is_in_run}
-use Rattle.irq_model.specs.Next.{ask_makes_edge, enable_answer, link_answer, opened_by_request, request_with, request_of}
+use Rattle.irq_model.specs.Next.{ask_makes_edge, enable_answer, link_answer, opened_by_request, request_with}
 use Rattle.irq_model.specs.Next.{affinity_answer, wake_answer, arm_makes_edge, next_of_request, next_of_call, next_of_driver}
-use Rattle.irq_model.specs.Next.{next_of_thread, next_of_cpu, next_in_flow, next_take, next_step, next_past}
+use Rattle.irq_model.specs.Next.{next_of_thread, next_in_flow, next_take, next_step, next_past}
 use Rattle.irq_model.specs.Next.{handler_or_return, call_or_return}
 use Rattle.irq_model.specs.Legal.{IsDue}
 use Rattle.irq_laws.specs.Actors.{calls_at_work, entries_at_work, due_of_actor}
 use Rattle.irq_laws.proofs.Chosen.{from_else, the_same}
-use Rattle.irq_laws.proofs.Lists.{both_ways}
 use Rattle.irq_laws.proofs.ImpliesFlow.{made_step, handler_call_due}
 use Rattle.irq_laws.proofs.ImpliesThread.{thread_call_due, thread_there, has_returned}
 use Rattle.irq_laws.proofs.ImpliesCall.{Row, step_row, IsUnlinkDue, IsFreedDue, unlink_step, freed_step, clear_step}
@@ -201,7 +197,7 @@ moment_due def r at past due = moment_row def r at past (driver_row def r past (
 -- ---- the due call of an actor
 
 -- the due call of a run, by its script
-handler_due : (def : LineDef) (d : DevNo) (past : List Entry) → due_in_run def parts.Primary d past
+pub handler_due : (def : LineDef) (d : DevNo) (past : List Entry) → due_in_run def parts.Primary d past
     ≡ due_of (calls_of_run def parts.Primary d past) (entries_of_run parts.Primary d past)
 handler_due def d past = if_makes (makes_calls def parts.Primary d past) (run_script def d parts.Primary) (entries_of_run parts.Primary d past)
   where
@@ -217,10 +213,7 @@ due_at_work def c d past f w =
     ∙ ap (λ (o : Option DevNo). due_of (calls_at_work def o past) (entries_at_work o past)) w
     ∙ sym (handler_due def d past)
 
-abbrev in_a_run : Bool → Bool → Bool
-in_a_run r t = cond r (not t) false
-
-run_is : (r t : Bool) → r ≡ true → t ≡ false → in_a_run r t ≡ true
+run_is : (r t : Bool) → r ≡ true → t ≡ false → (r && not t) ≡ true
 run_is true false a b = refl
 run_is false t a b = cc
 run_is true true a b = cc
@@ -318,7 +311,7 @@ handler_works def c due past h = by_work (at_work past) refl (some_of (is_cpu c 
         let n = ap (λ (o : Option DevNo). due_of (calls_at_work def o past) (entries_at_work o past)) (sym is) ∙ h.1 in
         record { of_flow = h.0; dev = d; is_at_work = is; is_due = handler_due def d past ∙ n }
 
-run_parts : (r t : Bool) → in_a_run r t ≡ true → (r ≡ true) × (t ≡ false)
+run_parts : (r t : Bool) → (r && not t) ≡ true → (r ≡ true) × (t ≡ false)
 run_parts true false h = (refl, refl)
 run_parts true true h = cc
 run_parts false t h = cc

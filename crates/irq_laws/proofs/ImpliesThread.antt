@@ -1,5 +1,5 @@
 -- What a thread's entry implies when it is due: the conditions of its row.
-use Rattle.std.proofs.Common.{◌≡◌, ℕ, Bool, true, false, not, ◌&&◌, cond, Option, Some, None, List, refl, sym, ap, ◌∙◌, subst}
+use Rattle.std.proofs.Common.{◌≡◌, ℕ, Bool, true, false, not, ◌&&◌, cond, Option, Some, None, List, refl, ap, ◌∙◌, subst}
 use Rattle.std.specs.List.{list_any}
 use Rattle.irq_base.specs.declared.numbers.DevNo.{DevNo}
 use Rattle.irq_base.specs.declared.calls.Call.{Call}

@@ -31,6 +31,7 @@ pub mod WithinFree
 pub mod BlockLaws
 pub mod DriversMove
 pub mod RestLaws
+pub mod Standstill
 pub mod LevelSteps
 pub mod CellSteps
 pub mod Starts

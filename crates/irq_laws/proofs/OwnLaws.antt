@@ -1,5 +1,5 @@
 -- What is due of an actor is that actor's entry; who takes.
-use Rattle.std.proofs.Common.{◌≡◌, true, Option, Some, None, List, reverse, refl, sym, ap, ◌∙◌, subst}
+use Rattle.std.proofs.Common.{◌≡◌, true, Option, Some, None, List, reverse, sym, ap, ◌∙◌, subst}
 use Rattle.irq_base.specs.declared.numbers.CpuNo.{CpuNo}
 use Rattle.irq_base.specs.declared.numbers.DevNo.{DevNo}
 use Rattle.irq_base.specs.declared.numbers.DriverNo.{DriverNo}
@@ -77,4 +77,3 @@ same_cpu_no b c h = cc
 pub one_takes : (def : LineDef) (h : List Entry) (b c : CpuNo) (e f : Entry) → is_take e ≡ true → is_take f ≡ true
     → next def h (actors.Cpu b) ≡ Some e → next def h (actors.Cpu c) ≡ Some f → b ≡ c
 one_takes def h b c e f is_e is_f due_b due_c = same_cpu_no b c (sym (takes_at_target def h b e is_e due_b) ∙ takes_at_target def h c f is_f due_c)
-

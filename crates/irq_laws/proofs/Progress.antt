@@ -1,5 +1,5 @@
 -- How far an actor is in its script, after one more entry.
-use Rattle.std.proofs.Common.{◌≡◌, ℕ, suc, ◌+◌, ◌<◌, ◌≤◌, ◌⊎◌, inl, inr, Bool, true, false, cond, Option, Some, None, List}
+use Rattle.std.proofs.Common.{◌≡◌, ℕ, suc, ◌+◌, ◌<◌, ◌≤◌, ◌⊎◌, inl, inr, Bool, true, false, cond, Option, Some, List}
 use Rattle.std.proofs.Common.{[], ◌∷◌, ◌++◌, length, drop, nat_lt, refl, sym, ap, ap₂, ◌∙◌, subst, arith}
 use Rattle.std.proofs.Common.{length-append, drop_of_length-le}
 use Rattle.std.proofs.lemmas.List.{drop-append-le}
@@ -144,26 +144,21 @@ after_standing cs es e c n d m s is = by_case (goes_on c s.rest s.own e d m s.in
 
 -- an actor that is past the first entry of a call: it was there before, or the entry is of that call
 pub data Within (def : LineDef) (a : Actor) (e : Entry) (past : List Entry) (d : Call) (m : ℕ) : Type 0 where
-  was : is_by a e ≡ false → due_of_actor def a past ≡ Some (d, suc m) → Within def a e past d m
-  now : is_by a e ≡ true → due_of_actor def a past ≡ Some (d, m)
+  earlier : is_by a e ≡ false → due_of_actor def a past ≡ Some (d, suc m) → Within def a e past d m
+  by_this : is_by a e ≡ true → due_of_actor def a past ≡ Some (d, m)
       → (m ≡ 0 → nat_lt 1 (entries_of_call d (e ∷ [])) ≡ true) → Within def a e past d m
 
--- the actor has a due call, since it makes an entry of one
-pub record HasDue (def : LineDef) (a : Actor) (past : List Entry) : Type 0 where
-  pub call : Call
-  pub count : ℕ
-  pub is_due : due_of_actor def a past ≡ Some (call, count)
-
 pub within : (def : LineDef) (a : Actor) (e : Entry) (past : List Entry) (d : Call) (m : ℕ) → Turn def a e past
-    → (is_by a e ≡ true → due_of_actor def a past ≡ None → ⊥)
     → due_of_actor def a (e ∷ past) ≡ Some (d, suc m) → Within def a e past d m
-within def a e past d m (stays other cs es) some h =
-    was other (sym (ap₂ (λ (x : List Call) (y : List Entry). due_of x y) cs es) ∙ h)
-within def a e past d m (begins none es) some h =
+within def a e past d m (stays other cs es) h =
+    earlier other (sym (ap₂ (λ (x : List Call) (y : List Entry). due_of x y) cs es) ∙ h)
+within def a e past d m (begins none es) h =
     absurd (let zero = fresh (calls_of def a (e ∷ past)) d (suc m) (sym (ap (λ (y : List Entry). due_of (calls_of def a (e ∷ past)) y) es) ∙ h) in omega (arith, zero))
-within def a e past d m (ends none cs es) some h =
+within def a e past d m (ends none cs es) h =
     let n = sym (ap₂ (λ (x : List Call) (y : List Entry). due_of x y) cs es) ∙ h in cc
-within def a e past d m (goes mine cs es) some h = by_due (due_of_actor def a past) refl
+within def a e past d m (goes mine due is_due cs es) h =
+    by_case due.0 due.1 is_due (after_standing (calls_of def a past) (entries_of def a past) e due.0 due.1 d (suc m)
+    (standing (calls_of def a past) (entries_of def a past) due.0 due.1 is_due) more)
   where
     more : due_of (calls_of def a past) (entries_of def a past ++ e ∷ []) ≡ Some (d, suc m)
     more = sym (ap₂ (λ (x : List Call) (y : List Entry). due_of x y) cs es) ∙ h
@@ -172,15 +167,9 @@ within def a e past d m (goes mine cs es) some h = by_due (due_of_actor def a pa
     by_case c n is (inl o) =
         let same : m ≡ n = (let k = o.1 in omega (arith, k)) in
         let before : due_of_actor def a past ≡ Some (d, m) = is ∙ ap₂ (λ (x : Call) (k : ℕ). Some (x, k)) (sym o.0) (sym same) in
-        now mine before (λ zero. subst (λ (k : ℕ). nat_lt k (entries_of_call d (e ∷ [])) ≡ true) (ap suc zero)
+        by_this mine before (λ zero. subst (λ (k : ℕ). nat_lt k (entries_of_call d (e ∷ [])) ≡ true) (ap suc zero)
         (subst (λ (x : Call). nat_lt (suc m) (entries_of_call x (e ∷ [])) ≡ true) (sym o.0) (o.2 (sym same ∙ zero))))
     by_case c n is (inr zero) = absurd (omega (arith, zero))
-
-    by_due : (o : Option (Call × ℕ)) → due_of_actor def a past ≡ o → Within def a e past d m
-    by_due None is = absurd (some mine is)
-    by_due (Some (c, n)) is =
-        by_case c n is (after_standing (calls_of def a past) (entries_of def a past) e c n d (suc m)
-        (standing (calls_of def a past) (entries_of def a past) c n is) more)
 
 -- a free makes at most three entries
 pub free_below : (cs : List Call) (es : List Entry) (d : DevNo) (n : ℕ) → due_of cs es ≡ Some (calls.Free d, n) → n < 3
@@ -201,11 +190,11 @@ pub goes_on_with : (def : LineDef) (a : Actor) (e : Entry) (past : List Entry) (
     → ((own : List Entry) → length own ≡ n → nat_lt (length own) (entries_of_call c own) ≡ true
     → nat_lt (length (own ++ e ∷ [])) (entries_of_call c (own ++ e ∷ [])) ≡ true)
     → due_of_actor def a (e ∷ past) ≡ Some (c, n + 1)
-goes_on_with def a e past c n (stays other cs es) mine was more = both_ways (is_by a e) mine other
-goes_on_with def a e past c n (begins none es) mine was more = let m = sym none ∙ was in cc
-goes_on_with def a e past c n (ends none cs es) mine was more = let m = sym none ∙ was in cc
-goes_on_with def a e past c n (goes by cs es) mine was more =
-    let s = standing (calls_of def a past) (entries_of def a past) c n was in
+goes_on_with def a e past c n (stays other cs es) mine there more = both_ways (is_by a e) mine other
+goes_on_with def a e past c n (begins none es) mine there more = let m = sym none ∙ there in cc
+goes_on_with def a e past c n (ends none cs es) mine there more = let m = sym none ∙ there in cc
+goes_on_with def a e past c n (goes by due is_due cs es) mine there more =
+    let s = standing (calls_of def a past) (entries_of def a past) c n there in
     let lt = more s.own (sym s.counts) s.incomplete in
     let count : length (s.own ++ e ∷ []) ≡ n + 1 = (let l = length-append s.own (e ∷ []) in let m = s.counts in omega (arith, l, m)) in
     ap₂ (λ (x : List Call) (y : List Entry). due_of x y) cs es ∙ s.more e
@@ -215,7 +204,7 @@ goes_on_with def a e past c n (goes by cs es) mine was more =
 -- an entry that isn't an actor's leaves its due call, if it has one
 pub still_due : (def : LineDef) (a : Actor) (e : Entry) (past : List Entry) (c : Call) (n : ℕ) → Turn def a e past → is_by a e ≡ false
     → due_of_actor def a past ≡ Some (c, n) → due_of_actor def a (e ∷ past) ≡ Some (c, n)
-still_due def a e past c n (goes by cs es) other was = both_ways (is_by a e) by other
-still_due def a e past c n (stays by cs es) other was = ap₂ (λ (x : List Call) (y : List Entry). due_of x y) cs es ∙ was
-still_due def a e past c n (begins none es) other was = let m = sym none ∙ was in cc
-still_due def a e past c n (ends none cs es) other was = let m = sym none ∙ was in cc
+still_due def a e past c n (goes by due is_due cs es) other there = both_ways (is_by a e) by other
+still_due def a e past c n (stays by cs es) other there = ap₂ (λ (x : List Call) (y : List Entry). due_of x y) cs es ∙ there
+still_due def a e past c n (begins none es) other there = let m = sym none ∙ there in cc
+still_due def a e past c n (ends none cs es) other there = let m = sym none ∙ there in cc

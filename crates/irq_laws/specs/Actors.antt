@@ -8,6 +8,8 @@ use Rattle.irq_base.specs.declared.lines.LineDef.{LineDef}
 use Rattle.irq_base.specs.declared.entries.Actor.{Actor}
 use Rattle.irq_base.specs.declared.entries.Actor.TheVariants as actors
 use Rattle.irq_base.specs.declared.entries.Entry.{Entry}
+use Rattle.irq_base.specs.declared.entries.Entry.TheVariants as by
+use Rattle.irq_base.specs.declared.entries.CallEntry.{CallEntry}
 use Rattle.irq_model.specs.Lines.{run_script}
 use Rattle.irq_model.specs.Rounds.{flow, is_cpu, at_work}
 use Rattle.irq_model.specs.Due.{calls_by, entries_by, due_of}
@@ -40,3 +42,7 @@ entries_of def (actors.Cpu c) past =
 -- the actor's first call that isn't complete, and how many entries it has made
 abbrev pub due_of_actor : LineDef → Actor → List Entry → Option (Call × ℕ)
 due_of_actor def a past = due_of (calls_of def a past) (entries_of def a past)
+
+-- the step of a call, by whomever: what it changes of the line doesn't depend on its maker
+abbrev pub by_someone : CallEntry → Entry
+by_someone call = by.DriverCall (record { 0 = 0 }) call
