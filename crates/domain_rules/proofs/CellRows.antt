@@ -18,13 +18,6 @@ latch = refl
 remap_latch : cell (levels.Remap ∷ levels.Latch ∷ []) ≡ (true, true, true, false)
 remap_latch = refl
 
--- a latch that can't send again by itself
-pin : cell (levels.Pin ∷ []) ≡ (true, true, false, false)
-pin = refl
-
-remap_pin : cell (levels.Remap ∷ levels.Pin ∷ []) ≡ (true, true, false, false)
-remap_pin = refl
-
 plain : cell (levels.Plain ∷ []) ≡ (false, false, false, false)
 plain = refl
 
@@ -36,9 +29,6 @@ msi_remap_vector = refl
 
 msi_latch : cell (levels.Msi ∷ levels.Latch ∷ []) ≡ (true, false, true, false)
 msi_latch = refl
-
-msi_pin : cell (levels.Msi ∷ levels.Pin ∷ []) ≡ (true, false, false, false)
-msi_pin = refl
 
 msi_plain : cell (levels.Msi ∷ levels.Plain ∷ []) ≡ (true, false, false, false)
 msi_plain = refl
@@ -54,6 +44,15 @@ eoi = refl
 
 remap_eoi : cell (levels.Remap ∷ levels.Eoi ∷ []) ≡ (false, false, false, true)
 remap_eoi = refl
+
+pin : cell (levels.Pin ∷ []) ≡ (true, true, false, false)
+pin = refl
+
+remap_pin : cell (levels.Remap ∷ levels.Pin ∷ []) ≡ (true, true, false, false)
+remap_pin = refl
+
+msi_pin : cell (levels.Msi ∷ levels.Pin ∷ []) ≡ (true, false, false, false)
+msi_pin = refl
 
 lpi : cell (levels.Lpi ∷ []) ≡ (true, true, true, false)
 lpi = refl
@@ -83,11 +82,11 @@ handled_by trigger flow = (trigger, flow)
 edges : handling levels.Latch ≡ handled_by triggers.Edge flows.Edge
 edges = refl
 
-pin_edges : handling levels.Pin ≡ handled_by triggers.Edge flows.Edge
-pin_edges = refl
-
 plain_edges : handling levels.Plain ≡ handled_by triggers.Edge flows.Edge
 plain_edges = refl
+
+pin_edges : handling levels.Pin ≡ handled_by triggers.Edge flows.Edge
+pin_edges = refl
 
 vectors : handling levels.Vector ≡ handled_by triggers.Edge flows.Edge
 vectors = refl

@@ -32,7 +32,7 @@ pub enum ControllerKind {
     /// A root that presents edges, stores them, and is handled by the fast-EOI flow.
     Lpi,
     /// A root that presents edges, and stores an edge that comes while it is masked, but can't send
-    /// one again: most inputs of a GPIO controller.
+    /// one again: most GPIO controllers.
     Pin,
 }
 
