@@ -165,7 +165,14 @@ impl Asks {
         let Some(row) = self.rows.get(dev) else {
             return;
         };
-        self.replace(dev, row, AskRow { quiet: false, ..row });
+        self.replace(
+            dev,
+            row,
+            AskRow {
+                quiet: false,
+                ..row
+            },
+        );
     }
 
     /// Puts another row in the place of the device's; nothing changes if the line lacks the device.

@@ -87,9 +87,7 @@ impl<T: Copy> Groups<T> {
         if place >= span.len {
             return None;
         }
-        self.items
-            .get(span.from as usize + place as usize)
-            .copied()
+        self.items.get(span.from as usize + place as usize).copied()
     }
 
     /// How many items that part of the device has.

@@ -125,10 +125,12 @@ impl RunScripts {
 
     /// A run of the device's handler begins; there are `count` answers.
     fn begin_handler(&mut self, dev: DevNo, count: u32)
-        ensures { self.new ≡ record self.old { places = record {
-          work = first_place;
-          rows = change (handler_begun count) self.old.places.rows dev;
-        } } }
+        ensures { self.new ≡ record self.old {
+          places = record {
+            work = first_place;
+            rows = change (handler_begun count) self.old.places.rows dev;
+          };
+        } }
     {
         self.work = RunPlace::FIRST;
         let Some(row) = self.rows.get(dev) else {
@@ -140,16 +142,25 @@ impl RunScripts {
 
     /// A run of the device's thread begins; there are `count` answers.
     fn begin_thread(&mut self, dev: DevNo, count: u32)
-        ensures { self.new ≡ record self.old { places = record self.old.places {
-          rows = change (thread_begun count) self.old.places.rows dev;
-        } } }
+        ensures { self.new ≡ record self.old {
+          places = record self.old.places {
+            rows = change (thread_begun count) self.old.places.rows dev;
+          };
+        } }
     {
         let Some(row) = self.rows.get(dev) else {
             return;
         };
         let thread = row.thread.turned(count);
         let calls = RunPlace::FIRST;
-        self.rows.set(dev, RunRow { calls, thread, ..row });
+        self.rows.set(
+            dev,
+            RunRow {
+                calls,
+                thread,
+                ..row
+            },
+        );
     }
 
     /// The run of that part of the device returns.
@@ -184,14 +195,22 @@ impl RunScripts {
 
     /// The thread's run goes to that place; nothing changes if the line lacks the device.
     pub fn go_to(&mut self, dev: DevNo, place: RunPlace)
-        ensures { self.new ≡ record self.old { places = record self.old.places {
-          rows = change (placed place) self.old.places.rows dev;
-        } } }
+        ensures { self.new ≡ record self.old {
+          places = record self.old.places {
+            rows = change (placed place) self.old.places.rows dev;
+          };
+        } }
     {
         let Some(row) = self.rows.get(dev) else {
             return;
         };
-        self.rows.set(dev, RunRow { calls: place, ..row });
+        self.rows.set(
+            dev,
+            RunRow {
+                calls: place,
+                ..row
+            },
+        );
     }
 
     /// How far the handler is that is at work.
@@ -203,18 +222,22 @@ impl RunScripts {
 
     /// The handler that is at work goes to that place.
     pub fn set_work(&mut self, place: RunPlace)
-        ensures { self.new ≡ record self.old { places = record self.old.places {
-          work = place;
-        } } }
+        ensures { self.new ≡ record self.old {
+          places = record self.old.places {
+            work = place;
+          };
+        } }
     {
         self.work = place;
     }
 
     /// Puts another row in the place of the device's; nothing changes if the line lacks the device.
     pub fn put(&mut self, dev: DevNo, row: RunRow)
-        ensures { self.new ≡ record self.old { places = record self.old.places {
-          rows = change (λ _. row) self.old.places.rows dev;
-        } } }
+        ensures { self.new ≡ record self.old {
+          places = record self.old.places {
+            rows = change (λ _. row) self.old.places.rows dev;
+          };
+        } }
     {
         if self.rows.get(dev).is_some() {
             self.rows.set(dev, row);

@@ -7,5 +7,10 @@ use Rattle.run_scripts.proofs.groups.add_device.Goals as goal
 pub push_group-requires-2 : goal.push_group-requires-2
 push_group-requires-2 g c =
     let list = c.args.list.now in
-    omega (arith, ap length c.in_ok-handler.ensures.items,
-    length-append c.args.items.now.items (group_in list c.args.dev parts.Primary), group_few list c.args.dev parts.Primary, c.requires.room)
+    omega (
+      arith,
+      ap length c.in_ok-handler.ensures.items,
+      length-append c.args.items.now.items (group_in list c.args.dev parts.Primary),
+      group_few list c.args.dev parts.Primary,
+      c.requires.room,
+    )

@@ -21,7 +21,13 @@ loop-i-preserved g c =
 
 pub overflow_cast-result-2 : goal.overflow_cast-result-2
 overflow_cast-result-2 g c =
-    omega (arith, ap length c.loop-i.invariant,
-    length-append c.args.items.now.items (group_in (take c.loop-i.i c.args.list.now) c.args.dev c.args.part),
-    group_few (take c.loop-i.i c.args.list.now) c.args.dev c.args.part, length-take c.loop-i.i c.args.list.now,
-    c.requires, c.len-from.ensures, c.len.ensures)
+    omega (
+      arith,
+      ap length c.loop-i.invariant,
+      length-append c.args.items.now.items (group_in (take c.loop-i.i c.args.list.now) c.args.dev c.args.part),
+      group_few (take c.loop-i.i c.args.list.now) c.args.dev c.args.part,
+      length-take c.loop-i.i c.args.list.now,
+      c.requires,
+      c.len-from.ensures,
+      c.len.ensures,
+    )

@@ -20,8 +20,14 @@ add_device-requires-clause-absent g c =
 pub add_device-requires-clause-room : goal.add_device-requires-clause-room
 add_device-requires-clause-room g c =
     let xs = c.args.devices.now in
-    omega (arith, ap length c.loop-i.invariant.items, items_few c.args.list.now (take c.loop-i.i xs) c.requires.short,
-    length-take c.loop-i.i xs, c.requires.few, c.requires.short)
+    omega (
+      arith,
+      ap length c.loop-i.invariant.items,
+      items_few c.args.list.now (take c.loop-i.i xs) c.requires.short,
+      length-take c.loop-i.i xs,
+      c.requires.few,
+      c.requires.short,
+    )
 
 pub loop-i-preserved : goal.loop-i-preserved
 loop-i-preserved g c =
