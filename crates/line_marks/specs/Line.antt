@@ -22,6 +22,6 @@ pub record IsLine (def : LineDef) (entries : List Entry) (s : StateSeen)
   pub state : s ≡ state_of def (reverse entries)
   pub calls : (r : DriverNo) → calls_of scripts r ≡ calls_by r def.calls
   pub at : (r : DriverNo) → IsAt def (reverse entries) r (place_of scripts r) (within_of scripts r)
-  pub runs : AreRunsOf def runs
+  pub scripted : AreRunsOf def runs
   pub places : runs.places ≡ s.places
   pub room : length entries ≤ def.log
