@@ -1,22 +1,19 @@
 -- The facts of a line's devices, row by row, and whether a script serves its own device.
-use Rattle.std.proofs.Common.{◌≡◌, ℕ, zero, suc, ◌+◌, ◌≤◌, ◌||◌, ◌&&◌, Bool, true, false, cond, List, [], ◌∷◌, Some, None, Option, refl, sym, ap, ◌∙◌, add-one}
+use Rattle.std.proofs.Common.{◌≡◌, ℕ, zero, suc, ◌+◌, ◌≤◌, ◌||◌, ◌&&◌, Bool, true, false, cond, List, [], ◌∷◌, Some, Option, refl, sym, ap, ◌∙◌, add-one}
 use Rattle.std.proofs.Common.{length, drop, arith}
 use Rattle.std.specs.Prelude.{slice_get}
 use Rattle.std.specs.List.{list_any}
-use Rattle.irq_base.specs.Handlers.{serving_part}
 use Rattle.irq_base.specs.declared.calls.Call.{Call}
 use Rattle.irq_base.specs.declared.devices.DeviceDef.{DeviceDef}
-use Rattle.irq_base.specs.declared.devices.Kind.{Kind}
 use Rattle.irq_base.specs.declared.devices.Part.{Part}
 use Rattle.irq_base.specs.declared.lines.LineDef.{LineDef}
 use Rattle.irq_base.specs.declared.numbers.DevNo.{DevNo}
-use Rattle.irq_model.specs.Asks.{serves_itself, unless_by_script, serving}
+use Rattle.irq_model.specs.Asks.{serves_itself, serving}
 use Rattle.irq_model.specs.Kinds.{same_dev}
 use Rattle.irq_model.specs.Lines.{is_device, kind_in, kind_of, same_part, script_in}
 use Rattle.irq_model.specs.Valid.{HasDistinctDevices}
 use Rattle.irq_steps.proofs.Same.{same_self, same_both}
 use Rattle.ask_counts.specs.Facts.{facts_of}
-use Rattle.ask_counts.specs.declared.facts.DeviceFacts.{DeviceFacts}
 
 both_none : (a b : Bool) → (a || b) ≡ false → (a ≡ false) × (b ≡ false)
 both_none a b h = grind arith

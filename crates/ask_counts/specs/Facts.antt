@@ -1,5 +1,5 @@
 -- What is fixed of a line's devices, read off its definition.
-use Rattle.std.specs.Prelude.{false, unwrap_or, Option, None, List}
+use Rattle.std.specs.Prelude.{false, unwrap_or, None, List}
 use Rattle.irq_base.specs.declared.devices.Kind.TheVariants as kinds
 use Rattle.irq_base.specs.declared.lines.LineDef.{LineDef}
 use Rattle.irq_base.specs.declared.numbers.DevNo.{DevNo}

@@ -1,6 +1,6 @@
 -- The items of each device of a line, one device's after another's.
-use Rattle.std.proofs.Common.{◌≡◌, ℕ, zero, suc, ◌+◌, ◌*◌, ◌<◌, ◌≤◌, ◌||◌, ◌&&◌, Bool, true, false, cond, Option, Some, None, List, [], ◌∷◌, ◌++◌}
-use Rattle.std.proofs.Common.{length, take, drop, refl, sym, ap, subst, ◌∙◌, arith, length-append}
+use Rattle.std.proofs.Common.{◌≡◌, ℕ, ◌+◌, ◌*◌, ◌≤◌, ◌||◌, Bool, true, false, cond, Some, None, List, [], ◌∷◌, ◌++◌}
+use Rattle.std.proofs.Common.{length, take, drop, refl, sym, ap, ◌∙◌, arith, length-append}
 use Rattle.std.proofs.lemmas.List.{append-nil, append_assoc}
 use Rattle.std.specs.List.{list_any}
 use Rattle.irq_base.specs.declared.devices.DeviceDef.{DeviceDef}
@@ -11,7 +11,7 @@ use Rattle.irq_model.specs.Kinds.{same_dev}
 use Rattle.irq_model.specs.Lines.{is_device}
 use Rattle.irq_steps.proofs.Same.{dev_from_same}
 use Rattle.device_table.specs.Rows.{at}
-use Rattle.run_scripts.specs.Groups.{GroupsSeen, group_in, items_at, group_of, span_in, span_of, spans_from, AreWithin}
+use Rattle.run_scripts.specs.Groups.{group_in, items_at, span_in, span_of, spans_from, AreWithin}
 use Rattle.run_scripts.specs.declared.groups.Spans.{Spans}
 use Rattle.run_scripts.proofs.Grouping.{group_few, between}
 

@@ -1,12 +1,12 @@
 -- What a run's step makes of the rows.
-use Rattle.std.proofs.Common.{◌≡◌, Bool, true, false, ◌&&◌, cond, Option, Some, None, unwrap_or, List, [], ◌∷◌, refl, sym, ap, ◌∙◌}
+use Rattle.std.proofs.Common.{◌≡◌, Bool, ◌&&◌, cond, Option, Some, None, unwrap_or, List, [], ◌∷◌, refl, ap}
 use Rattle.irq_base.specs.declared.calls.Call.{Call}
 use Rattle.irq_base.specs.declared.devices.Part.{Part}
 use Rattle.irq_base.specs.declared.devices.ToldAnswer.{ToldAnswer}
 use Rattle.irq_base.specs.declared.numbers.DevNo.{DevNo}
 use Rattle.irq_model.specs.Kinds.{same_dev}
 use Rattle.irq_model.specs.Lines.{script_in, told_in, same_part}
-use Rattle.device_table.specs.Rows.{at, put, change, changed}
+use Rattle.device_table.specs.Rows.{at, change, changed}
 use Rattle.run_scripts.specs.Groups.{group_in}
 use Rattle.run_scripts.specs.Places.{first_row, row_at, placed, advanced, row_advanced}
 use Rattle.run_scripts.specs.declared.rows.RunRow.{RunRow}

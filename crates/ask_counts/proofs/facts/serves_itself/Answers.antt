@@ -1,4 +1,4 @@
-use Rattle.std.proofs.Common.{◌≡◌, ◌+◌, ◌||◌, sym, ap, ◌∙◌, arith}
+use Rattle.std.proofs.Common.{◌+◌, ◌||◌, sym, ap, ◌∙◌, arith}
 use Rattle.device_table.proofs.Steps.{none_left}
 use Rattle.ask_counts.proofs.FactRows.{any_from, any_next}
 use Rattle.ask_counts.proofs.facts.serves_itself.Goals as goal

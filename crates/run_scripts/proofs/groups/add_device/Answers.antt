@@ -1,4 +1,4 @@
-use Rattle.std.proofs.Common.{◌≡◌, ◌+◌, length, ap, arith, length-append}
+use Rattle.std.proofs.Common.{length, ap, arith, length-append}
 use Rattle.irq_base.specs.declared.devices.Part.TheVariants as parts
 use Rattle.run_scripts.specs.Groups.{group_in}
 use Rattle.run_scripts.proofs.Grouping.{group_few}

@@ -1,6 +1,5 @@
-use Rattle.std.proofs.Common.{◌≡◌, ◌+◌, ◌≤◌, Some, length, sym, ap, arith}
+use Rattle.std.proofs.Common.{length, ap, arith}
 use Rattle.irq_base.specs.declared.devices.Part.TheVariants as parts
-use Rattle.device_table.specs.Rows.{at}
 use Rattle.run_scripts.specs.Groups.{span_in}
 use Rattle.run_scripts.proofs.groups.Groups.span.Goals as goal
 
