@@ -24,3 +24,4 @@ pub mod ExpectedOf
 pub mod TargetFollow
 pub mod CellFollows
 pub mod StateFollows
+mod PlayRows

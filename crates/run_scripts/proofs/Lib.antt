@@ -1,0 +1,3 @@
+pub mod Grouping
+pub mod Laying
+pub mod Moving
