@@ -4,16 +4,22 @@
 Three shapes take turns. `wide` has 3 to 8 lines over paths of several levels and up to four drivers; `busy` has one
 line whose target changes while flows are in progress; `small` has 1 to 3 lines and a free script. Two more are had by
 name alone: `hotplug` is `wide` with processors that go offline and come online, `sleep` is one that sleeps, with some
-lines that may wake it.
+lines that may wake it. Three are of version 3, of one line, by bench/random3.py: `runs` have calls in handlers and
+threads, `pairs` handlers that disable and threads that enable, `waits` runs that may wait for themselves. Their picks
+are the actors of a play in random order.
 """
 import random
+
+import reference
 
 ROOTS = ("latch", "plain", "level", "eoi", "lpi", "vector")
 STYLES = ("", "shared", "shared oneshot", "shared oneshot", "oneshot", "mix", "noauto")
 MOMENTS = (50, 100, 101, 200, 201, 300, 302, 1000)
 SHAPES = ("wide", "busy", "small")
 NAMED = ("hotplug", "sleep")
+OF_RUNS = ("runs", "pairs", "waits")
 ROWS = 1200  # where a play stops; a level line that nobody serves has more
+PICKED = 80  # of a board of version 3 so many steps at most are picked
 
 
 class Maker:
@@ -250,6 +256,18 @@ def in_order(calls):
         yield call
 
 
+def board_of_runs(seed, index, shape):
+    """One board of version 3."""
+    maker = reference.random3.Maker(seed, f"{index} {shape}", shape == "waits", "pairs" if shape == "pairs" else "any")
+    first, _, rest = maker.text().partition("\n")
+    line = reference.random3.any_play("\n".join((first, rest)), f"{seed} {index} {shape}", PICKED)
+    picks = " ".join(entry[0] for entry in line.past)
+    rows = [first, "#kernel profile", f"#kernel rows {reference.MOST}"] + rest.splitlines()
+    return "\n".join(rows + [f"picks {picks}"] * (picks != "")) + "\n"
+
+
 def random_board(seed, index, shape=None):
     """The text of one board of a seed, of a shape, or of the one whose turn it is."""
+    if shape in OF_RUNS:
+        return board_of_runs(seed, index, shape)
     return Maker(seed, index, shape).text()
