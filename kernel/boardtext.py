@@ -32,7 +32,7 @@ WORDS = {
     "profile": "rules", "rows": "number", "hz": "number", "domains": "", "nextfirst": "", "notefirst": "",
     "resendfirst": "", "maskfirst": "", "realsoft": "", "noaffinity": "", "noirqdebug": "", "oneshotsafe": "",
     "irqdisable": "", "onactivate": "line", "noautoen": "line", "polled": "line", "untyped": "line",
-    "enforced": "line", "wakefirst": "", "sentstays": "", "unaimed": "line", "unbalanced": "line",
+    "enforced": "line", "wakefirst": "", "loadfirst": "", "sentstays": "", "unaimed": "line", "unbalanced": "line",
     "hotplug": "vectors events", "sleep": "lines",
 }
 WORD_CALLS = {"poll": "", "busychip": "line number", "default": "mask"}

@@ -43,11 +43,35 @@ def wait_of(play, actor):
     return " ".join([f"{WAITS}{line.number} {actor} {what}", *whom])
 
 
-def play(text):
-    """The rows of a board's play, and how it ends: `done`, `hung: line L ACTOR`, `full` or `long`."""
+class AnyPlay(second.Play):
+    """A play in random order, of at most so many rows."""
+
+    def __init__(self, text, r, most):
+        self.r, self.most = r, most
+        super().__init__(board_of(text))
+
+    def next(self):
+        """Any step that is due."""
+        steps = [step for actor in self.board.actors("tcd") if (step := self.step_of(actor))]
+        return self.r.choice(steps) if steps and len(self.rows) < self.most else None
+
+
+def picks_of(text, r, most):
+    """The actors of a play in random order."""
+    return [entry[0] for _, entry in AnyPlay(text, r, most).moves]
+
+
+def board_of(text):
+    """The board, with lines that remember what was looked up."""
     board = second.Board(text)
     for line in board.lines:
         line.__class__, line.found = random3.Kept, {}
+    return board
+
+
+def play(text):
+    """The rows of a board's play, and how it ends: `done`, `hung: line L ACTOR`, `full` or `long`."""
+    board = board_of(text)
     played = second.Play(board)
     if played.is_full or played.is_long:
         return played.rows, "full" if played.is_full else "long"

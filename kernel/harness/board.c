@@ -23,7 +23,7 @@ static const char *const rule_names[RULES] = {
 
 static const char *const word_names[WORDS] = {
 	"nextfirst", "notefirst", "resendfirst", "maskfirst", "realsoft", "noaffinity", "noirqdebug",
-	"oneshotsafe", "irqdisable", "wakefirst", "sentstays",
+	"oneshotsafe", "irqdisable", "wakefirst", "loadfirst", "sentstays",
 };
 
 static const char *const call_names[CALL_OPS] = {

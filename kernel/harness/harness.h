@@ -64,6 +64,7 @@ enum word {
 	WORD_ONESHOT_SAFE,	/* the chips have IRQCHIP_ONESHOT_SAFE */
 	WORD_IRQ_DISABLE,	/* the chips have irq_disable and irq_enable */
 	WORD_WAKE_FIRST,	/* the gate after a handler that wakes stands within the wake */
+	WORD_LOAD_FIRST,	/* the same gate stands between load and store of threads_oneshot */
 	WORD_SENT_STAYS,	/* a sent edge stays with the processor of the moment */
 	WORDS
 };

@@ -376,6 +376,23 @@ void harness_exit(struct irqaction *action, int answer)
 	cpu->handler = NULL;
 }
 
+/*
+ * In __irq_wake_thread(): threads_oneshot is loaded, and not stored yet. A handler's
+ * wake holds no lock there, so what another processor stores meanwhile is lost.
+ */
+unsigned long harness_load(struct irq_desc *desc)
+{
+	unsigned long bits = desc->threads_oneshot;
+	struct actor *cpu = current_of('c');
+
+	if (cpu && !cpu->call && has_word(WORD_LOAD_FIRST)) {
+		emit_state(cpu->line);
+		pass_gate(cpu, GATE_NEXT);
+		cpu->past_gate = true;
+	}
+	return bits;
+}
+
 /* In __irq_wake_thread(): RUNTHREAD is set, and threads_active isn't raised yet. */
 void harness_wake_gate(void)
 {
