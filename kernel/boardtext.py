@@ -56,6 +56,7 @@ class Board:
         self.unlazy, self.later, self.moves = [], False, 0
         self.script = None  # whose calls come: ("driver", N), or a part and its device
         self.runs, self.answers, self.turn, self.woken, self.arming = {}, {}, (0, 0), set(), set()
+        self.settings = set()
         self.gates = False  # whether a run disables, enables or waits
         self.pure = []  # the text lines without the harness's words
         for at, row in enumerate(text.split("\n"), 1):
@@ -92,6 +93,10 @@ class Board:
         if section < self.section or call and (self.script is None or section == SECTIONS["picks"]):
             raise BadBoard(at, f"out of order: {word}")
         self.section = section
+        if section == SECTIONS["cpus"]:
+            if word in self.settings:
+                raise BadBoard(at, f"twice: {word}")
+            self.settings.add(word)
         if call:
             self.read_call(at, word, rest)
         else:
