@@ -16,6 +16,17 @@ MOST = second.MOST_ROWS  # it plays no more rows
 WAITS = "# waits "
 
 
+def reads(board):
+    """Whether it plays the board."""
+    if board.command() != ["play"]:
+        return False
+    try:
+        second.Board(board.pure_text())
+    except second.Unread:
+        return False
+    return True
+
+
 def in_order(actors):
     """Actors of one kind, the lowest first."""
     return sorted(actors, key=lambda it: (it[0], int(it[1:])))
