@@ -4,16 +4,24 @@
 Three shapes take turns. `wide` has 3 to 8 lines over paths of several levels and up to four drivers; `busy` has one
 line whose target changes while flows are in progress; `small` has 1 to 3 lines and a free script. Two more are had by
 name alone: `hotplug` is `wide` with processors that go offline and come online, `sleep` is one that sleeps, with some
-lines that may wake it.
+lines that may wake it. Five are of version 3, by bench/random3.py: `runs` have calls in handlers and threads, `pairs`
+handlers that disable and threads that enable, `waits` runs that may wait for themselves, `long` is `runs` with longer
+scripts of drivers, each on one line; `several` have two or three such lines, of any kind. Their picks are the actors of
+a play in random order.
 """
 import random
+
+import reference
 
 ROOTS = ("latch", "plain", "level", "eoi", "lpi", "vector")
 STYLES = ("", "shared", "shared oneshot", "shared oneshot", "oneshot", "mix", "noauto")
 MOMENTS = (50, 100, 101, 200, 201, 300, 302, 1000)
 SHAPES = ("wide", "busy", "small")
 NAMED = ("hotplug", "sleep")
+OF_RUNS = ("runs", "pairs", "waits", "long", "several")
+OF_LINES = ("disable", "disable_nosync", "enable", "sync", "affinity", "moment", "sync_hard", "disable_hard")
 ROWS = 1200  # where a play stops; a level line that nobody serves has more
+PICKED = 200  # of a board of version 3 so many steps at most are picked
 
 
 class Maker:
@@ -250,6 +258,90 @@ def in_order(calls):
         yield call
 
 
+class Longer(reference.random3.Maker):
+    """A board of version 3 whose drivers make more calls."""
+
+    def drivers(self):
+        """The scripts, each with further calls."""
+        return [script + [self.any_call() for _ in range(self.r.randint(4, 14))] for script in super().drivers()]
+
+
+def one_line(seed, name, shape, cpus=None):
+    """The text rows of a board of version 3 of one line."""
+    make = Longer if shape == "long" else reference.random3.Maker
+    maker = make(seed, name, shape == "waits", "pairs" if shape == "pairs" else "any")
+    if cpus:
+        maker.cpus, maker.moves = cpus, cpus > 1 and maker.chance(0.5)
+    return maker.text().splitlines()
+
+
+class Joined:
+    """Boards of one line put together: their scripts of drivers are mixed, by number."""
+
+    def __init__(self, r, parts):
+        self.r, self.devices, self.drivers = r, 0, {}
+        self.sections = {"domain": [], "line": [], "device": [], "runs": []}
+        for number, rows in enumerate(parts, 1):
+            self.add(number, rows)
+        self.first = [row for row in parts[0] if row.split()[0] in ("board", "cpus", "spurious")]
+
+    def add(self, line, rows):
+        """One board, whose line becomes this one."""
+        base, script, driver = self.devices, None, {}
+        for row in rows:
+            word, *rest = row.split()
+            if word in ("board", "cpus", "spurious"):
+                continue
+            if word == "driver":
+                script = driver.setdefault(int(rest[0]), [])
+            elif word == "domain":
+                self.sections[word].append(f"domain root{line} {' '.join(rest[1:])}")
+            elif word == "line":
+                self.sections[word].append(f"line {line} root{line} {' '.join(rest[2:])}")
+            elif word == "device":
+                self.devices += 1
+                self.sections[word].append(f"device {base + int(rest[0])} {line} {' '.join(rest[2:])}")
+            else:
+                number = line if word in OF_LINES else base + int(rest[0])
+                into = self.sections["runs"] if script is None else script
+                into.append(" ".join([word, str(number), *rest[1:]]))
+        for number, calls in driver.items():
+            self.mix(number, calls)
+
+    def mix(self, number, calls):
+        """Puts the calls among those of the driver, each in its order."""
+        there = self.drivers.get(number, [])
+        turns = [0] * len(there) + [1] * len(calls)
+        self.r.shuffle(turns)
+        sources = [iter(there), iter(calls)]
+        self.drivers[number] = [next(sources[turn]) for turn in turns]
+
+    def rows(self):
+        """The text rows."""
+        scripts = [row for number, calls in sorted(self.drivers.items()) for row in (f"driver {number}", *calls)]
+        return self.first + [row for rows in self.sections.values() for row in rows] + scripts
+
+
+def several_lines(seed, index):
+    """The text rows of a board of version 3 of two or three lines."""
+    r = random.Random(f"{seed} {index} several")
+    cpus = r.choice((1, 2, 2, 3))
+    shapes = [r.choice(("runs", "runs", "pairs", "waits")) for _ in range(r.choice((2, 2, 3)))]
+    parts = [one_line(seed, f"{index} several {at}", shape, cpus) for at, shape in enumerate(shapes)]
+    return Joined(r, parts).rows()
+
+
+def board_of_runs(seed, index, shape):
+    """One board of version 3."""
+    first, *rest = several_lines(seed, index) if shape == "several" else one_line(seed, f"{index} {shape}", shape)
+    r = random.Random(f"{seed} {index} {shape} picks")
+    picks = " ".join(reference.picks_of("\n".join((first, *rest)), r, PICKED))
+    rows = [first, "#kernel profile", f"#kernel rows {reference.MOST}", *rest]
+    return "\n".join(rows + [f"picks {picks}"] * (picks != "")) + "\n"
+
+
 def random_board(seed, index, shape=None):
     """The text of one board of a seed, of a shape, or of the one whose turn it is."""
+    if shape in OF_RUNS:
+        return board_of_runs(seed, index, shape)
     return Maker(seed, index, shape).text()
