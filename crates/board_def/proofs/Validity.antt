@@ -42,6 +42,7 @@ edge_root levels.Msi h = refl
 edge_root levels.Remap h = refl
 edge_root levels.Vector h = refl
 edge_root levels.Lpi h = absurd cc
+edge_root levels.Pin h = refl
 
 level_root : (k : ControllerKind) → is_level_flow (flow_of_root k) ≡ true → not (is_edge_trigger (trigger_of_root k)) ≡ true
 level_root levels.Latch h = absurd cc
@@ -52,6 +53,7 @@ level_root levels.Msi h = absurd cc
 level_root levels.Remap h = absurd cc
 level_root levels.Vector h = absurd cc
 level_root levels.Lpi h = absurd cc
+level_root levels.Pin h = absurd cc
 
 -- the one root that is handled by the fast-EOI flow on edges
 lpi_root : (k : ControllerKind) → is_edge_trigger (trigger_of_root k) ≡ true → is_eoi_flow (flow_of_root k) ≡ true → k ≡ levels.Lpi
@@ -63,6 +65,7 @@ lpi_root levels.Msi e f = absurd cc
 lpi_root levels.Remap e f = absurd cc
 lpi_root levels.Vector e f = absurd cc
 lpi_root levels.Lpi e f = refl
+lpi_root levels.Pin e f = absurd cc
 
 -- devices
 
@@ -124,6 +127,12 @@ named_on_line line devices calls.Enable h = refl
 named_on_line line devices calls.Sync h = refl
 named_on_line line devices (calls.Affinity mask) h = refl
 named_on_line line devices (calls.Moment at) h = refl
+named_on_line line devices calls.SyncHard h = refl
+named_on_line line devices calls.DisableHard h = refl
+named_on_line line devices (calls.Wake dev) h = refl
+named_on_line line devices (calls.Quiet dev) h = refl
+named_on_line line devices (calls.Arm dev) h = refl
+named_on_line line devices (calls.Serve dev) h = refl
 
 -- all together
 
