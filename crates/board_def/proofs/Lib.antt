@@ -1,3 +1,4 @@
+pub mod Answering
 mod Defining
 pub mod Finds
 pub mod Grows
@@ -7,6 +8,7 @@ mod Owners
 pub mod Paths
 pub mod Rising
 mod Tabled
+pub mod Threads
 pub mod Unnaming
 pub mod Validity
 mod Walks

@@ -1,6 +1,6 @@
 -- The rules of what runs of handlers and threads call, and of what told devices answer.
 use Rattle.std.specs.Prelude.{◌==◌, Bool, true, false, not, ◌&&◌, if◌then◌else◌, Option, Some, None}
-use Rattle.std.specs.Prelude.{List, [], ◌∷◌}
+use Rattle.std.specs.Prelude.{List, map}
 use Rattle.std.specs.List.{list_any}
 use Rattle.irq_base.specs.declared.calls.Call.{Call}
 use Rattle.irq_base.specs.declared.calls.Call.TheVariants as calls
@@ -82,6 +82,4 @@ threaded x = record x { kind = kinds.Told true }
 
 -- these devices, and the one of that number has a thread
 abbrev pub with_thread : DevNo → List DeviceDef → List DeviceDef
-with_thread dev [] = []
-with_thread dev (x ∷ xs) =
-    if same_dev dev x.dev then threaded x ∷ xs else x ∷ with_thread dev xs
+with_thread dev devices = map (λ x. if same_dev dev x.dev then threaded x else x) devices

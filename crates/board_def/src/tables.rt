@@ -1,6 +1,7 @@
 //! Tables of a board: rows in order, each found by its key.
 ghost use Rattle.std.specs.Prelude.{◌≡◌, None, [], ◌∷◌, ◌++◌, length, position, slice_get, OnOk};
-ghost use Rattle.std.specs.Prelude.{OnErr};
+ghost use Rattle.std.specs.Prelude.{OnErr, All, ◌<◌};
+ghost use Rattle.domain_rules.specs.Domains.{EachAfter};
 ghost use Rattle.board_def.specs.Find.{last_item};
 ghost use Rattle.board_def.specs.Runs.{with_thread};
 ghost use Rattle.board_def.specs.Tables.{find_row};
@@ -106,6 +107,7 @@ impl<K: Copy + Eq + Hash + Drop, T: Keyed<K> + Copy + Drop> Table<K, T> {
 impl Table<DevNo, DeviceDef> {
     /// Gives the told device a thread, if there is such a device.
     pub fn set_thread(&mut self, dev: DevNo)
+        requires rises { EachAfter (λ earlier x. All (λ e. e.dev.0 < x.dev.0) earlier) self.old }
         ensures { self.new ≡ with_thread dev self.old }
     {
         let Some(device) = self.find(&dev) else {

@@ -47,20 +47,20 @@ right_none (Some k) (Some j) h = chosen (cond_some _ j k h) where
   cond_some true j k h = cc
   cond_some false j k h = cc
 
-linear_words : (words rest : List (List ℕ)) (word : List ℕ) → words ≡ word ∷ rest → is word (codes "linear") ≡ true
-    → map_form words ≡ at (number 1 1024) (at (one_of level_kinds) parents_form) rest
+linear_words : (version : ℕ) (words rest : List (List ℕ)) (word : List ℕ) → words ≡ word ∷ rest → is word (codes "linear") ≡ true
+    → map_form version words ≡ at (number 1 1024) (at (one_of (level_kinds version)) parents_form) rest
 linear_words words rest word e h =
-    ap map_form e ∙ ap (λ t. cond t (at (number 1 1024) (at (one_of level_kinds) parents_form) rest)
-    (cond (is word (codes "tree")) (at (one_of level_kinds) parents_form rest) (faults.UnknownWord ∷ []))) h
+    ap map_form e ∙ ap (λ t. cond t (at (number 1 1024) (at (one_of (level_kinds version)) parents_form) rest)
+    (cond (is word (codes "tree")) (at (one_of (level_kinds version)) parents_form rest) (faults.UnknownWord ∷ []))) h
 
-pub linear_taken : (old : Places) (word : List ℕ) {mid new : Places} → Takes (number 1 1024) mid new
+pub linear_taken : (version : ℕ) (old : Places) (word : List ℕ) {mid new : Places} → Takes (number 1 1024) mid new
     → mid.found ≡ old.found → words_left old.words ≡ word ∷ words_left mid.words → is word (codes "linear") ≡ true
-    → in_all old map_form ≡ in_all new (at (one_of level_kinds) parents_form)
-linear_taken old word {mid} {new} takes same e h =
-    let form = at (number 1 1024) (at (one_of level_kinds) parents_form) in
-    ap (λ kinds. both old.found (first_in_order kinds)) (linear_words (words_left old.words) (words_left mid.words) word e h)
+    → in_all old (map_form version) ≡ in_all new (at (one_of (level_kinds version)) parents_form)
+linear_taken version old word {mid} {new} takes same e h =
+    let form = at (number 1 1024) (at (one_of (level_kinds version)) parents_form) in
+    ap (λ kinds. both old.found (first_in_order kinds)) (linear_words version (words_left old.words) (words_left mid.words) word e h)
     ∙ ap (λ f. both f (first_in_order (form (words_left mid.words)))) (sym same)
-    ∙ step takes (at (one_of level_kinds) parents_form) refl
+    ∙ step takes (at (one_of (level_kinds version)) parents_form) refl
 
 -- options
 
