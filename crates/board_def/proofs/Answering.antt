@@ -30,7 +30,7 @@ use Rattle.domain_rules.specs.Domains.{EachAfter}
 use Rattle.board_def.specs.Rules.{IsBoard, IsLineAfter, IsDeviceAfter, IsCallAfter, IsActorOf, AreRuns, AreAnswers}
 use Rattle.board_def.specs.Rules.{find_device, fits_line, is_on_line, is_threaded, with_answers}
 use Rattle.board_def.specs.Runs.{is_call_of, may_call, may_wait, arms_itself, arms_though_woken, wakes_by_call, is_allowed_run}
-use Rattle.board_def.specs.Runs.{is_allowed_answer, answers_wake, fits_wakes, threaded, with_thread}
+use Rattle.board_def.specs.Runs.{is_told_one, is_allowed_answer, answers_wake, fits_wakes, threaded, with_thread}
 use Rattle.board_def.specs.Seen.{BoardSeen}
 use Rattle.board_def.specs.declared.rows.LineRow.{LineRow}
 use Rattle.board_def.specs.declared.rows.RunCall.{RunCall}
@@ -40,11 +40,6 @@ use Rattle.board_def.proofs.Grows.{each_from, all_from}
 use Rattle.board_def.proofs.Threads.{given, same_device}
 
 -- ---- what is told of a device stays, if it is told too of a told device that got a thread
-
--- the device is told
-abbrev pub is_told_one : Option DeviceDef → Bool
-is_told_one (Some x) = is_told x.kind
-is_told_one None = false
 
 module _ (dev : DevNo) (test : Option DeviceDef → Bool)
     (more : (x : DeviceDef) → is_told x.kind ≡ true → test (Some x) ≡ true → test (Some (threaded x)) ≡ true) where

@@ -62,6 +62,11 @@ is_allowed_run runs r None = false
 
 -- answers
 
+-- the device is there, and told
+abbrev pub is_told_one : Option DeviceDef → Bool
+is_told_one (Some x) = is_told x.kind
+is_told_one None = false
+
 -- a handler's answer that wakes d's thread
 abbrev pub answers_wake : DevNo → ToldRow → Bool
 answers_wake d r = (same_dev d r.dev && same_part parts.Primary r.part) && is_wake_word r.answer

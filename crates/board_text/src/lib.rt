@@ -6,14 +6,17 @@
 #![tactic(auto)]
 
 pub mod adding;
+mod counting;
 pub mod faults;
 mod lines;
 pub mod masks;
 pub mod owners;
 pub mod reader;
 pub mod reading;
+pub mod runs;
 pub mod sections;
 pub mod stood;
+pub mod turns;
 
 pub use board_words::{BoardFault, FaultKind};
 pub use reading::{BoardRefused, LONGEST_TEXT, read_board};

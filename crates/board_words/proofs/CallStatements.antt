@@ -1,5 +1,5 @@
 -- Statements of calls.
-use Rattle.std.proofs.Common.{◌≡◌, ℕ, Bool, true, false, not, ◌&&◌, ◌||◌, arith, codes, List, Option, Some, None, Ok, Err, refl}
+use Rattle.std.proofs.Common.{◌≡◌, ℕ, Bool, true, false, not, cond, ◌&&◌, ◌||◌, codes, List, Option, Some, None, Ok, Err, refl}
 use Rattle.std.specs.List.{list_any}
 use Rattle.board_words.specs.Forms.{is, is_of_later, form_after, call_form}
 use Rattle.board_words.specs.Keywords.{call_text, call_texts, run_call_texts}
@@ -69,19 +69,22 @@ from_ninth : (a b c d e f g h r : Bool) → (a || (b || (c || (d || (e || (f || 
 from_ninth a b c d e f g h r none =
     second_false h r (second_false g _ (second_false f _ (second_false e _ (second_false d _ (second_false c _ (second_false b _ (second_false a _ none)))))))
 
-by_parts : (m r t k a h s : Bool) → t ≡ false → k ≡ false → ((m && t) || (r && (a || (h || (s || k))))) ≡ (r && (a || (h || s)))
-by_parts m r false false a h s is_t is_k = grind arith
-by_parts m r true k a h s is_t is_k = absurd cc
-by_parts m r false true a h s is_t is_k = absurd cc
+by_parts : (t k : Bool) (a h s : Bool) (m r : Bool) → t ≡ false → k ≡ false → cond t m ((a || (h || (s || k))) && r) ≡ ((a || (h || s)) && r)
+by_parts false false true h s m r is_t is_k = refl
+by_parts false false false true s m r is_t is_k = refl
+by_parts false false false false true m r is_t is_k = refl
+by_parts false false false false false m r is_t is_k = refl
+by_parts true k a h s m r is_t is_k = absurd cc
+by_parts false true a h s m r is_t is_k = absurd cc
 
 pub later_part : (version : ℕ) (word : List ℕ) → list_any (is word) call_texts ≡ false
-    → is_of_later version word ≡ (not (has_runs version) && (is word (codes "answers") || (is word (codes "handler") || is word (codes "thread"))))
+    → is_of_later version word ≡ ((is word (codes "answers") || (is word (codes "handler") || is word (codes "thread"))) && not (has_runs version))
 later_part version word none =
     let rest : (is word (codes "moment") || list_any (is word) run_call_texts) ≡ false =
     from_ninth (is word (codes "request")) (is word (codes "free")) (is word (codes "ask")) (is word (codes "disable"))
     (is word (codes "disable_nosync")) (is word (codes "enable")) (is word (codes "sync")) (is word (codes "affinity"))
     (is word (codes "moment") || list_any (is word) run_call_texts) none in
-    by_parts (not (has_moments version)) (not (has_runs version)) (is word (codes "moment")) (list_any (is word) run_call_texts)
-    (is word (codes "answers")) (is word (codes "handler")) (is word (codes "thread"))
+    by_parts (is word (codes "moment")) (list_any (is word) run_call_texts)
+    (is word (codes "answers")) (is word (codes "handler")) (is word (codes "thread")) (not (has_moments version)) (not (has_runs version))
     (first_false (is word (codes "moment")) (list_any (is word) run_call_texts) rest)
     (second_false (is word (codes "moment")) (list_any (is word) run_call_texts) rest)

@@ -49,8 +49,8 @@ right_none (Some k) (Some j) h = chosen (cond_some _ j k h) where
 
 linear_words : (version : ℕ) (words rest : List (List ℕ)) (word : List ℕ) → words ≡ word ∷ rest → is word (codes "linear") ≡ true
     → map_form version words ≡ at (number 1 1024) (at (one_of (level_kinds version)) parents_form) rest
-linear_words words rest word e h =
-    ap map_form e ∙ ap (λ t. cond t (at (number 1 1024) (at (one_of (level_kinds version)) parents_form) rest)
+linear_words version words rest word e h =
+    ap (map_form version) e ∙ ap (λ t. cond t (at (number 1 1024) (at (one_of (level_kinds version)) parents_form) rest)
     (cond (is word (codes "tree")) (at (one_of (level_kinds version)) parents_form rest) (faults.UnknownWord ∷ []))) h
 
 pub linear_taken : (version : ℕ) (old : Places) (word : List ℕ) {mid new : Places} → Takes (number 1 1024) mid new

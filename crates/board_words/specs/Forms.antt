@@ -1,6 +1,6 @@
 -- The forms of the statements. A form has places, and each word takes the next place. It lists what
 -- is wrong: a word that doesn't fit its place, a place without a word, words that are left over.
-use Rattle.std.specs.Prelude.{ℕ, ◌-◌, Bool, not, ◌&&◌, ◌||◌, is_some, if◌then◌else◌, Option, List, []}
+use Rattle.std.specs.Prelude.{ℕ, ◌-◌, Bool, not, ◌&&◌, is_some, if◌then◌else◌, Option, List, []}
 use Rattle.std.specs.Prelude.{◌∷◌, ◌++◌, codes}
 use Rattle.std.specs.List.{list_any, flat_map}
 use Rattle.std.specs.Str.{bytes_eq}
@@ -176,8 +176,8 @@ run_words = codes "answers" ∷ codes "handler" ∷ codes "thread" ∷ run_call_
 -- the word is one of a later version
 abbrev pub is_of_later : ℕ → List ℕ → Bool
 is_of_later version word =
-    (not (has_moments version) && is word (codes "moment"))
-    || (not (has_runs version) && list_any (is word) run_words)
+    if is word (codes "moment") then not (has_moments version)
+    else list_any (is word) run_words && not (has_runs version)
 
 -- what is wrong with a statement in itself, in a text of that version
 abbrev pub faults_of : ℕ → List (List ℕ) → List FaultKind

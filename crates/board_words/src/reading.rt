@@ -80,7 +80,7 @@ fn is_part_of_later(word: &[u8], version: u32) -> bool
     requires call { list_any (forms.is word.now) call_texts ≡ false }
     ensures { result ≡ forms.is_of_later version word.now }
 {
-    !has_runs(version) && (is(word, b"answers") || is(word, b"handler") || is(word, b"thread"))
+    (is(word, b"answers") || is(word, b"handler") || is(word, b"thread")) && !has_runs(version)
 }
 
 /// What a statement on a part says, by its first word and the words after it. It stands apart: most
