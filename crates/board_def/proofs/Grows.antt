@@ -28,7 +28,7 @@ use Rattle.domain_rules.specs.Domains.{EachAfter, IsDomainAfter}
 use Rattle.board_def.specs.Rules.{IsBoard, IsDomainRowAfter, IsLineAfter, IsDeviceAfter, IsDriverAfter, IsCallAfter}
 use Rattle.board_def.specs.Rules.{IsActorOf, has_line, has_driver, find_device, fits_line, is_on_line, is_threaded}
 use Rattle.board_def.specs.Rules.{is_bad_unlazy, AreRuns, AreAnswers}
-use Rattle.board_def.specs.Runs.{is_call_of, may_call, arms_itself, wakes_by_call, is_allowed_run, is_allowed_answer}
+use Rattle.board_def.specs.Runs.{is_call_of, may_call, arms_itself, wakes_by_call, is_allowed_run, is_allowed_answer, is_told_one}
 use Rattle.board_def.specs.Seen.{BoardSeen}
 use Rattle.board_def.specs.Unnamed.{def_of, defs_of}
 use Rattle.domain_rules.proofs.Ways.{kinds_stay}
@@ -303,8 +303,12 @@ short_more runs c short room d part = by (is_call_of d part c) refl
     same_device : (d e : DevNo) → same_dev d e ≡ true → d ≡ e
     same_device d e h = let of : ℕ → DevNo = λ n. record { 0 = n } in let n : d.0 ≡ e.0 = grind (arith, nat_tests) in ap of n
 
--- the calls beside which the rows stand: one of them more, which wakes no device that arms itself
-still_allowed : (runs : List RunCall) (c r : RunCall) (o : Option DeviceDef) → (wakes_by_call r.dev c && arms_itself r.dev r) ≡ false
+-- the call doesn't wake the row's device, or that isn't told, or the row isn't an arm of its own
+abbrev pub IsApart : List DeviceDef → RunCall → RunCall → Type 0
+IsApart devices c r = (is_told_one (find_device devices r.dev) && (wakes_by_call r.dev c && arms_itself r.dev r)) ≡ false
+
+-- the calls beside which the rows stand: one of them more
+still_allowed : (runs : List RunCall) (c r : RunCall) (o : Option DeviceDef) → (is_told_one o && (wakes_by_call r.dev c && arms_itself r.dev r)) ≡ false
     → is_allowed_run runs r o ≡ true → is_allowed_run (runs ++ c ∷ []) r o ≡ true
 still_allowed runs c r None apart h = absurd cc
 still_allowed runs c r (Some x) apart h =
@@ -314,13 +318,14 @@ still_allowed runs c r (Some x) apart h =
     ∙ kept (x.line.0 == r.line.0) (may_call x.kind r.part r.dev r.call) (is_told x.kind) (arms_itself r.dev r)
     (list_any (wakes_by_call r.dev) runs) (wakes_by_call r.dev c) apart h
   where
-    kept : (l m t a w n : Bool) → (n && a) ≡ false → (l && (m && not (t && (a && w)))) ≡ true → (l && (m && not (t && (a && (w || (n || false)))))) ≡ true
+    kept : (l m t a w n : Bool) → (t && (n && a)) ≡ false → (l && (m && not (t && (a && w)))) ≡ true
+        → (l && (m && not (t && (a && (w || (n || false)))))) ≡ true
     kept l m t a w n apart h = grind arith
 
 pub grows_run : (b : BoardSeen) (c : RunCall) → IsBoard b → length b.runs < 256
     → count_of (is_call_of c.dev c.part) b.runs < 16
     → is_allowed_run b.runs c (find_device b.devices c.dev) ≡ true → fits_line b.devices c.line c.call ≡ true
-    → All (λ r. (wakes_by_call r.dev c && arms_itself r.dev r) ≡ false) (b.runs ++ c ∷ [])
+    → All (IsApart b.devices c) (b.runs ++ c ∷ [])
     → IsBoard (record b { runs = b.runs ++ c ∷ [] })
 grows_run b c h few short allowed fits apart =
     let Allowed : List RunCall → RunCall → Type 0 = λ runs r. is_allowed_run runs r (find_device b.devices r.dev) ≡ true in

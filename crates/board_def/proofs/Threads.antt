@@ -17,7 +17,7 @@ given dev x = cond (same_dev dev x.dev) (threaded x) x
 
 -- ---- the map
 
-same_device : (d e : DevNo) → same_dev d e ≡ true → d ≡ e
+pub same_device : (d e : DevNo) → same_dev d e ≡ true → d ≡ e
 same_device d e h = let of : ℕ → DevNo = λ n. record { 0 = n } in let n : d.0 ≡ e.0 = grind (arith, nat_tests) in ap of n
 
 none_above : (dev : DevNo) (xs : List DeviceDef) → ((i : ℕ) (x : DeviceDef) → slice_get xs i ≡ Some x → dev.0 < x.dev.0) → with_thread dev xs ≡ xs
