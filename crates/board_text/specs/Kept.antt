@@ -4,6 +4,7 @@ use Rattle.std.specs.List.{list_any}
 use Rattle.board_def.specs.Seen.{BoardSeen}
 use Rattle.board_def.specs.declared.rows.RunCall.{RunCall}
 use Rattle.board_def.specs.declared.rows.ScriptCall.{ScriptCall}
+use Rattle.board_words.specs.declared.statements.CallWords.{CallWords}
 use Rattle.board_words.specs.declared.statements.Statement.{Statement}
 use Rattle.board_words.specs.declared.statements.Statement.TheVariants as statements
 use Rattle.board_stated.specs.FaultsAfter.{is_empty}
@@ -62,6 +63,10 @@ with_run_call call b = record b { runs = b.runs ++ call ∷ [] }
 abbrev pub log_after : ℕ → Statement → ℕ
 log_after log (statements.Log new) = new
 log_after log _ = log
+
+-- the statement is no call
+abbrev pub IsNoCall : Statement → Type 0
+IsNoCall s = (c : CallWords) → s ≡ statements.Call c → ⊥
 
 -- the reader's fields are what the statements so far come to
 pub record Agrees (past : List Statement) (r : Reader) : Type 0 where

@@ -4,24 +4,23 @@ ghost use Rattle.std.specs.Prelude.{◌≡◌, ℕ, true, false, List, [], ◌�
 ghost use Rattle.std.specs.Prelude.{IfOk};
 ghost use Rattle.std.specs.Result.{result_and};
 ghost use Rattle.board_stated.specs.FaultsAfter.{is_empty, is_out_of_order, is_out_of_turn};
-ghost use Rattle.board_stated.specs.FaultsAfter.{has_turn_again, is_twice, has_bad_owner};
+ghost use Rattle.board_stated.specs.FaultsAfter.{has_turn_again, is_twice};
 ghost use Rattle.board_stated.specs.FaultsAfter.{has_flag_twice, fault_after};
 ghost use Rattle.board_stated.specs.Stated.{board_of, script_call, run_call};
-ghost use Rattle.board_stated.specs.Sections.{writer_of};
 ghost use Rattle.board_stated.specs.declared.writers.Writer.TheVariants as writers;
 ghost use Rattle.board_stated.specs.TextOf.{begins_with_board};
 ghost use Rattle.board_words.specs.Seen.{words_left};
 ghost use Rattle.board_words.specs.TextLines.{text_lines, words_of, has_bad_byte};
 ghost use Rattle.board_def.specs.Rules.{IsBoard};
 ghost use Rattle.board_text.specs.Kept.{Agrees, Keeps, IsKept, IsNext, IsTold, log_after};
-ghost use Rattle.board_text.specs.Kept.{with_driver_call, with_run_call};
+ghost use Rattle.board_text.specs.Kept.{IsNoCall, with_driver_call, with_run_call};
 ghost use Rattle.board_text.specs.Given.{Ends, ReadsLine, Takes, Makes};
 ghost use Rattle.board_text.specs.Owned.{tells_owner};
 ghost use Rattle.board_words.specs.declared.statements.CallWords.{CallWords};
 ghost use Rattle.board_words.specs.declared.statements.Statement.{Statement};
 ghost use Rattle.board_words.specs.declared.statements.Statement.TheVariants as statements;
 
-use crate::adding::{add_statement, call_of_words, script_call};
+use crate::adding::{add_statement, call_of_words};
 use crate::counting::has_no_room_to_call;
 use crate::faults::{
     MOST_CALLS, driver_writing, has_bad_mask, has_bad_parent, has_bad_unlazy, has_name,
@@ -162,11 +161,12 @@ impl Reader {
         }
     }
 
-    /// Takes a statement, unless it has a fault after the statements so far. It stands apart: most
-    /// statements are calls.
+    /// Takes a statement that is no call, unless it has a fault after the statements so far. It stands
+    /// apart: most statements are calls.
     #[inline(never)]
     fn take(&mut self, alloc: Global, statement: &Statement) -> Result<(), StatementRefused>
-        requires { IsTold self.old statement.now }
+        requires told { IsTold self.old statement.now }
+        requires other { IsNoCall statement.now }
         ensures { (past : List Statement) → Agrees past self.old
             → Takes past statement.now self.new result }
     {
@@ -180,6 +180,7 @@ impl Reader {
     }
 
     /// Takes a call, unless it has a fault after the statements so far.
+    #[tactic(auto, using(crate::proofs::Made::nobody_fault))]
     #[inline(always)]
     fn take_call(&mut self, words: CallWords) -> Result<(), StatementRefused>
         requires { IsKept self.old }
@@ -243,9 +244,10 @@ impl Reader {
         !self.stood.begun && !words.is_header()
     }
 
-    /// What is wrong with the statement after the statements so far.
-    #[tactic(auto, using(crate::proofs::Drafts::not_there_read, crate::proofs::Drafts::parent_read, crate::proofs::Drafts::unlazy_read, crate::proofs::Drafts::mask_read, crate::proofs::Drafts::owner_read, crate::proofs::Drafts::run_read, crate::proofs::Drafts::room_read))]
+    /// What is wrong with the statement, which is no call, after the statements so far.
+    #[tactic(auto, using(crate::proofs::Drafts::not_there_read, crate::proofs::Drafts::parent_read, crate::proofs::Drafts::unlazy_read, crate::proofs::Drafts::mask_read, crate::proofs::Drafts::run_read, crate::proofs::Drafts::room_read, crate::proofs::Made::no_owner))]
     fn fault_of(&self, statement: &Statement) -> Option<FaultKind>
+        requires { IsNoCall statement.now }
         ensures { (past : List Statement) → Agrees past self.now
             → result ≡ fault_after past statement.now }
     {
@@ -267,9 +269,6 @@ impl Reader {
         if has_bad_mask(&self.board, statement) {
             return Some(FaultKind::BadMask);
         }
-        if self.has_bad_owner(statement) {
-            return Some(FaultKind::BadOwner);
-        }
         if has_bad_run(&self.board, self.writer, statement) {
             return Some(FaultKind::BadRun);
         }
@@ -279,22 +278,9 @@ impl Reader {
         None
     }
 
-    /// Whether the statement is a driver's request or free that the rule of ownership forbids.
-    fn has_bad_owner(&self, statement: &Statement) -> bool
-        ensures { (past : List Statement) → Agrees past self.now
-            → result ≡ has_bad_owner (writer_of past) (board_of past) statement.now }
-    {
-        match statement {
-            Statement::Call(words) => {
-                self.writer == Writer::Driver
-                    && self.owners.forbid(driver_writing(&self.board), call_of_words(*words))
-            }
-            _ => false,
-        }
-    }
-
     /// Whether the statement is of an earlier section, misplaced within its section, or out of turn.
     fn is_out_of_order(&self, statement: &Statement) -> bool
+        requires { IsNoCall statement.now }
         ensures { (past : List Statement) → Agrees past self.now
             → result ≡ is_out_of_order past statement.now }
     {
@@ -303,15 +289,14 @@ impl Reader {
             || self.is_out_of_turn(statement)
     }
 
-    /// Whether the statement is a call of no script, or one on runs after one of a later turn.
+    /// Whether the statement is one on runs after one of a later turn.
+    #[tactic(auto, using(crate::proofs::Made::turn_of))]
     fn is_out_of_turn(&self, statement: &Statement) -> bool
+        requires { IsNoCall statement.now }
         ensures { (past : List Statement) → Agrees past self.now
             → result ≡ is_out_of_turn past statement.now }
     {
-        match statement {
-            Statement::Call(_) => self.writer == Writer::Nobody,
-            _ => turn_after(self.turn, statement) < self.turn,
-        }
+        turn_after(self.turn, statement) < self.turn
     }
 
     /// Whether the turn of the statement is that of the last one on runs.
@@ -337,17 +322,13 @@ impl Reader {
         }
     }
 
-    /// Adds a statement without a fault.
+    /// Adds a statement without a fault that is no call.
     fn add(&mut self, alloc: Global, statement: &Statement) -> Result<(), NoMemory>
-        requires { IsNext self.old statement.now }
+        requires next { IsNext self.old statement.now }
+        requires other { IsNoCall statement.now }
         ensures { (past : List Statement) → Agrees past self.old
             → OnOk result (Agrees (statement.now ∷ past) self.new) }
     {
-        if let Statement::Call(words) = statement
-            && self.writer == Writer::Driver
-        {
-            self.owners.note(&script_call(&self.board, *words))?;
-        }
         add_statement(alloc, &mut self.board, self.writer, statement)?;
         self.log = log_after(self.log, statement);
         self.section = self.section.of(statement);

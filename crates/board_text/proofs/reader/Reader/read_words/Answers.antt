@@ -4,8 +4,8 @@ use Rattle.board_words.specs.declared.statements.Statement.TheVariants as statem
 use Rattle.board_text.proofs.ReadLines.{formed_next, line_taken, own_fault}
 use Rattle.board_text.proofs.reader.Reader.read_words.Goals as goal
 
-pub take-requires : goal.take-requires
-take-requires c =
+pub take-requires-told : goal.take-requires-told
+take-requires-told c =
     let past = c.requires.past in
     let exact = c.in_ok-statement.ensures.exact in
     let words = words_left c.args.words in
