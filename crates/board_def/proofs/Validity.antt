@@ -75,7 +75,7 @@ named n = record { 0 = n }
 same_from_test : (m n : ℕ) → (m == n) ≡ true → m ≡ n
 same_from_test m n h = grind (arith, nat_tests)
 
-same_line : (a b : LineNo) → (a.0 == b.0) ≡ true → a ≡ b
+pub same_line : (a b : LineNo) → (a.0 == b.0) ≡ true → a ≡ b
 unfolding named
 same_line a b h = ap named (same_from_test a.0 b.0 h)
 
@@ -103,7 +103,7 @@ distinct keep (x ∷ xs) rises =
     by false none rest = rest
 
 -- a device whose line this is stands among the devices of the line's definition
-among : (line : LineNo) (dev : DevNo) (xs : List DeviceDef) → is_on_line line (find_device xs dev) ≡ true
+pub among : (line : LineNo) (dev : DevNo) (xs : List DeviceDef) → is_on_line line (find_device xs dev) ≡ true
     → list_any (is_device dev) (filter (λ x. x.line.0 == line.0) xs) ≡ true
 among line dev [] h = absurd cc
 among line dev (x ∷ xs) h = by (same_dev dev x.dev) refl (x.line.0 == line.0) refl h (among line dev xs)

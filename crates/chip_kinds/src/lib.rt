@@ -6,6 +6,7 @@
 //! | `PlainChip` | edges | no | no | no | no |
 //! | `LevelChip` | a level | no | no | no | no |
 //! | `EoiChip` | a level | no | no | no | yes |
+//! | `PinChip` | edges | yes | yes | no | no |
 //! | `LpiChip` | edges | yes | yes | yes | no |
 //! | `VectorChip`, which can't mask | edges | no | no | yes | no |
 //!
@@ -17,5 +18,7 @@ pub mod kinds;
 pub mod vector;
 
 pub use controller::{ChipKind, Controller};
-pub use kinds::{Eoi, EoiChip, Latch, LatchChip, Level, LevelChip, Lpi, LpiChip, Plain, PlainChip};
+pub use kinds::{
+    Eoi, EoiChip, Latch, LatchChip, Level, LevelChip, Lpi, LpiChip, Pin, PinChip, Plain, PlainChip,
+};
 pub use vector::VectorChip;

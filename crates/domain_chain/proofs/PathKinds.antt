@@ -29,6 +29,7 @@ masking_of (levels.Plain ∷ []) p m = by_root refl refl refl
 masking_of (levels.Level ∷ []) p m = by_root refl refl refl
 masking_of (levels.Eoi ∷ []) p m = by_root refl refl refl
 masking_of (levels.Lpi ∷ []) p m = by_root refl refl refl
+masking_of (levels.Pin ∷ []) p m = by_root refl refl refl
 masking_of (levels.Vector ∷ []) p m = absurd (false≢true m)
 masking_of (levels.Msi ∷ []) p m = absurd (false≢true p)
 masking_of (levels.Remap ∷ []) p m = absurd (false≢true p)
@@ -40,6 +41,7 @@ masking_of (levels.Level ∷ (x ∷ xs)) p m = absurd (false≢true p)
 masking_of (levels.Eoi ∷ (x ∷ xs)) p m = absurd (false≢true p)
 masking_of (levels.Vector ∷ (x ∷ xs)) p m = absurd (false≢true p)
 masking_of (levels.Lpi ∷ (x ∷ xs)) p m = absurd (false≢true p)
+masking_of (levels.Pin ∷ (x ∷ xs)) p m = absurd (false≢true p)
 
 pub root_is_root : (kinds : List ControllerKind) → is_path_of_kinds kinds ≡ true → is_root_kind (root_kind kinds) ≡ true
 root_is_root [] p = absurd (false≢true p)
@@ -50,6 +52,7 @@ root_is_root (levels.Level ∷ (x ∷ xs)) p = absurd (false≢true p)
 root_is_root (levels.Eoi ∷ (x ∷ xs)) p = absurd (false≢true p)
 root_is_root (levels.Vector ∷ (x ∷ xs)) p = absurd (false≢true p)
 root_is_root (levels.Lpi ∷ (x ∷ xs)) p = absurd (false≢true p)
+root_is_root (levels.Pin ∷ (x ∷ xs)) p = absurd (false≢true p)
 root_is_root (levels.Msi ∷ (x ∷ xs)) p = root_is_root (x ∷ xs) p
 root_is_root (levels.Remap ∷ (x ∷ xs)) p = root_is_root (x ∷ xs) p
 
@@ -72,6 +75,7 @@ root_is_last (levels.Level ∷ (x ∷ xs)) (suc n) p e = absurd (false≢true p)
 root_is_last (levels.Eoi ∷ (x ∷ xs)) (suc n) p e = absurd (false≢true p)
 root_is_last (levels.Vector ∷ (x ∷ xs)) (suc n) p e = absurd (false≢true p)
 root_is_last (levels.Lpi ∷ (x ∷ xs)) (suc n) p e = absurd (false≢true p)
+root_is_last (levels.Pin ∷ (x ∷ xs)) (suc n) p e = absurd (false≢true p)
 
 -- which of the two it is, by whether the masking level is one of messages
 pub by_messages : (kinds : List ControllerKind) → is_path_of_kinds kinds ≡ true → is_some (masking_kind kinds) ≡ true
@@ -107,6 +111,7 @@ behind_kind levels.Level p = absurd (false≢true (sym p))
 behind_kind levels.Eoi p = absurd (false≢true (sym p))
 behind_kind levels.Vector p = refl
 behind_kind levels.Lpi p = refl
+behind_kind levels.Pin p = refl
 behind_kind levels.Msi p = refl
 behind_kind levels.Remap p = refl
 
@@ -117,6 +122,7 @@ open_kind levels.Level p = absurd (false≢true (sym p))
 open_kind levels.Eoi p = absurd (false≢true (sym p))
 open_kind levels.Vector p = (refl, refl)
 open_kind levels.Lpi p = (refl, refl)
+open_kind levels.Pin p = (refl, refl)
 open_kind levels.Msi p = (refl, refl)
 open_kind levels.Remap p = (refl, refl)
 

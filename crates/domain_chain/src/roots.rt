@@ -4,7 +4,7 @@ ghost use Rattle.domain_chain.specs.Chains.{root_cell};
 ghost use Rattle.domain_rules.specs.Domains.{is_msi};
 ghost use Rattle.domain_rules.specs.Levels.{is_root_kind, is_some_kind, masking_kind};
 
-use chip_kinds::{ChipKind, Eoi, Latch, Level, Lpi, Plain};
+use chip_kinds::{ChipKind, Eoi, Latch, Level, Lpi, Pin, Plain};
 use irq_base::{Chip, ControllerKind, Trigger};
 use line_cell::Cell;
 
@@ -20,6 +20,7 @@ pub(crate) fn root_of(kind: ControllerKind) -> Cell
         ControllerKind::Level => Level::chip(),
         ControllerKind::Eoi => Eoi::chip(),
         ControllerKind::Lpi => Lpi::chip(),
+        ControllerKind::Pin => Pin::chip(),
         ControllerKind::Vector | ControllerKind::Msi | ControllerKind::Remap => {
             Cell::new(Trigger::Edge, false, false, true, false)
         }
