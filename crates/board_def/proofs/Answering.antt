@@ -24,7 +24,9 @@ use Rattle.irq_base.specs.declared.entries.Actor.TheVariants as actors
 use Rattle.irq_base.specs.declared.numbers.DevNo.{DevNo}
 use Rattle.irq_base.specs.declared.numbers.LineNo.{LineNo}
 use Rattle.irq_model.specs.Kinds.{same_dev}
+use Rattle.irq_model.specs.Lines.{same_part}
 use Rattle.irq_model.specs.Places.{count_of}
+use Rattle.irq_model.specs.RunBounds.{is_wake_word}
 use Rattle.irq_model.specs.ValidRuns.{has_script, is_told, may_stand, may_answer}
 use Rattle.domain_rules.specs.Domains.{EachAfter}
 use Rattle.board_def.specs.Rules.{IsBoard, IsLineAfter, IsDeviceAfter, IsCallAfter, IsActorOf, AreRuns, AreAnswers}
@@ -37,20 +39,36 @@ use Rattle.board_def.specs.declared.rows.RunCall.{RunCall}
 use Rattle.board_def.specs.declared.rows.ScriptCall.{ScriptCall}
 use Rattle.board_def.specs.declared.rows.ToldRow.{ToldRow}
 use Rattle.board_def.proofs.Grows.{each_from, all_from}
-use Rattle.board_def.proofs.Threads.{given, same_device}
+use Rattle.board_def.proofs.Threads.{same_device}
 
 -- ---- what is told of a device stays, if it is told too of a told device that got a thread
 
-module _ (dev : DevNo) (test : Option DeviceDef → Bool)
-    (more : (x : DeviceDef) → is_told x.kind ≡ true → test (Some x) ≡ true → test (Some (threaded x)) ≡ true) where
-  thread_stays : (xs : List DeviceDef) → is_told_one (find_device xs dev) ≡ true → (d : DevNo)
-      → test (find_device xs d) ≡ true → test (find_device (with_thread dev xs) d) ≡ true
-  thread_stays [] told d h = h
-  thread_stays (x ∷ xs) told d h = by (same_dev dev x.dev) refl (same_dev d x.dev) refl told h (λ t. thread_stays xs t d)
+module _ (dev : DevNo) (test : Option DeviceDef → Bool) where
+  -- of another device
+  elsewhere : (d : DevNo) → same_dev d dev ≡ false → (xs : List DeviceDef) → test (find_device xs d) ≡ true
+      → test (find_device (with_thread dev xs) d) ≡ true
+  elsewhere d other [] h = h
+  elsewhere d other (x ∷ xs) h = by (same_dev dev x.dev) refl (same_dev d x.dev) refl h (elsewhere d other xs)
     where
-      others : same_dev dev x.dev ≡ true → same_dev d x.dev ≡ false → same_dev d dev ≡ false
-      others is other = let same : dev.0 ≡ x.dev.0 = grind (arith, nat_tests) in ap (λ n. d.0 == n) same ∙ other
+      by : (b : Bool) → same_dev dev x.dev ≡ b → (c : Bool) → same_dev d x.dev ≡ c → test (cond c (Some x) (find_device xs d)) ≡ true
+          → (test (find_device xs d) ≡ true → test (find_device (with_thread dev xs) d) ≡ true)
+          → test (cond (same_dev d (cond b (threaded x) x).dev) (Some (cond b (threaded x) x)) (find_device (with_thread dev xs) d)) ≡ true
+      by true is true own h rest =
+          let same : dev.0 ≡ x.dev.0 = grind (arith, nat_tests) in
+          absurd (let no : true ≡ false = sym own ∙ (ap (λ n. d.0 == n) (sym same) ∙ other) in cc)
+      by true is false own h rest = ap (λ t. test (cond t (Some (threaded x)) (find_device (with_thread dev xs) d))) own ∙ rest h
+      by false is true own h rest = ap (λ t. test (cond t (Some x) (find_device (with_thread dev xs) d))) own ∙ h
+      by false is false own h rest = ap (λ t. test (cond t (Some x) (find_device (with_thread dev xs) d))) own ∙ rest h
 
+  other_dev : (d e : DevNo) → same_dev dev e ≡ true → same_dev d e ≡ false → same_dev d dev ≡ false
+  other_dev d e is other = let same : dev.0 ≡ e.0 = grind (arith, nat_tests) in ap (λ n. d.0 == n) same ∙ other
+
+  thread_stays : ((x : DeviceDef) → is_told x.kind ≡ true → test (Some x) ≡ true → test (Some (threaded x)) ≡ true)
+      → (xs : List DeviceDef) → is_told_one (find_device xs dev) ≡ true → (d : DevNo)
+      → test (find_device xs d) ≡ true → test (find_device (with_thread dev xs) d) ≡ true
+  thread_stays more [] told d h = h
+  thread_stays more (x ∷ xs) told d h = by (same_dev dev x.dev) refl (same_dev d x.dev) refl told h (λ t. thread_stays more xs t d)
+    where
       by : (b : Bool) → same_dev dev x.dev ≡ b → (c : Bool) → same_dev d x.dev ≡ c → is_told_one (cond b (Some x) (find_device xs dev)) ≡ true
           → test (cond c (Some x) (find_device xs d)) ≡ true
           → (is_told_one (find_device xs dev) ≡ true → test (find_device xs d) ≡ true → test (find_device (with_thread dev xs) d) ≡ true)
@@ -58,30 +76,37 @@ module _ (dev : DevNo) (test : Option DeviceDef → Bool)
       by true is true own told h rest = ap (λ t. test (cond t (Some (threaded x)) (find_device (with_thread dev xs) d))) own ∙ more x told h
       by true is false other told h rest =
           ap (λ t. test (cond t (Some (threaded x)) (find_device (with_thread dev xs) d))) other
-          ∙ elsewhere xs d (others is other) h
+          ∙ elsewhere d (other_dev d x.dev is other) xs h
       by false is true own told h rest = ap (λ t. test (cond t (Some x) (find_device (with_thread dev xs) d))) own ∙ h
       by false is false other told h rest = ap (λ t. test (cond t (Some x) (find_device (with_thread dev xs) d))) other ∙ rest told h
-
-      elsewhere : (ys : List DeviceDef) (d : DevNo) → same_dev d dev ≡ false → test (find_device ys d) ≡ true
-          → test (find_device (with_thread dev ys) d) ≡ true
-      elsewhere [] d other h = h
-      elsewhere (y ∷ ys) d other h = step (same_dev dev y.dev) refl (same_dev d y.dev) refl h (elsewhere ys d other)
-        where
-          step : (b : Bool) → same_dev dev y.dev ≡ b → (c : Bool) → same_dev d y.dev ≡ c → test (cond c (Some y) (find_device ys d)) ≡ true
-              → (test (find_device ys d) ≡ true → test (find_device (with_thread dev ys) d) ≡ true)
-              → test (cond (same_dev d (cond b (threaded y) y).dev) (Some (cond b (threaded y) y)) (find_device (with_thread dev ys) d)) ≡ true
-          step true is true own h rest =
-              let same : dev.0 ≡ y.dev.0 = grind (arith, nat_tests) in
-              absurd (let no : true ≡ false = sym own ∙ (ap (λ n. d.0 == n) (sym same) ∙ other) in cc)
-          step true is false own h rest = ap (λ t. test (cond t (Some (threaded y)) (find_device (with_thread dev ys) d))) own ∙ rest h
-          step false is true own h rest = ap (λ t. test (cond t (Some y) (find_device (with_thread dev ys) d))) own ∙ h
-          step false is false own h rest = ap (λ t. test (cond t (Some y) (find_device (with_thread dev ys) d))) own ∙ rest h
 
 -- ---- the tests
 
 stands_alike : (part : Part) (d : DevNo) (call : Call) (t : Bool) → may_stand (kinds.Told t) part d call ≡ may_stand (kinds.Told true) part d call
-stands_alike parts.Primary d _ t = refl
-stands_alike parts.Thread d _ t = refl
+stands_alike part d calls.DisableNosync t = refl
+stands_alike part d calls.Enable t = refl
+stands_alike part d calls.Disable t = refl
+stands_alike part d calls.Sync t = refl
+stands_alike part d (calls.Quiet dev) t = refl
+stands_alike part d (calls.Serve dev) t = refl
+stands_alike parts.Primary d (calls.Wake dev) t = refl
+stands_alike parts.Thread d (calls.Wake dev) t = refl
+stands_alike parts.Primary d (calls.Free dev) t = refl
+stands_alike parts.Thread d (calls.Free dev) t = refl
+stands_alike parts.Primary d (calls.Arm dev) t = refl
+stands_alike parts.Thread d (calls.Arm dev) t = refl
+stands_alike parts.Primary d (calls.Ask dev) t = refl
+stands_alike parts.Thread d (calls.Ask dev) t = refl
+stands_alike parts.Primary d (calls.Request dev flags) t = refl
+stands_alike parts.Thread d (calls.Request dev flags) t = refl
+stands_alike parts.Primary d (calls.Affinity mask) t = refl
+stands_alike parts.Thread d (calls.Affinity mask) t = refl
+stands_alike parts.Primary d (calls.Moment at) t = refl
+stands_alike parts.Thread d (calls.Moment at) t = refl
+stands_alike parts.Primary d calls.SyncHard t = refl
+stands_alike parts.Thread d calls.SyncHard t = refl
+stands_alike parts.Primary d calls.DisableHard t = refl
+stands_alike parts.Thread d calls.DisableHard t = refl
 
 calls_on : (part : Part) (d : DevNo) (call : Call) (t : Bool) → may_call (kinds.Told t) part d call ≡ true → may_call (kinds.Told true) part d call ≡ true
 calls_on parts.Primary d call t h = ap (λ s. s && not (may_wait call)) (sym (stands_alike parts.Primary d call t)) ∙ h
@@ -112,10 +137,6 @@ run_on runs r x told h = by x.kind told h
 answer_on : (r : ToldRow) (x : DeviceDef) → is_told x.kind ≡ true → is_allowed_answer r (Some x) ≡ true → is_allowed_answer r (Some (threaded x)) ≡ true
 answer_on r x told h = by x.kind r.part r.answer told h
   where
-    first : (l m : Bool) → (l && m) ≡ true → l ≡ true
-    first true m h = refl
-    first false m h = absurd cc
-
     alike : (l m n : Bool) → (m ≡ true → n ≡ true) → (l && m) ≡ true → (l && n) ≡ true
     alike true m n on h = on h
     alike false m n on h = absurd cc
@@ -150,14 +171,14 @@ fits_on dev line xs told calls.DisableHard h = refl
 
 -- each row is of the device
 abbrev AreOf : DevNo → List ToldRow → Type 0
-AreOf dev rows = All (λ r. r.dev ≡ dev) rows
+AreOf dev rows = All (λ (r : ToldRow). r.dev ≡ dev) rows
 
 none_of_others : (dev d : DevNo) (rows : List ToldRow) → same_dev d dev ≡ false → AreOf dev rows → list_any (answers_wake d) rows ≡ false
 none_of_others dev d [] other of = refl
 none_of_others dev d (r ∷ rows) other of =
     let own : r.dev ≡ dev = All-head (λ (r : ToldRow). r.dev ≡ dev) r rows of in
     let apart : same_dev d r.dev ≡ false = ap (same_dev d) own ∙ other in
-    ap (λ b. ((b && _) && _) || list_any (answers_wake d) rows) apart
+    ap (λ b. ((b && same_part parts.Primary r.part) && is_wake_word r.answer) || list_any (answers_wake d) rows) apart
     ∙ none_of_others dev d rows other (All-tail (λ (r : ToldRow). r.dev ≡ dev) r rows of)
 
 count_both : {A : Type 0} (test : A → Bool) (xs ys : List A) → count_of test (xs ++ ys) ≡ count_of test xs + count_of test ys
@@ -170,7 +191,7 @@ count_both test (x ∷ xs) ys = by (test x) (count_both test xs ys)
     by false rest = rest
 
 -- a device has at most as many of them as there are, and another has none
-count_within : (dev d : DevNo) (rows : List ToldRow) → AreOf dev rows → count_of (λ r. same_dev d r.dev) rows ≤ cond (same_dev d dev) (length rows) 0
+count_within : (dev d : DevNo) (rows : List ToldRow) → AreOf dev rows → count_of (λ (r : ToldRow). same_dev d r.dev) rows ≤ cond (same_dev d dev) (length rows) 0
 count_within dev d [] of = by (same_dev d dev)
   where
     by : (b : Bool) → 0 ≤ cond b 0 0
@@ -181,24 +202,24 @@ count_within dev d (r ∷ rows) of =
     let same : same_dev d r.dev ≡ same_dev d dev = ap (same_dev d) own in
     by (same_dev d r.dev) (same_dev d dev) same (count_within dev d rows (All-tail (λ (r : ToldRow). r.dev ≡ dev) r rows of))
   where
-    by : (a b : Bool) → a ≡ b → count_of (λ r. same_dev d r.dev) rows ≤ cond b (length rows) 0
-        → cond a (count_of (λ r. same_dev d r.dev) rows + 1) (count_of (λ r. same_dev d r.dev) rows) ≤ cond b (suc (length rows)) 0
+    by : (a b : Bool) → a ≡ b → count_of (λ (r : ToldRow). same_dev d r.dev) rows ≤ cond b (length rows) 0
+        → cond a (count_of (λ (r : ToldRow). same_dev d r.dev) rows + 1) (count_of (λ (r : ToldRow). same_dev d r.dev) rows) ≤ cond b (suc (length rows)) 0
     by true true same rest = omega (arith, rest)
     by false false same rest = rest
     by true false same rest = absurd cc
     by false true same rest = absurd cc
 
-few_of : (dev : DevNo) (told rows : List ToldRow) → AreOf dev rows → count_of (λ r. same_dev dev r.dev) told + length rows ≤ 4096
-    → ((d : DevNo) → count_of (λ r. same_dev d r.dev) told ≤ 4096) → (d : DevNo) → count_of (λ r. same_dev d r.dev) (told ++ rows) ≤ 4096
+few_of : (dev : DevNo) (told rows : List ToldRow) → AreOf dev rows → count_of (λ (r : ToldRow). same_dev dev r.dev) told + length rows ≤ 4096
+    → ((d : DevNo) → count_of (λ (r : ToldRow). same_dev d r.dev) told ≤ 4096) → (d : DevNo) → count_of (λ (r : ToldRow). same_dev d r.dev) (told ++ rows) ≤ 4096
 few_of dev told rows of room short d = by (same_dev d dev) refl
   where
-    by : (b : Bool) → same_dev d dev ≡ b → count_of (λ r. same_dev d r.dev) (told ++ rows) ≤ 4096
+    by : (b : Bool) → same_dev d dev ≡ b → count_of (λ (r : ToldRow). same_dev d r.dev) (told ++ rows) ≤ 4096
     by true own =
-        let here = subst (λ (e : DevNo). count_of (λ r. same_dev e r.dev) told + length rows ≤ 4096) (sym (same_device d dev own)) room in
-        let within = subst (λ b. count_of (λ r. same_dev d r.dev) rows ≤ cond b (length rows) 0) own (count_within dev d rows of) in
+        let here = subst (λ (e : DevNo). count_of (λ (r : ToldRow). same_dev e r.dev) told + length rows ≤ 4096) (sym (same_device d dev own)) room in
+        let within = subst (λ b. count_of (λ (r : ToldRow). same_dev d r.dev) rows ≤ cond b (length rows) 0) own (count_within dev d rows of) in
         omega (arith, count_both (λ (r : ToldRow). same_dev d r.dev) told rows, here, within)
     by false other =
-        let within = subst (λ b. count_of (λ r. same_dev d r.dev) rows ≤ cond b (length rows) 0) other (count_within dev d rows of) in
+        let within = subst (λ b. count_of (λ (r : ToldRow). same_dev d r.dev) rows ≤ cond b (length rows) 0) other (count_within dev d rows of) in
         omega (arith, count_both (λ (r : ToldRow). same_dev d r.dev) told rows, short d, within)
 
 -- ---- the board
@@ -225,15 +246,22 @@ module _ (b : BoardSeen) (h : IsBoard b) (dev : DevNo) (rows : List ToldRow) (of
   after w = record b { told = b.told ++ rows; devices = devices_by w }
 
   -- a device's thread goes by the answers
+  or_false : (b : Bool) → (b || false) ≡ b
+  or_false true = refl
+  or_false false = refl
+
+  or_right : (a b : Bool) → b ≡ true → (a || b) ≡ true
+  or_right true b e = refl
+  or_right false b e = e
+
+  turned : (d e : DevNo) → same_dev d e ≡ false → same_dev e d ≡ false
+  turned d e p = grind (arith, nat_tests)
+
   thread_of_other : (x : DeviceDef) → list_any (answers_wake x.dev) rows ≡ false → fits_wakes (list_any (answers_wake x.dev) b.told) x.kind ≡ true
       → fits_wakes (list_any (answers_wake x.dev) (b.told ++ rows)) x.kind ≡ true
   thread_of_other x none fits =
       ap (λ w. fits_wakes w x.kind) (list_any-append (answers_wake x.dev) b.told rows
       ∙ (ap (λ w. list_any (answers_wake x.dev) b.told || w) none ∙ or_false (list_any (answers_wake x.dev) b.told))) ∙ fits
-    where
-      or_false : (b : Bool) → (b || false) ≡ b
-      or_false true = refl
-      or_false false = refl
 
   thread_of : (w : Bool) → wakes ≡ w → (x : DeviceDef) → fits_wakes (list_any (answers_wake x.dev) b.told) x.kind ≡ true
       → (s : Bool) → same_dev dev x.dev ≡ s
@@ -241,20 +269,10 @@ module _ (b : BoardSeen) (h : IsBoard b) (dev : DevNo) (rows : List ToldRow) (of
   thread_of true some x fits true own =
       ap (λ (d : DevNo). list_any (answers_wake d) (b.told ++ rows)) (sym (same_device dev x.dev own))
       ∙ (list_any-append (answers_wake dev) b.told rows ∙ or_right (list_any (answers_wake dev) b.told) wakes some)
-    where
-      or_right : (a b : Bool) → b ≡ true → (a || b) ≡ true
-      or_right true b e = refl
-      or_right false b e = e
   thread_of false none x fits true own =
       thread_of_other x (ap (λ (d : DevNo). list_any (answers_wake d) rows) (sym (same_device dev x.dev own)) ∙ none) fits
   thread_of true some x fits false other = thread_of_other x (none_of_others dev x.dev rows (turned dev x.dev other) of) fits
-    where
-      turned : (d e : DevNo) → same_dev d e ≡ false → same_dev e d ≡ false
-      turned d e p = grind (arith, nat_tests)
   thread_of false none x fits false other = thread_of_other x (none_of_others dev x.dev rows (turned dev x.dev other) of) fits
-    where
-      turned : (d e : DevNo) → same_dev d e ≡ false → same_dev e d ≡ false
-      turned d e p = grind (arith, nat_tests)
 
   abbrev change : Bool → DeviceDef → DeviceDef
   change w x = cond (w && same_dev dev x.dev) (threaded x) x
@@ -281,7 +299,7 @@ module _ (b : BoardSeen) (h : IsBoard b) (dev : DevNo) (rows : List ToldRow) (of
       by true = refl
       by false = refl
 
-  all_changed : (w : Bool) (n : ℕ) (xs : List DeviceDef) → All (λ e. e.dev.0 < n) xs → All (λ e. e.dev.0 < n) (map (change w) xs)
+  all_changed : (w : Bool) (n : ℕ) (xs : List DeviceDef) → All (λ (e : DeviceDef). e.dev.0 < n) xs → All (λ (e : DeviceDef). e.dev.0 < n) (map (change w) xs)
   all_changed w n [] all = λ k d p. absurd (omega (arith, p))
   all_changed w n (x ∷ xs) all zero d p =
       subst (λ (e : DevNo). e.0 < n) (sym (same_dev_of w x)) (All-head (λ (e : DeviceDef). e.dev.0 < n) x xs all)
@@ -299,8 +317,8 @@ module _ (b : BoardSeen) (h : IsBoard b) (dev : DevNo) (rows : List ToldRow) (of
           subst (λ (z : DeviceDef). IsDeviceAfter (after w) (take i (map (change w) b.devices)) z) same
           (record {
             number = subst (λ (d : DevNo). (1 ≤ d.0) × (d.0 ≤ 65535)) (sym (same_dev_of w x)) old.number;
-            rises = subst (All (λ e. e.dev.0 < (change w x).dev.0)) (sym (take-map (change w) i b.devices))
-                (all_changed w (change w x).dev.0 (take i b.devices) (subst (λ (d : DevNo). All (λ e. e.dev.0 < d.0) (take i b.devices))
+            rises = subst (All (λ (e : DeviceDef). e.dev.0 < (change w x).dev.0)) (sym (take-map (change w) i b.devices))
+                (all_changed w (change w x).dev.0 (take i b.devices) (subst (λ (d : DevNo). All (λ (e : DeviceDef). e.dev.0 < d.0) (take i b.devices))
                 (sym (same_dev_of w x)) old.rises));
             line = ap (λ (l : LineNo). list_any (λ (row : LineRow). row.line.0 == l.0) b.lines) (same_line_of w x) ∙ old.line;
             thread = ap (λ (d : DevNo). fits_wakes (list_any (answers_wake d) (b.told ++ rows)) (change w x).kind) (same_dev_of w x)
@@ -324,26 +342,26 @@ module _ (b : BoardSeen) (h : IsBoard b) (dev : DevNo) (rows : List ToldRow) (of
   runs_kept w = record {
     few = h.runs.few;
     short = h.runs.short;
-    allowed = all_from (λ r. is_allowed_run b.runs r (find_device b.devices r.dev) ≡ true)
-        (λ r. is_allowed_run b.runs r (find_device (devices_by w) r.dev) ≡ true)
+    allowed = all_from (λ (r : RunCall). is_allowed_run b.runs r (find_device b.devices r.dev) ≡ true)
+        (λ (r : RunCall). is_allowed_run b.runs r (find_device (devices_by w) r.dev) ≡ true)
         (λ r. stays (is_allowed_run b.runs r) (run_on b.runs r) w r.dev) b.runs h.runs.allowed;
-    fit = all_from (λ r. fits_line b.devices r.line r.call ≡ true) (λ r. fits_line (devices_by w) r.line r.call ≡ true)
+    fit = all_from (λ (r : RunCall). fits_line b.devices r.line r.call ≡ true) (λ (r : RunCall). fits_line (devices_by w) r.line r.call ≡ true)
         (λ r. fits_stay w r.line r.call) b.runs h.runs.fit;
   }
 
-  answers_kept : (w : Bool) → length b.told + length rows ≤ 65536 → count_of (λ r. same_dev dev r.dev) b.told + length rows ≤ 4096
-      → All (λ r. is_allowed_answer r (find_device b.devices r.dev) ≡ true) rows → AreAnswers (devices_by w) (b.told ++ rows)
+  answers_kept : (w : Bool) → length b.told + length rows ≤ 65536 → count_of (λ (r : ToldRow). same_dev dev r.dev) b.told + length rows ≤ 4096
+      → All (λ (r : ToldRow). is_allowed_answer r (find_device b.devices r.dev) ≡ true) rows → AreAnswers (devices_by w) (b.told ++ rows)
   answers_kept w few room allowed =
       let Allowed : ToldRow → Type 0 = λ r. is_allowed_answer r (find_device b.devices r.dev) ≡ true in
       record {
         few = omega (arith, few, length-append b.told rows);
         short = few_of dev b.told rows of room h.told.short;
-        allowed = all_from Allowed (λ r. is_allowed_answer r (find_device (devices_by w) r.dev) ≡ true)
+        allowed = all_from Allowed (λ (r : ToldRow). is_allowed_answer r (find_device (devices_by w) r.dev) ≡ true)
             (λ r. stays (is_allowed_answer r) (answer_on r) w r.dev) (b.told ++ rows) (All-append Allowed b.told rows h.told.allowed allowed);
       }
 
-  grows_by : (w : Bool) → wakes ≡ w → length b.told + length rows ≤ 65536 → count_of (λ r. same_dev dev r.dev) b.told + length rows ≤ 4096
-      → All (λ r. is_allowed_answer r (find_device b.devices r.dev) ≡ true) rows → IsBoard (after w)
+  grows_by : (w : Bool) → wakes ≡ w → length b.told + length rows ≤ 65536 → count_of (λ (r : ToldRow). same_dev dev r.dev) b.told + length rows ≤ 4096
+      → All (λ (r : ToldRow). is_allowed_answer r (find_device b.devices r.dev) ≡ true) rows → IsBoard (after w)
   grows_by w is few room allowed = record {
     some_cpu = h.some_cpu;
     few_cpus = h.few_cpus;
@@ -370,8 +388,8 @@ module _ (b : BoardSeen) (h : IsBoard b) (dev : DevNo) (rows : List ToldRow) (of
   }
 
 -- the board keeps its rules, if there is room for the answers and the device may give each
-pub grows_answers : (b : BoardSeen) (dev : DevNo) (rows : List ToldRow) → IsBoard b → All (λ r. r.dev ≡ dev) rows
+pub grows_answers : (b : BoardSeen) (dev : DevNo) (rows : List ToldRow) → IsBoard b → All (λ (r : ToldRow). r.dev ≡ dev) rows
     → is_told_one (find_device b.devices dev) ≡ true
-    → length b.told + length rows ≤ 65536 → count_of (λ r. same_dev dev r.dev) b.told + length rows ≤ 4096
-    → All (λ r. is_allowed_answer r (find_device b.devices r.dev) ≡ true) rows → IsBoard (with_answers dev rows b)
+    → length b.told + length rows ≤ 65536 → count_of (λ (r : ToldRow). same_dev dev r.dev) b.told + length rows ≤ 4096
+    → All (λ (r : ToldRow). is_allowed_answer r (find_device b.devices r.dev) ≡ true) rows → IsBoard (with_answers dev rows b)
 grows_answers b dev rows h of told few room allowed = grows_by b h dev rows of told (list_any (answers_wake dev) rows) refl few room allowed

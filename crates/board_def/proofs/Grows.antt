@@ -3,8 +3,7 @@ use Rattle.std.proofs.Common.{◌≡◌, ℕ, ◌+◌, ◌*◌, ◌<◌, ◌≤�
 use Rattle.std.proofs.Common.{IfSome, Option, Some, None, List, [], ◌∷◌, ◌++◌, length, take, All, refl, sym, ap, subst, ◌∙◌}
 use Rattle.std.proofs.Common.{arith}
 use Rattle.std.specs.List.{list_any}
-use Rattle.std.proofs.lemmas.Bool.{or_left}
-use Rattle.std.proofs.lemmas.Bool.Decides.{nat_tests}
+use Rattle.std.proofs.lemmas.Bool.{or_left, and_parts}
 use Rattle.std.proofs.lemmas.List.{length_push}
 use Rattle.std.proofs.lemmas.List.Elements.{All-nil, All-cons, All-append}
 use Rattle.std.proofs.lemmas.List.Folds.{list_any-append}
@@ -40,6 +39,7 @@ use Rattle.board_def.specs.declared.rows.RunCall.{RunCall}
 use Rattle.board_def.specs.declared.rows.ScriptCall.{ScriptCall}
 use Rattle.board_def.specs.declared.rows.ToldRow.{ToldRow}
 use Rattle.domain_rules.proofs.EachAfters.{each_more}
+use Rattle.board_def.proofs.Threads.{same_device}
 
 -- what one condition gives, each item
 pub each_from : {A : Type 0} (P Q : List A → A → Type 0) → ((earlier : List A) (x : A) → P earlier x → Q earlier x)
@@ -48,6 +48,9 @@ each_from P Q from xs each i x at = from (take i xs) x (each i x at)
 
 pub all_from : {A : Type 0} (P Q : A → Type 0) → ((x : A) → P x → Q x) → (xs : List A) → All P xs → All Q xs
 all_from P Q from xs all k d h = from _ (all k d h)
+
+pub all_both : {A : Type 0} (P Q R : A → Type 0) → ((x : A) → P x → Q x → R x) → (xs : List A) → All P xs → All Q xs → All R xs
+all_both P Q R from xs ps qs k d h = from _ (ps k d h) (qs k d h)
 
 -- ---- what is declared stays so
 
@@ -89,10 +92,10 @@ runs_stay : (xs : List DeviceDef) (x : DeviceDef) (runs : List RunCall) → AreR
 runs_stay xs x runs h = record {
   few = h.few;
   short = h.short;
-  allowed = all_from (λ r. is_allowed_run runs r (find_device xs r.dev) ≡ true)
-      (λ r. is_allowed_run runs r (find_device (xs ++ x ∷ []) r.dev) ≡ true)
+  allowed = all_from (λ (r : RunCall). is_allowed_run runs r (find_device xs r.dev) ≡ true)
+      (λ (r : RunCall). is_allowed_run runs r (find_device (xs ++ x ∷ []) r.dev) ≡ true)
       (λ r. test_stays (is_allowed_run runs r) refl r.dev xs x) runs h.allowed;
-  fit = all_from (λ r. fits_line xs r.line r.call ≡ true) (λ r. fits_line (xs ++ x ∷ []) r.line r.call ≡ true)
+  fit = all_from (λ (r : RunCall). fits_line xs r.line r.call ≡ true) (λ (r : RunCall). fits_line (xs ++ x ∷ []) r.line r.call ≡ true)
       (λ r. fits_stays r.line xs x r.call) runs h.fit;
 }
 
@@ -100,8 +103,8 @@ answers_stay : (xs : List DeviceDef) (x : DeviceDef) (told : List ToldRow) → A
 answers_stay xs x told h = record {
   few = h.few;
   short = h.short;
-  allowed = all_from (λ r. is_allowed_answer r (find_device xs r.dev) ≡ true)
-      (λ r. is_allowed_answer r (find_device (xs ++ x ∷ []) r.dev) ≡ true)
+  allowed = all_from (λ (r : ToldRow). is_allowed_answer r (find_device xs r.dev) ≡ true)
+      (λ (r : ToldRow). is_allowed_answer r (find_device (xs ++ x ∷ []) r.dev) ≡ true)
       (λ r. test_stays (is_allowed_answer r) refl r.dev xs x) told h.allowed;
 }
 
@@ -266,6 +269,12 @@ count_more test (y ∷ ys) x = by (test y) (test x) (count_more test ys x)
     by false true rest = omega (arith, rest)
     by false false rest = omega (arith, rest)
 
+one_part : (p q : Part) → same_part p q ≡ true → p ≡ q
+one_part parts.Primary parts.Primary h = refl
+one_part parts.Primary parts.Thread h = absurd cc
+one_part parts.Thread parts.Primary h = absurd cc
+one_part parts.Thread parts.Thread h = refl
+
 -- a script is as long as before, or has one call more than fifteen at most
 short_more : (runs : List RunCall) (c : RunCall) → ((d : DevNo) (part : Part) → count_of (is_call_of d part) runs ≤ 16)
     → count_of (is_call_of c.dev c.part) runs < 16
@@ -274,34 +283,16 @@ short_more runs c short room d part = by (is_call_of d part c) refl
   where
     by : (b : Bool) → is_call_of d part c ≡ b → count_of (is_call_of d part) (runs ++ c ∷ []) ≤ 16
     by true own =
-        let same = same_script d part c own in
-        let here : count_of (is_call_of d part) runs < 16 = subst (λ (s : DevNo × Part). count_of (is_call_of s.0 s.1) runs < 16) (sym same) room in
+        let both = and_parts (same_dev d c.dev) (same_part part c.part) own in
+        let of_dev : count_of (is_call_of d c.part) runs < 16
+        = subst (λ (e : DevNo). count_of (is_call_of e c.part) runs < 16) (sym (same_device d c.dev both.0)) room in
+        let here : count_of (is_call_of d part) runs < 16
+        = subst (λ (p : Part). count_of (is_call_of d p) runs < 16) (sym (one_part part c.part both.1)) of_dev in
         let more = count_more (is_call_of d part) runs c ∙ ap (λ b. count_of (is_call_of d part) runs + cond b 1 0) own in
         omega (arith, more, here)
     by false other =
         let more = count_more (is_call_of d part) runs c ∙ ap (λ b. count_of (is_call_of d part) runs + cond b 1 0) other in
         omega (arith, more, short d part)
-
-    same_script : (d : DevNo) (part : Part) (c : RunCall) → is_call_of d part c ≡ true → (d, part) ≡ (c.dev, c.part)
-    same_script d part c own = pair d c.dev part c.part (same_device d c.dev (both (same_dev d c.dev) (same_part part c.part) own).0)
-        (one_part part c.part (both (same_dev d c.dev) (same_part part c.part) own).1)
-
-    both : (a b : Bool) → (a && b) ≡ true → (a ≡ true) × (b ≡ true)
-    both true true h = (refl, refl)
-    both true false h = absurd cc
-    both false b h = absurd cc
-
-    pair : (a b : DevNo) (p q : Part) → a ≡ b → p ≡ q → (a, p) ≡ (b, q)
-    pair a b p q e f = cc
-
-    one_part : (p q : Part) → same_part p q ≡ true → p ≡ q
-    one_part parts.Primary parts.Primary h = refl
-    one_part parts.Primary parts.Thread h = absurd cc
-    one_part parts.Thread parts.Primary h = absurd cc
-    one_part parts.Thread parts.Thread h = refl
-
-    same_device : (d e : DevNo) → same_dev d e ≡ true → d ≡ e
-    same_device d e h = let of : ℕ → DevNo = λ n. record { 0 = n } in let n : d.0 ≡ e.0 = grind (arith, nat_tests) in ap of n
 
 -- the call doesn't wake the row's device, or that isn't told, or the row isn't an arm of its own
 abbrev pub IsApart : List DeviceDef → RunCall → RunCall → Type 0
@@ -320,7 +311,13 @@ still_allowed runs c r (Some x) apart h =
   where
     kept : (l m t a w n : Bool) → (t && (n && a)) ≡ false → (l && (m && not (t && (a && w)))) ≡ true
         → (l && (m && not (t && (a && (w || (n || false)))))) ≡ true
-    kept l m t a w n apart h = grind arith
+    kept false m t a w n apart h = absurd cc
+    kept true false t a w n apart h = absurd cc
+    kept true true false a w n apart h = refl
+    kept true true true false w n apart h = refl
+    kept true true true true true n apart h = absurd cc
+    kept true true true true false true apart h = absurd cc
+    kept true true true true false false apart h = refl
 
 pub grows_run : (b : BoardSeen) (c : RunCall) → IsBoard b → length b.runs < 256
     → count_of (is_call_of c.dev c.part) b.runs < 16
@@ -336,7 +333,8 @@ grows_run b c h few short allowed fits apart =
     (record {
       few = omega (arith, length_push b.runs c);
       short = short_more b.runs c h.runs.short short;
-      allowed = λ k d within. still_allowed b.runs c _ (find_device b.devices _) (apart k d within) (before k d within);
+      allowed = all_both (IsApart b.devices c) (Allowed b.runs) (Allowed (b.runs ++ c ∷ []))
+          (λ r free was. still_allowed b.runs c r (find_device b.devices r.dev) free was) (b.runs ++ c ∷ []) apart before;
       fit = All-append Fits b.runs (c ∷ []) h.runs.fit (All-cons Fits c [] fits (All-nil Fits));
     }) h.few_picks h.picks
 

@@ -68,17 +68,17 @@ script_count d part (r ∷ rs) = by (is_call_of d part r) (script_count d part r
 
 -- and the answers of both parts are those of the device
 answers_count : (d : DevNo) (told : List ToldRow)
-    → length (told_in (map of_told told) d parts.Primary) + length (told_in (map of_told told) d parts.Thread) ≡ count_of (λ r. same_dev d r.dev) told
+    → length (told_in (map of_told told) d parts.Primary) + length (told_in (map of_told told) d parts.Thread) ≡ count_of (λ (r : ToldRow). same_dev d r.dev) told
 answers_count d [] = refl
 answers_count d (r ∷ rs) = by (same_dev d r.dev) r.part (answers_count d rs)
   where
-    abbrev one : Part → List ToldAnswer
+    one : Part → List ToldAnswer
     one part = told_in (map of_told rs) d part
 
-    by : (t : Bool) (p : Part) → length (one parts.Primary) + length (one parts.Thread) ≡ count_of (λ r. same_dev d r.dev) rs
+    by : (t : Bool) (p : Part) → length (one parts.Primary) + length (one parts.Thread) ≡ count_of (λ (r : ToldRow). same_dev d r.dev) rs
         → length (cond (t && same_part parts.Primary p) (r.answer ∷ one parts.Primary) (one parts.Primary))
         + length (cond (t && same_part parts.Thread p) (r.answer ∷ one parts.Thread) (one parts.Thread))
-        ≡ cond t (count_of (λ r. same_dev d r.dev) rs + 1) (count_of (λ r. same_dev d r.dev) rs)
+        ≡ cond t (count_of (λ (r : ToldRow). same_dev d r.dev) rs + 1) (count_of (λ (r : ToldRow). same_dev d r.dev) rs)
     by true parts.Primary rest = omega (arith, rest)
     by true parts.Thread rest = omega (arith, rest)
     by false p rest = rest
@@ -97,7 +97,7 @@ kind_found : (line : LineNo) (d : DevNo) (xs : List DeviceDef) (x : DeviceDef) �
 kind_found line d [] x found own = absurd cc
 kind_found line d (y ∷ ys) x found own = by (same_dev d y.dev) refl (y.line.0 == line.0) refl found (λ f. kind_found line d ys x f own)
   where
-    abbrev kept : List DeviceDef
+    kept : List DeviceDef
     kept = filter (λ z. z.line.0 == line.0) ys
 
     by : (b : Bool) → same_dev d y.dev ≡ b → (k : Bool) → (y.line.0 == line.0) ≡ k → cond b (Some y) (find_device ys d) ≡ Some x
@@ -124,7 +124,7 @@ told_at : (line : LineNo) (d : DevNo) (xs : List DeviceDef) (t : Bool) → kind_
 told_at line d [] t h = absurd cc
 told_at line d (y ∷ ys) t h = by (y.line.0 == line.0) refl h (told_at line d ys t)
   where
-    abbrev kept : List DeviceDef
+    kept : List DeviceDef
     kept = filter (λ z. z.line.0 == line.0) ys
 
     later : ToldAt line d ys t → ToldAt line d (y ∷ ys) t
@@ -142,6 +142,12 @@ told_at line d (y ∷ ys) t h = by (y.line.0 == line.0) refl h (told_at line d y
 
 -- ---- rows
 
+-- what a call of a run is in a line's definition
+record IsOfRun (def : LineDef) (c : DevNo × Part × Call) : Type 0 where
+  device : has_device def c.0 ≡ true
+  script : has_script (kind_of def c.0) c.1 ≡ true
+  stands : may_stand (kind_of def c.0) c.1 c.0 c.2 ≡ true
+
 module _ (b : BoardSeen) (h : IsBoard b) (row : LineRow) where
   abbrev def : LineDef
   def = line_of_row b row
@@ -152,16 +158,10 @@ module _ (b : BoardSeen) (h : IsBoard b) (row : LineRow) where
   abbrev keep_told : ToldRow → Bool
   keep_told r = r.line.0 == row.line.0
 
-  -- what a row of a call says of the line's definition
-  record OfRun (c : DevNo × Part × Call) : Type 0 where
-    device : has_device def c.0 ≡ true
-    script : has_script (kind_of def c.0) c.1 ≡ true
-    stands : may_stand (kind_of def c.0) c.1 c.0 c.2 ≡ true
-
   on_line : {l m : LineNo} → (l.0 == m.0) ≡ true → (m.0 == row.line.0) ≡ true → (l.0 == row.line.0) ≡ true
   on_line {l} {m} e f = grind (arith, nat_tests)
 
-  run_of : (r : RunCall) (o : Option DeviceDef) → find_device b.devices r.dev ≡ o → is_allowed_run b.runs r o ≡ true → keep_run r ≡ true → OfRun (of_run r)
+  run_of : (r : RunCall) (o : Option DeviceDef) → find_device b.devices r.dev ≡ o → is_allowed_run b.runs r o ≡ true → keep_run r ≡ true → IsOfRun def (of_run r)
   run_of r None found allowed kept = absurd cc
   run_of r (Some x) found allowed kept =
       let first = on_its_line (x.line.0 == r.line.0) _ allowed in
@@ -209,10 +209,10 @@ module _ (b : BoardSeen) (h : IsBoard b) (row : LineRow) where
   each_item P (y ∷ ys) all zero x at = let same : y ≡ x = cc in subst P same (All-head P y ys all)
   each_item P (y ∷ ys) all (suc i) x at = each_item P ys (All-tail P y ys all) i x at
 
-  all_runs : All OfRun def.runs
-  all_runs = all_kept keep_run of_run (λ r. is_allowed_run b.runs r (find_device b.devices r.dev) ≡ true) OfRun
+  all_runs : All (IsOfRun def) def.runs
+  all_runs = all_kept keep_run of_run (λ (r : RunCall). is_allowed_run b.runs r (find_device b.devices r.dev) ≡ true) (IsOfRun def)
       (λ r allowed kept. run_of r (find_device b.devices r.dev) refl allowed kept) b.runs
-      (each_item (λ r. is_allowed_run b.runs r (find_device b.devices r.dev) ≡ true) b.runs h.runs.allowed)
+      (each_item (λ (r : RunCall). is_allowed_run b.runs r (find_device b.devices r.dev) ≡ true) b.runs h.runs.allowed)
 
   -- ---- a told device that a handler wakes by a call doesn't arm
 
@@ -252,14 +252,14 @@ module _ (b : BoardSeen) (h : IsBoard b) (row : LineRow) where
       taken true true a false e f g h = absurd cc
 
   none_armed : (d : DevNo) → is_told (kind_of def d) ≡ true → list_any (wakes_by_call d) b.runs ≡ true → (rs : List RunCall)
-      → All (λ r. is_allowed_run b.runs r (find_device b.devices r.dev) ≡ true) rs
+      → All (λ (r : RunCall). is_allowed_run b.runs r (find_device b.devices r.dev) ≡ true) rs
       → list_any (arms_this d) (script_in (map of_run (filter keep_run rs)) d parts.Thread) ≡ false
   none_armed d told woken [] all = refl
   none_armed d told woken (r ∷ rs) all =
       let Allowed : RunCall → Type 0 = λ r. is_allowed_run b.runs r (find_device b.devices r.dev) ≡ true in
       by (keep_run r) refl (is_call_of d parts.Thread r) refl (All-head Allowed r rs all) (none_armed d told woken rs (All-tail Allowed r rs all))
     where
-      abbrev rest_of : List Call
+      rest_of : List Call
       rest_of = script_in (map of_run (filter keep_run rs)) d parts.Thread
 
       by : (k : Bool) → keep_run r ≡ k → (c : Bool) → is_call_of d parts.Thread r ≡ c → is_allowed_run b.runs r (find_device b.devices r.dev) ≡ true
@@ -275,7 +275,7 @@ module _ (b : BoardSeen) (h : IsBoard b) (row : LineRow) where
 
   -- the answers that wake, of the line and of the board
   wakes_kept : (d : DevNo) (x : DeviceDef) → find_device b.devices d ≡ Some x → (x.line.0 == row.line.0) ≡ true → (rs : List ToldRow)
-      → All (λ r. is_allowed_answer r (find_device b.devices r.dev) ≡ true) rs
+      → All (λ (r : ToldRow). is_allowed_answer r (find_device b.devices r.dev) ≡ true) rs
       → list_any is_wake_word (told_in (map of_told (filter keep_told rs)) d parts.Primary) ≡ list_any (answers_wake d) rs
   wakes_kept d x found on [] all = refl
   wakes_kept d x found on (r ∷ rs) all =
@@ -283,7 +283,7 @@ module _ (b : BoardSeen) (h : IsBoard b) (row : LineRow) where
       by (same_dev d r.dev && same_part parts.Primary r.part) refl (keep_told r) refl (All-head Allowed r rs all)
       (wakes_kept d x found on rs (All-tail Allowed r rs all))
     where
-      abbrev rest_of : List ToldAnswer
+      rest_of : List ToldAnswer
       rest_of = told_in (map of_told (filter keep_told rs)) d parts.Primary
 
       its_line : same_dev d r.dev ≡ true → is_allowed_answer r (find_device b.devices r.dev) ≡ true → keep_told r ≡ true
@@ -336,16 +336,16 @@ module _ (b : BoardSeen) (h : IsBoard b) (row : LineRow) where
     devices = λ k d within. (all_runs k d within).device;
     scripts = λ k d within. (all_runs k d within).script;
     stand = λ k d within. (all_runs k d within).stands;
-    named = all_kept keep_run of_run (λ r. fits_line b.devices r.line r.call ≡ true) (λ c. names_own_device def c.2 ≡ true)
-        (λ r fits kept. moved r.call kept fits) b.runs (each_item (λ r. fits_line b.devices r.line r.call ≡ true) b.runs h.runs.fit);
-    named_by_drivers = all_kept (λ c. c.line.0 == row.line.0) with_driver (λ (c : ScriptCall). fits_line b.devices c.line c.call ≡ true)
+    named = all_kept keep_run of_run (λ (r : RunCall). fits_line b.devices r.line r.call ≡ true) (λ (c : DevNo × Part × Call). names_own_device def c.2 ≡ true)
+        (λ r fits kept. moved r.call kept fits) b.runs (each_item (λ (r : RunCall). fits_line b.devices r.line r.call ≡ true) b.runs h.runs.fit);
+    named_by_drivers = all_kept (λ (c : ScriptCall). c.line.0 == row.line.0) with_driver (λ (c : ScriptCall). fits_line b.devices c.line c.call ≡ true)
         (λ (c : DriverNo × Call). names_own_device def c.1 ≡ true) (λ c fits kept. moved c.call kept fits) b.calls
         (λ i c at. (h.calls i c at).device);
     told_arms = λ d told woken. none_armed d told (any_kept (wakes_by_handler d) of_run keep_run b.runs woken) b.runs h.runs.allowed;
-    answers = all_kept keep_told of_told (λ r. is_allowed_answer r (find_device b.devices r.dev) ≡ true)
-        (λ c. may_answer (kind_of def c.0) c.1 c.2 ≡ true)
+    answers = all_kept keep_told of_told (λ (r : ToldRow). is_allowed_answer r (find_device b.devices r.dev) ≡ true)
+        (λ (c : DevNo × Part × ToldAnswer). may_answer (kind_of def c.0) c.1 c.2 ≡ true)
         (λ r allowed kept. answer_of r (find_device b.devices r.dev) refl allowed kept) b.told
-        (each_item (λ r. is_allowed_answer r (find_device b.devices r.dev) ≡ true) b.told h.told.allowed);
+        (each_item (λ (r : ToldRow). is_allowed_answer r (find_device b.devices r.dev) ≡ true) b.told h.told.allowed);
     threads = λ d. its_thread d (kind_of def d) refl;
   }
 

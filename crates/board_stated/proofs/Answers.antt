@@ -23,6 +23,7 @@ use Rattle.board_def.specs.Runs.{is_told_one, is_allowed_answer}
 use Rattle.board_def.specs.Seen.{BoardSeen}
 use Rattle.board_def.specs.declared.rows.ToldRow.{ToldRow}
 use Rattle.board_def.proofs.Answering.{grows_answers}
+use Rattle.board_def.proofs.Grows.{all_from}
 use Rattle.board_words.specs.declared.statements.AnswerWord.{AnswerWord}
 use Rattle.board_words.specs.declared.statements.Statement.TheVariants as statements
 use Rattle.board_stated.specs.FaultsAfter.{has_no_part, cannot_answer, count_of_answers, has_no_room_for, is_not_there, has_bad_run, is_one_too_many}
@@ -33,11 +34,11 @@ use Rattle.board_stated.specs.declared.writers.Writer.{Writer}
 -- ---- what holds of each answer of the words
 
 each_told : (P : ToldRow → Type 0) (line : LineNo) (dev : DevNo) (part : Part) (answers : List AnswerWord)
-    → All (λ a. P (record { line = line; dev = dev; part = part; answer = a.answer })) answers
+    → All (λ (a : AnswerWord). P (record { line = line; dev = dev; part = part; answer = a.answer })) answers
     → All P (flat_map (answers_told line dev part) answers)
 each_told P line dev part [] all = All-nil P
 each_told P line dev part (a ∷ answers) all =
-    let Q : AnswerWord → Type 0 = λ a. P (record { line = line; dev = dev; part = part; answer = a.answer }) in
+    let Q : AnswerWord → Type 0 = λ (a : AnswerWord). P (record { line = line; dev = dev; part = part; answer = a.answer }) in
     All-append P (answers_told line dev part a) (flat_map (answers_told line dev part) answers)
     (All-replicate P a.times (record { line = line; dev = dev; part = part; answer = a.answer }) (All-head Q a answers all))
     (each_told P line dev part answers (All-tail Q a answers all))
@@ -79,9 +80,12 @@ row_may (Some x) dev part a told there h =
     same_part parts.Thread h = h
 
 rows_may : (o : Option DeviceDef) (dev : DevNo) (part : Part) (answers : List AnswerWord) → is_told_one o ≡ true → cannot_answer part o ≡ false
-    → All (λ a. may_answer (kinds.Told true) part a.answer ≡ true) answers
-    → All (λ a. is_allowed_answer (record { line = line_or_none o; dev = dev; part = part; answer = a.answer }) o ≡ true) answers
-rows_may o dev part answers told there all k d within = row_may o dev part _ told there (all k d within)
+    → All (λ (a : AnswerWord). may_answer (kinds.Told true) part a.answer ≡ true) answers
+    → All (λ (a : AnswerWord). is_allowed_answer (record { line = line_or_none o; dev = dev; part = part; answer = a.answer }) o ≡ true) answers
+rows_may o dev part answers told there =
+    all_from (λ (a : AnswerWord). may_answer (kinds.Told true) part a.answer ≡ true)
+    (λ (a : AnswerWord). is_allowed_answer (record { line = line_or_none o; dev = dev; part = part; answer = a.answer }) o ≡ true)
+    (λ a h. row_may o dev part a.answer told there h) answers
 
 -- ---- more
 
@@ -97,12 +101,12 @@ answers_kept writer b dev part answers board formed there run room =
     let told = not-false (is_told_one (find_device b.devices dev)) run in
     let count = count_told line dev part answers in
     let few = or_parts (nat_lt 65536 (length b.told + count_of_answers answers))
-    (nat_lt 4096 (count_of (λ r. same_dev dev r.dev) b.told + count_of_answers answers)) room in
+    (nat_lt 4096 (count_of (λ (r : ToldRow). same_dev dev r.dev) b.told + count_of_answers answers)) room in
     let all = ltb-false 65536 (length b.told + count_of_answers answers) few.0 in
-    let own = ltb-false 4096 (count_of (λ r. same_dev dev r.dev) b.told + count_of_answers answers) few.1 in
+    let own = ltb-false 4096 (count_of (λ (r : ToldRow). same_dev dev r.dev) b.told + count_of_answers answers) few.1 in
     grows_answers b dev rows board
-    (each_told (λ r. r.dev ≡ dev) line dev part answers (λ k d within. refl)) told
+    (each_told (λ (r : ToldRow). r.dev ≡ dev) line dev part answers (λ k d within. refl)) told
     (subst (λ n. length b.told + n ≤ 65536) (sym count) all)
-    (subst (λ n. count_of (λ r. same_dev dev r.dev) b.told + n ≤ 4096) (sym count) own)
-    (each_told (λ r. is_allowed_answer r (find_device b.devices r.dev) ≡ true) line dev part answers
+    (subst (λ n. count_of (λ (r : ToldRow). same_dev dev r.dev) b.told + n ≤ 4096) (sym count) own)
+    (each_told (λ (r : ToldRow). is_allowed_answer r (find_device b.devices r.dev) ≡ true) line dev part answers
     (rows_may (find_device b.devices dev) dev part answers told there formed))

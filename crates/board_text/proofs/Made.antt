@@ -1,5 +1,5 @@
 -- A call of the script that is written, and what is wrong with it.
-use Rattle.std.proofs.Common.{◌≡◌, ℕ, Bool, false, cond, nat_lt, nat_le, ◌||◌, Option, Some, None, List, length, refl, sym, ap, subst, ◌∙◌, arith}
+use Rattle.std.proofs.Common.{◌≡◌, ℕ, Bool, true, false, not, cond, nat_lt, nat_le, ◌||◌, Option, Some, None, List, [], ◌∷◌, ◌++◌, length, refl, sym, ap, subst, ◌∙◌, arith}
 use Rattle.std.proofs.lemmas.Bool.Decides.{nat_tests}
 use Rattle.irq_base.specs.declared.devices.Part.{Part}
 use Rattle.irq_base.specs.declared.numbers.DevNo.{DevNo}
@@ -7,7 +7,7 @@ use Rattle.board_def.specs.Rules.{IsBoard, is_bad_owner}
 use Rattle.board_def.specs.Seen.{BoardSeen}
 use Rattle.board_def.specs.declared.rows.RunCall.{RunCall}
 use Rattle.board_def.specs.declared.rows.ScriptCall.{ScriptCall}
-use Rattle.board_stated.specs.FaultsAfter.{is_nobody, is_out_of_turn, has_flag_twice, names_nothing, has_bad_owner, may_not_call, has_bad_run}
+use Rattle.board_stated.specs.FaultsAfter.{is_empty, is_nobody, is_out_of_turn, has_flag_twice, names_nothing, has_bad_owner, may_not_call, has_bad_run}
 use Rattle.board_stated.specs.FaultsAfter.{has_no_room_to_call, fault_after}
 use Rattle.board_stated.specs.Sections.{section_reached, writer_of, turn_after, turn_reached}
 use Rattle.board_stated.specs.Sound.{draft_of}
@@ -19,10 +19,13 @@ use Rattle.board_words.specs.declared.faults.FaultKind.TheVariants as faults
 use Rattle.board_words.specs.declared.statements.CallWords.{CallWords}
 use Rattle.board_words.specs.declared.statements.Statement.{Statement}
 use Rattle.board_words.specs.declared.statements.Statement.TheVariants as statements
-use Rattle.board_text.specs.Kept.{drafted, with_driver_call, with_run_call, Agrees, Keeps, IsNext, IsNoCall}
+use Rattle.board_text.specs.Kept.{place_of, stood_after, drafted, with_driver_call, with_run_call, Agrees, Keeps, IsNext, IsNoCall}
+use Rattle.board_text.specs.Owned.{Owns}
+use Rattle.board_text.specs.declared.owners.Owner.{Owner}
 use Rattle.board_text.specs.declared.reader.Reader.{Reader}
+use Rattle.board_text.specs.declared.stood.Stood.{Stood}
 use Rattle.board_text.proofs.Drafts.{names_same}
-use Rattle.board_text.proofs.OneMore.{next_is_board}
+use Rattle.board_text.proofs.OneMore.{next_is_board, agrees_more, owns_read}
 
 -- the fault of a call, by whether it is late, whose script it is of, and whether it names nothing
 abbrev fault_by : Bool → Writer → Bool → BoardSeen → CallWords → Option FaultKind
@@ -116,3 +119,35 @@ calls_stay writer b _ other = refl
 pub turn_of : (past : List Statement) (s : Statement) → IsNoCall s → is_out_of_turn past s ≡ nat_lt (turn_after (turn_reached past) s) (turn_reached past)
 turn_of past (statements.Call c) other = absurd (other c refl)
 turn_of past _ other = refl
+
+-- ---- the reader with a call more
+
+stood_called : (past : List Statement) (words : CallWords) (s : Stood) → s ≡ stood_after past
+    → record s { begun = true } ≡ stood_after (statements.Call words ∷ past)
+stood_called past words s is =
+    let some : is_empty (statements.Call words ∷ past) ≡ false = grind arith in
+    ap (λ (t : Stood). record t { begun = true }) is ∙ ap (λ b. record (stood_after past) { begun = not b }) (sym some)
+
+pub call_agrees : (past : List Statement) (r q : Reader) (words : CallWords) (call : ScriptCall) → Agrees past r → r.writer ≡ writers.Driver
+    → call ≡ script_call (board_of past) words → q.board ≡ with_driver_call call r.board → q.log ≡ r.log → q.section ≡ r.section
+    → q.writer ≡ r.writer → q.turn ≡ r.turn → q.stood ≡ record r.stood { begun = true } → Owns q.owners (r.board.calls ++ call ∷ [])
+    → Agrees (statements.Call words ∷ past) q
+call_agrees past r q words call h writer is board log section same turn stood owners =
+    let own : call ≡ script_call r.board words = is ∙ sym (made_read past r words h) in
+    agrees_more past r q (statements.Call words) h
+    (board ∙ (ap (λ c. with_driver_call c r.board) own ∙ ap (λ w. drafted w (statements.Call words) r.board) (sym writer)))
+    log (ap place_of section) same turn (stood ∙ stood_called past words r.stood h.stood)
+    (subst (λ w. Owns q.owners (with_statement w (statements.Call words) r.board).calls) (sym writer)
+    (subst (λ c. Owns q.owners (r.board.calls ++ c ∷ [])) own owners))
+
+pub run_agrees : (past : List Statement) (r q : Reader) (dev : DevNo) (part : Part) (words : CallWords) (call : RunCall) → Agrees past r
+    → r.writer ≡ writers.Runs dev part → call ≡ run_call (board_of past) dev part words → q.board ≡ with_run_call call r.board
+    → q.log ≡ r.log → q.section ≡ r.section → q.writer ≡ r.writer → q.turn ≡ r.turn → q.stood ≡ record r.stood { begun = true }
+    → q.owners ≡ r.owners → Agrees (statements.Call words ∷ past) q
+run_agrees past r q dev part words call h writer is board log section same turn stood owners =
+    let own : call ≡ run_call r.board dev part words = is ∙ sym (run_made_read past r dev part words h) in
+    agrees_more past r q (statements.Call words) h
+    (board ∙ (ap (λ c. with_run_call c r.board) own ∙ ap (λ w. drafted w (statements.Call words) r.board) (sym writer)))
+    log (ap place_of section) same turn (stood ∙ stood_called past words r.stood h.stood)
+    (subst (λ w. Owns q.owners (with_statement w (statements.Call words) r.board).calls) (sym writer)
+    (subst (λ (o : List (DevNo × Owner)). Owns o r.board.calls) (sym owners) (owns_read past r h)))
