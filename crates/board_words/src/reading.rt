@@ -139,6 +139,6 @@ fn read_answers(alloc: Global, words: Words<'_>) -> Result<Statement, StatementR
     };
     match places.give(()) {
         Ok(()) => Ok(Statement::Answers { dev, part, answers }),
-        Err(kind) => Err(StatementRefused::Fault(kind)),
+        Err(wrong) => Err(StatementRefused::Fault(wrong)),
     }
 }
