@@ -128,14 +128,15 @@ drivers_stay writers.Driver c b = refl
 drivers_stay (writers.Runs dev part) c b = refl
 
 some_last : (drivers : List DriverNo) (driver : DriverNo) → is_empty (drivers ++ driver ∷ []) ≡ false
-some_last [] driver = refl
+some_last [] driver = grind arith
 some_last (d ∷ ds) driver = grind arith
 
 -- a driver is declared
 pub driver_declared : (past : List Statement) → writer_of past ≡ writers.Driver → is_empty (board_of past).drivers ≡ false
 driver_declared [] is = absurd cc
 driver_declared (statements.Driver driver ∷ past) is = some_last (board_of past).drivers driver
-driver_declared (statements.Call c ∷ past) is = ap is_empty (drivers_stay (writer_of past) c (board_of past)) ∙ driver_declared past is
+driver_declared (statements.Call c ∷ past) is =
+    ap (λ (ds : List DriverNo). is_empty ds) (drivers_stay (writer_of past) c (board_of past)) ∙ driver_declared past is
 driver_declared (statements.Board version ∷ past) is = absurd cc
 driver_declared (statements.Cpus cpus ∷ past) is = absurd cc
 driver_declared (statements.Spurious window limit ∷ past) is = absurd cc

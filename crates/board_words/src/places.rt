@@ -309,13 +309,14 @@ impl<'a> Places<'a> {
         ensures words { words_left self.new.words ≡ said.after_part (words_left self.old.words) }
     {
         let mut rest = self.words;
-        match rest.next() {
-            Some(word) if is(word, b"thread") => {
-                self.words = rest;
-                Part::Thread
-            }
-            _ => Part::Primary,
+        let Some(word) = rest.next() else {
+            return Part::Primary;
+        };
+        if is(word, b"thread") {
+            self.words = rest;
+            return Part::Thread;
         }
+        Part::Primary
     }
 
     /// One or more answers of the part, to the end.
