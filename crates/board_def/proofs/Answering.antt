@@ -182,7 +182,7 @@ none_of_others dev d (r ∷ rows) other of =
     ∙ none_of_others dev d rows other (All-tail (λ (r : ToldRow). r.dev ≡ dev) r rows of)
 
 count_both : {A : Type 0} (test : A → Bool) (xs ys : List A) → count_of test (xs ++ ys) ≡ count_of test xs + count_of test ys
-count_both test [] ys = refl
+count_both test [] ys = omega arith
 count_both test (x ∷ xs) ys = by (test x) (count_both test xs ys)
   where
     by : (b : Bool) → count_of test (xs ++ ys) ≡ count_of test xs + count_of test ys
@@ -300,7 +300,7 @@ module _ (b : BoardSeen) (h : IsBoard b) (dev : DevNo) (rows : List ToldRow) (of
       by false = refl
 
   all_changed : (w : Bool) (n : ℕ) (xs : List DeviceDef) → All (λ (e : DeviceDef). e.dev.0 < n) xs → All (λ (e : DeviceDef). e.dev.0 < n) (map (change w) xs)
-  all_changed w n [] all = λ k d p. absurd (omega (arith, p))
+  all_changed w n [] all k d p = absurd (omega (arith, p))
   all_changed w n (x ∷ xs) all zero d p =
       subst (λ (e : DevNo). e.0 < n) (sym (same_dev_of w x)) (All-head (λ (e : DeviceDef). e.dev.0 < n) x xs all)
   all_changed w n (x ∷ xs) all (suc k) d p = all_changed w n xs (All-tail (λ (e : DeviceDef). e.dev.0 < n) x xs all) k d (omega (arith, p))

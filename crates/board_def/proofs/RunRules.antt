@@ -158,8 +158,8 @@ module _ (b : BoardSeen) (h : IsBoard b) (row : LineRow) where
   abbrev keep_told : ToldRow → Bool
   keep_told r = r.line.0 == row.line.0
 
-  on_line : {l m : LineNo} → (l.0 == m.0) ≡ true → (m.0 == row.line.0) ≡ true → (l.0 == row.line.0) ≡ true
-  on_line {l} {m} e f = grind (arith, nat_tests)
+  on_line : (l m : LineNo) → (l.0 == m.0) ≡ true → (m.0 == row.line.0) ≡ true → (l.0 == row.line.0) ≡ true
+  on_line l m e f = grind (arith, nat_tests)
 
   run_of : (r : RunCall) (o : Option DeviceDef) → find_device b.devices r.dev ≡ o → is_allowed_run b.runs r o ≡ true → keep_run r ≡ true → IsOfRun def (of_run r)
   run_of r None found allowed kept = absurd cc
@@ -168,7 +168,7 @@ module _ (b : BoardSeen) (h : IsBoard b) (row : LineRow) where
       let second = on_its_line (may_call x.kind r.part r.dev r.call) _ first.1 in
       let third = on_its_line (has_script x.kind r.part) _ second.0 in
       let fourth = on_its_line (may_stand x.kind r.part r.dev r.call) (not (may_wait r.call)) third.1 in
-      let own : (x.line.0 == row.line.0) ≡ true = on_line {x.line} {r.line} first.0 kept in
+      let own : (x.line.0 == row.line.0) ≡ true = on_line x.line r.line first.0 kept in
       let kind : kind_of def r.dev ≡ x.kind = kind_found row.line r.dev b.devices x found own in
       record {
         device = among row.line r.dev b.devices (ap (is_on_line row.line) found ∙ own);
@@ -181,7 +181,7 @@ module _ (b : BoardSeen) (h : IsBoard b) (row : LineRow) where
   answer_of r None found allowed kept = absurd cc
   answer_of r (Some x) found allowed kept =
       let first = on_its_line (x.line.0 == r.line.0) _ allowed in
-      let own : (x.line.0 == row.line.0) ≡ true = on_line {x.line} {r.line} first.0 kept in
+      let own : (x.line.0 == row.line.0) ≡ true = on_line x.line r.line first.0 kept in
       ap (λ k. may_answer k r.part r.answer) (kind_found row.line r.dev b.devices x found own) ∙ first.1
 
   named_on : (call : Call) → fits_line b.devices row.line call ≡ true → names_own_device def call ≡ true
@@ -201,8 +201,8 @@ module _ (b : BoardSeen) (h : IsBoard b) (row : LineRow) where
   named_on calls.SyncHard fits = refl
   named_on calls.DisableHard fits = refl
 
-  moved : {line : LineNo} (call : Call) → (line.0 == row.line.0) ≡ true → fits_line b.devices line call ≡ true → names_own_device def call ≡ true
-  moved {line} call kept fits = named_on call (subst (λ (l : LineNo). fits_line b.devices l call ≡ true) (same_line line row.line kept) fits)
+  moved : (line : LineNo) (call : Call) → (line.0 == row.line.0) ≡ true → fits_line b.devices line call ≡ true → names_own_device def call ≡ true
+  moved line call kept fits = named_on call (subst (λ (l : LineNo). fits_line b.devices l call ≡ true) (same_line line row.line kept) fits)
 
   each_item : {A : Type 0} (P : A → Type 0) (xs : List A) → All P xs → (i : ℕ) (x : A) → slice_get xs i ≡ Some x → P x
   each_item P [] all i x at = absurd cc
@@ -236,7 +236,7 @@ module _ (b : BoardSeen) (h : IsBoard b) (row : LineRow) where
       let same : d ≡ r.dev = same_device d r.dev (on_its_line (same_dev d r.dev) (same_part parts.Thread r.part) own).0 in
       let first = on_its_line (x.line.0 == r.line.0) _ allowed in
       let second = on_its_line (may_call x.kind r.part r.dev r.call) _ first.1 in
-      let on : (x.line.0 == row.line.0) ≡ true = on_line {x.line} {r.line} first.0 kept in
+      let on : (x.line.0 == row.line.0) ≡ true = on_line x.line r.line first.0 kept in
       let kind : is_told x.kind ≡ true = sym (ap is_told (kind_found row.line r.dev b.devices x found on))
       ∙ (ap (λ (e : DevNo). is_told (kind_of def e)) (sym same) ∙ told) in
       let woken_so : list_any (wakes_by_call r.dev) b.runs ≡ true = ap (λ (e : DevNo). list_any (wakes_by_call e) b.runs) (sym same) ∙ woken in
@@ -337,9 +337,9 @@ module _ (b : BoardSeen) (h : IsBoard b) (row : LineRow) where
     scripts = λ k d within. (all_runs k d within).script;
     stand = λ k d within. (all_runs k d within).stands;
     named = all_kept keep_run of_run (λ (r : RunCall). fits_line b.devices r.line r.call ≡ true) (λ (c : DevNo × Part × Call). names_own_device def c.2 ≡ true)
-        (λ r fits kept. moved r.call kept fits) b.runs (each_item (λ (r : RunCall). fits_line b.devices r.line r.call ≡ true) b.runs h.runs.fit);
+        (λ r fits kept. moved r.line r.call kept fits) b.runs (each_item (λ (r : RunCall). fits_line b.devices r.line r.call ≡ true) b.runs h.runs.fit);
     named_by_drivers = all_kept (λ (c : ScriptCall). c.line.0 == row.line.0) with_driver (λ (c : ScriptCall). fits_line b.devices c.line c.call ≡ true)
-        (λ (c : DriverNo × Call). names_own_device def c.1 ≡ true) (λ c fits kept. moved c.call kept fits) b.calls
+        (λ (c : DriverNo × Call). names_own_device def c.1 ≡ true) (λ c fits kept. moved c.line c.call kept fits) b.calls
         (λ i c at. (h.calls i c at).device);
     told_arms = λ d told woken. none_armed d told (any_kept (wakes_by_handler d) of_run keep_run b.runs woken) b.runs h.runs.allowed;
     answers = all_kept keep_told of_told (λ (r : ToldRow). is_allowed_answer r (find_device b.devices r.dev) ≡ true)
