@@ -11,6 +11,6 @@ loop-i-preserved c =
     elim c.match-get.branch [
       | in-Some+in_ok-add_told_times w ↦
           mapped_more (answers_told c.line_of_device-line.result c.args.dev c.args.part) answers c.loop-i.i w.in-Some.word c.loop-i.rows.items
-          c.match-get.rows.items (sym c.get.ensures ∙ w.in-Some.is) c.loop-i.invariant (cc)
+          c.match-get.rows.items (sym c.get.ensures ∙ w.in-Some.is) c.loop-i.invariant (rw w.rows-is w.in_ok-add_told_times.ensures)
       | in_default w ↦ absurd (item_there answers c.loop-i.i (sym c.get.ensures ∙ w.in_default.is) within)
     ]

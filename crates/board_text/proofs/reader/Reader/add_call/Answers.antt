@@ -1,4 +1,4 @@
-use Rattle.std.proofs.Common.{refl}
+use Rattle.std.proofs.Common.{true, refl}
 use Rattle.board_text.proofs.Made.{call_agrees}
 use Rattle.board_text.proofs.OneMore.{owns_read}
 use Rattle.board_text.proofs.reader.Reader.add_call.Goals as goal

@@ -1,4 +1,4 @@
-use Rattle.std.proofs.Common.{refl}
+use Rattle.std.proofs.Common.{true, refl}
 use Rattle.board_text.proofs.Made.{run_agrees}
 use Rattle.board_text.proofs.reader.Reader.add_run_call.Goals as goal
 
