@@ -4,6 +4,10 @@
 //! The definitions are in `specs/`. A statement is judged by the statements before it.
 #![tactic(auto)]
 
+mod writers;
+
+pub use writers::Writer;
+
 ghost use Rattle.std.specs.Prelude.{◌≡◌, ℕ, List, Ok};
 ghost use Rattle.board_def.specs.Rules.{IsBoard};
 ghost use Rattle.board_def.specs.Seen.{BoardSeen};

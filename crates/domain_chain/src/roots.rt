@@ -21,6 +21,7 @@ pub(crate) fn root_of(kind: ControllerKind) -> Cell
         ControllerKind::Level => Level::chip(),
         ControllerKind::Eoi => Eoi::chip(),
         ControllerKind::Lpi => Lpi::chip(),
+        ControllerKind::Pin => Pin::chip(),
         ControllerKind::Vector | ControllerKind::Msi | ControllerKind::Remap => {
             Cell::new(Trigger::Edge, false, false, true, false)
         }

@@ -37,6 +37,7 @@ served_by levels.Msi = refl
 served_by levels.Remap = refl
 served_by levels.Vector = refl
 served_by levels.Lpi = refl
+served_by levels.Pin = refl
 
 -- the levels from a line's domain are together the cell that its definition describes
 cell_of_row : (b : BoardSeen) (row : LineRow) → cell_of (kinds_from (defs_of b.domains) (Some row.domain)) ≡ cell_of_line (line_of_row b row)
