@@ -66,6 +66,16 @@ def crowd_threads(rounds):
     return rows
 
 
+def apart(rounds):
+    """32 level lines with a processor of its own each, and a storm on each: nothing of one line waits for another."""
+    rows = ["board 1", "cpus 32", f"spurious {rounds} {rounds - 1}", "log 125000", "domain wire linear 64 level"]
+    rows += [f"line {i} wire {i} mask {1 << (i - 1)}" for i in range(1, 33)]
+    rows += [f"device {i} {i} stuck" for i in range(1, 33)]
+    for i in range(1, 33):
+        rows += [f"driver {i}", f"request {i}", f"ask {i}"]
+    return rows
+
+
 def calls():
     """64 lines of messages whose devices have threads, and all the calls that a board may have."""
     rows = ["board 1", "cpus 32", "log 62500", "domain vector linear 64 vector", "domain msi tree msi parent vector"]
@@ -106,6 +116,7 @@ def main(folder):
         "three_storms.board": "\n".join(storms(3, 232000)) + "\n",
         "crowd.board": "\n".join(crowd(6200)) + "\n",
         "crowd_threads.board": "\n".join(crowd_threads(3100)) + "\n",
+        "apart.board": "\n".join(apart(31000)) + "\n",
         "threads.board": "\n".join(calls()) + "\n",
         "wide_storms.board": "\n".join(storms(32, 31249, 125000, True)) + "\n",
         "storm.board": "\n".join(storm()) + "\n",

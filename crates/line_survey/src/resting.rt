@@ -28,9 +28,9 @@ impl LineSearch {
         ensures left { IfOk result (λ left. (p : List Entry)
             → slice_get self.now.searched.paths place ≡ Some p → left ≡ left_of self.now.def p) }
     {
-        let Some(words) = self.searched.state(place) else {
+        let Some(words) = self.searched.state(self.alloc, place)? else {
             unreachable!();
         };
-        Ok(reader.left(&self.def, words)?)
+        Ok(reader.left(&self.def, words.as_slice())?)
     }
 }

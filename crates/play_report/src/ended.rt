@@ -109,7 +109,7 @@ fn print_ended<O: Sink, P: EndedPlay>(
     Ok(())
 }
 
-/// The result of a play that was refused memory before its first step.
+/// The result of a play that was refused memory for anything but a step.
 pub fn unplayed(alloc: Global) -> PlayedBoard
     ensures end { result.end ≡ Err PlayFailed.NoMemory }
     ensures reports { result.reports.reports ≡ [] }

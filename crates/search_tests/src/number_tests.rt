@@ -49,14 +49,20 @@ fn searched(alloc: Global, most: usize) -> Result<Searched<Step>, NoMemory>
 }
 
 /// Whether the number stands at index `place`, with a path of this length.
-fn stands(found: &Searched<Step>, place: usize, number: u32, length: usize) -> bool {
+fn stands(
+    alloc: Global,
+    found: &Searched<Step>,
+    place: usize,
+    number: u32,
+    length: usize,
+) -> Result<bool, NoMemory> {
     if place >= found.len() {
-        return false;
+        return Ok(false);
     }
-    match found.state(place) {
-        Some([word]) => *word == number && found.depth(place) == length,
-        _ => false,
-    }
+    let Some(words) = found.state(alloc, place)? else {
+        return Ok(false);
+    };
+    Ok(words.as_slice() == [number].as_slice() && found.depth(place) == length)
 }
 
 /// Whether the search found `len` states, looked at `looked` of them, and was cut at `cut`.
@@ -68,9 +74,9 @@ fn ends(found: &Searched<Step>, len: usize, looked: usize, cut: Option<usize>) -
 fn numbers_in_order(rt: HostRuntime) -> Result<(), NoMemory> {
     let found = searched(rt.alloc(), 10)?;
     for (place, row) in ORDER.iter().enumerate() {
-        assert!(rt; stands(&found, place, row.0, row.1));
+        assert!(rt; stands(rt.alloc(), &found, place, row.0, row.1)?);
     }
-    assert!(rt; found.state(10).is_none());
+    assert!(rt; found.state(rt.alloc(), 10)?.is_none());
     Ok(())
 }
 
@@ -123,7 +129,7 @@ fn one_number(rt: HostRuntime) -> Result<(), NoMemory> {
 fn wanted_numbers(rt: HostRuntime) -> Result<(), NoMemory> {
     let five = sought(rt.alloc(), 5, 10)?;
     assert!(rt; five.is_met && ends(&five.found, 8, 5, Some(3)));
-    assert!(rt; stands(&five.found, 5, 5, 3));
+    assert!(rt; stands(rt.alloc(), &five.found, 5, 5, 3)?);
     let one = sought(rt.alloc(), 1, 10)?;
     assert!(rt; one.is_met && ends(&one.found, 1, 0, Some(0)));
     let eleven = sought(rt.alloc(), 11, 10)?;

@@ -10,35 +10,46 @@ use Rattle.std.proofs.lemmas.Slice.Eq.{bytes_eq-Decides}
 use Rattle.state_search.specs.declared.states.Came.{Came}
 use Rattle.state_search.specs.Growing.{IsIn, AreRooted}
 use Rattle.state_search.specs.Paths.{states_of}
-use Rattle.state_search.specs.Rows.{rows_of}
+use Rattle.state_search.specs.Packed.{IsPacked, unpacked}
+use Rattle.state_search.specs.Rows.{rows_of, ArePacked}
+use Rattle.state_search.proofs.Bytes.{same_key}
 use Rattle.state_search.proofs.Places.{same_some, push_cases, map_at, map_from}
 
--- the key is these numbers
+-- the key is these bytes
 abbrev pub is_key : {Z : Type 0} → List ℕ → Vec ℕ Z → Bool
-is_key ws k = bytes_eq ws k.items
+is_key bytes k = bytes_eq bytes k.items
 
 abbrev pub same_row : {L : Type 0} → (a b : List ℕ × Option (Came L)) → Type 0
 same_row a b = a ≡ b
 
+-- an entry of the map, and the row that it stands for
+abbrev Entry : Type 0 → Type 0 → Type 0
+Entry L Z = Vec ℕ Z × Option (Came L)
+
+abbrev row_of : {L Z : Type 0} → Entry L Z → List ℕ × Option (Came L)
+row_of e = (unpacked e.0.items, e.1)
+
 module _ {L Z : Type 0} where
-  pub row_at : (es : List (Vec ℕ Z × Option (Came L))) (k : ℕ) (w : Vec ℕ Z) (v : Option (Came L))
-      → slice_get es k ≡ Some (w, v) → slice_get (rows_of es) k ≡ Some (w.items, v)
-  row_at es k w v at = map_at (λ (e : Vec ℕ Z × Option (Came L)). (let p : List ℕ × Option (Came L) = (e.0.items, e.1) in p)) es k (w, v) at
+  pub row_at : (es : List (Entry L Z)) (k : ℕ) (w : Vec ℕ Z) (v : Option (Came L))
+      → slice_get es k ≡ Some (w, v) → slice_get (rows_of es) k ≡ Some (unpacked w.items, v)
+  row_at es k w v at = map_at row_of es k (w, v) at
 
-  pub words_at : (es : List (Vec ℕ Z × Option (Came L))) (k : ℕ) (w : Vec ℕ Z) (v : Option (Came L))
-      → slice_get es k ≡ Some (w, v) → slice_get (states_of (rows_of es)) k ≡ Some w.items
-  words_at es k w v at = map_at (λ (e : List ℕ × Option (Came L)). e.0) (rows_of es) k (w.items, v) (row_at es k w v at)
+  pub words_at : (es : List (Entry L Z)) (k : ℕ) (w : Vec ℕ Z) (v : Option (Came L))
+      → slice_get es k ≡ Some (w, v) → slice_get (states_of (rows_of es)) k ≡ Some (unpacked w.items)
+  words_at es k w v at =
+      map_at (λ (e : List ℕ × Option (Came L)). e.0) (rows_of es) k (unpacked w.items, v) (row_at es k w v at)
 
-  pub has_yes : (es : List (Vec ℕ Z × Option (Came L))) (ws : List ℕ) → is_some (lookup (is_key ws) es) ≡ true → IsIn (states_of (rows_of es)) ws
-  has_yes es ws h = by (lookup (is_key ws) es) refl
+  pub has_yes : (es : List (Entry L Z)) (bytes : List ℕ) → is_some (lookup (is_key bytes) es) ≡ true
+      → IsIn (states_of (rows_of es)) (unpacked bytes)
+  has_yes es bytes h = by (lookup (is_key bytes) es) refl
     where
-      by : (o : Option (Option (Came L))) → lookup (is_key ws) es ≡ o → IsIn (states_of (rows_of es)) ws
+      by : (o : Option (Option (Came L))) → lookup (is_key bytes) es ≡ o → IsIn (states_of (rows_of es)) (unpacked bytes)
       by None e = let never : ⊥ = cc in absurd never
       by (Some v) e =
-          let p = place_from_lookup (is_key ws) es v e in
-          (p.0, words_at es p.0 p.1 v p.2 ∙ ap Some (sym ((bytes_eq-Decides ws p.1.items).0 p.3)))
+          let p = place_from_lookup (is_key bytes) es v e in
+          (p.0, words_at es p.0 p.1 v p.2 ∙ ap (λ t. Some (unpacked t)) (sym ((bytes_eq-Decides bytes p.1.items).0 p.3)))
 
-  passes : (test : Vec ℕ Z → Bool) (es : List (Vec ℕ Z × Option (Came L))) (k : ℕ) (x : Vec ℕ Z × Option (Came L))
+  passes : (test : Vec ℕ Z → Bool) (es : List (Entry L Z)) (k : ℕ) (x : Entry L Z)
       → slice_get es k ≡ Some x → test x.0 ≡ true → is_some (lookup test es) ≡ true
   passes test [] k x at h = absurd (none-some x at)
   passes test (e ∷ es) zero x at h = ap is_some (lookup_head test e es (ap (λ t. test t.0) (same_some e x at) ∙ h))
@@ -48,24 +59,35 @@ module _ {L Z : Type 0} where
       by true b rest = ap is_some (lookup_head test e es b)
       by false b rest = ap is_some (lookup_tail test e es b) ∙ rest
 
-  pub has_no : (es : List (Vec ℕ Z × Option (Came L))) (ws : List ℕ) → IsIn (states_of (rows_of es)) ws → is_some (lookup (is_key ws) es) ≡ true
-  has_no es ws at =
-      let r = map_from (λ (e : List ℕ × Option (Came L)). e.0) (rows_of es) at.0 ws at.1 in
-      let x = map_from (λ (e : Vec ℕ Z × Option (Came L)). (let p : List ℕ × Option (Came L) = (e.0.items, e.1) in p)) es at.0 r.0 r.1 in
-      passes (is_key ws) es at.0 x.0 x.1 ((bytes_eq-Decides ws x.0.0.items).1 (sym (ap (λ t. t.0) x.2 ∙ r.2)))
+  pub has_no : (es : List (Entry L Z)) (bytes : List ℕ) → ArePacked es → IsPacked bytes
+      → IsIn (states_of (rows_of es)) (unpacked bytes) → is_some (lookup (is_key bytes) es) ≡ true
+  has_no es bytes keys packed at =
+      let r = map_from (λ (e : List ℕ × Option (Came L)). e.0) (rows_of es) at.0 (unpacked bytes) at.1 in
+      let x = map_from row_of es at.0 r.0 r.1 in
+      let key = same_key x.0.0.items bytes (keys at.0 x.0 x.1) packed (ap (λ t. t.0) x.2 ∙ r.2) in
+      passes (is_key bytes) es at.0 x.0 x.1 ((bytes_eq-Decides bytes x.0.0.items).1 (sym key))
 
-  pub has_none : (es : List (Vec ℕ Z × Option (Came L))) (ws : List ℕ) → (IsIn (states_of (rows_of es)) ws → ⊥) → lookup (is_key ws) es ≡ None
-  has_none es ws unseen = by (lookup (is_key ws) es) refl
+  pub has_none : (es : List (Entry L Z)) (bytes : List ℕ) → (IsIn (states_of (rows_of es)) (unpacked bytes) → ⊥)
+      → lookup (is_key bytes) es ≡ None
+  has_none es bytes unseen = by (lookup (is_key bytes) es) refl
     where
-      by : (o : Option (Option (Came L))) → lookup (is_key ws) es ≡ o → lookup (is_key ws) es ≡ None
+      by : (o : Option (Option (Came L))) → lookup (is_key bytes) es ≡ o → lookup (is_key bytes) es ≡ None
       by None e = e
-      by (Some v) e = absurd (unseen (has_yes es ws (ap is_some e)))
+      by (Some v) e = absurd (unseen (has_yes es bytes (ap is_some e)))
 
-  pub rows_push : (es : List (Vec ℕ Z × Option (Came L))) (w : Vec ℕ Z) (v : Option (Came L)) (ws : List ℕ)
-      → w.items ≡ ws → rows_of (es ++ (w, v) ∷ []) ≡ rows_of es ++ (ws, v) ∷ []
-  rows_push es w v ws is = map-append (λ (e : Vec ℕ Z × Option (Came L)).
-      (let p : List ℕ × Option (Came L) = (e.0.items, e.1) in p)) es ((w, v) ∷ [])
-      ∙ ap (λ t. rows_of es ++ (t, v) ∷ []) is
+  pub rows_push : (es : List (Entry L Z)) (w : Vec ℕ Z) (v : Option (Came L)) (bytes : List ℕ)
+      → w.items ≡ bytes → rows_of (es ++ (w, v) ∷ []) ≡ rows_of es ++ (unpacked bytes, v) ∷ []
+  rows_push es w v bytes is = map-append row_of es ((w, v) ∷ [])
+      ∙ ap (λ t. rows_of es ++ (unpacked t, v) ∷ []) is
+
+  -- one more key
+  pub packed_push : (es : List (Entry L Z)) (w : Vec ℕ Z) (v : Option (Came L)) → ArePacked es → IsPacked w.items
+      → ArePacked (es ++ (w, v) ∷ [])
+  packed_push es w v keys packed = λ k e at. by k e (push_cases es (w, v) e k at)
+    where
+      by : (k : ℕ) (e : Entry L Z) → (slice_get es k ≡ Some e) ⊎ ((k ≡ length es) × ((w, v) ≡ e)) → IsPacked e.0.items
+      by k e (inl a) = keys k e a
+      by k e (inr a) = subst (λ (x : Entry L Z). IsPacked x.0.items) a.1 packed
 
 module _ {L : Type 0} where
   pub rooted_push : (es : List (List ℕ × Option (Came L))) (ws : List ℕ) (v : Option (Came L)) → AreRooted es

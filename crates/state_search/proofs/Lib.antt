@@ -13,3 +13,4 @@ pub mod Kept
 pub mod Putting
 pub mod Labels
 pub mod Walking
+pub mod Bytes

@@ -88,3 +88,10 @@ module _ {L : Type 0} (eq : L → L → Bool) (can : L → List L → Type 0) (n
       let t = there s.paths s.looked lt in
       let next : IsNext node s t.0 = ap (λ x. slice_get x s.looked) u.states ∙ map_at node s.paths s.looked t.0 t.1 in
       is_nearest can node s.looked s.paths u.paths wanted at_place t.0 t.1 (met t.0 (u.paths.paths_are s.looked t.0 t.1) next)
+
+module _ {L : Type 0} where
+  -- the numbers of the state that is looked at next, by what is seen of the search
+  pub here : (es : List (List ℕ × Option (Came L))) (fs : List (First L)) (cs : List ℕ) (s : SearchSeen L) → search_seen es fs cs ≡ s
+      → (i : ℕ) (ws : List ℕ) → i ≡ s.looked → slice_get s.states s.looked ≡ Some ws → slice_get (states_of es) i ≡ Some ws
+  here es fs cs s is i ws place at =
+      ap (λ (t : SearchSeen L). slice_get t.states i) is ∙ (ap (λ m. slice_get s.states m) place ∙ at)

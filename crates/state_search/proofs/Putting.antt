@@ -1,5 +1,5 @@
 -- The states that one state leads to are added one by one.
-use Rattle.std.proofs.Common.{◌≡◌, ◌≤◌, ◌<◌, ◌+◌, ℕ, inl, inr, ◌⊎◌, true, true≢false, Option, Some, List, []}
+use Rattle.std.proofs.Common.{◌≡◌, ◌≤◌, ◌<◌, ◌+◌, ℕ, inl, inr, ◌⊎◌, true, false, true≢false, Option, Some, List, []}
 use Rattle.std.proofs.Common.{◌∷◌, ◌++◌, length, slice_get, refl, ap, sym, subst, ◌∙◌, arith, append_assoc}
 use Rattle.std.proofs.lemmas.Bool.{cases_lt}
 use Rattle.std.proofs.lemmas.List.{map-append, append-nil}
@@ -102,3 +102,9 @@ module _ {L : Type 0} (came : Came L) (ws : List ℕ) (most : ℕ) (mid new : Li
       length_one : (xs : List (List ℕ × Option (Came L))) → length (xs ++ (ws, Some came) ∷ []) ≡ length xs + 1
       length_one [] = refl
       length_one (x ∷ xs) = let r : length (xs ++ (ws, Some came) ∷ []) ≡ length xs + 1 = length_one xs in omega (arith, r)
+
+  -- it didn't fit
+  pub put_refused : IsPut came ws most mid new false → IsIn (states_of new) ws → ⊥
+  put_refused (inl a) is = absurd (true≢false (sym a.0))
+  put_refused (inr (inl a)) is = a.2 (subst (λ (t : List (List ℕ × Option (Came L))). IsIn (states_of t) ws) a.3 is)
+  put_refused (inr (inr a)) is = absurd (true≢false (sym a.0))

@@ -1,4 +1,5 @@
 pub mod Paths
+pub mod Packed
 pub mod Rows
 pub mod Firsts
 pub mod Growing

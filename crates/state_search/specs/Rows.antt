@@ -1,7 +1,9 @@
 -- Rows of numbers, one after another in one list.
-use Rattle.std.specs.Prelude.{◌≡◌, ◌≤◌, ℕ, List, Vec, map, length, slice_range, All}
+use Rattle.std.specs.Prelude.{◌≡◌, ◌≤◌, ℕ, List, Vec, map, length, slice_range, slice_get, Some}
+use Rattle.std.specs.Prelude.{All}
 use Rattle.std.specs.List.{flat_map}
 use Rattle.state_search.specs.declared.found.Row.{Row}
+use Rattle.state_search.specs.Packed.{IsPacked, unpacked}
 
 module _ {L : Type 0} where
   -- each row's label with its numbers
@@ -17,7 +19,12 @@ module _ {L : Type 0} where
     pub within : AreWithin rows words
     pub all : flat_map (λ f. f.1) (found_in rows words) ≡ words
 
--- the rows of a map from numbers
+-- the rows of a map from packed numbers
 module _ {V Z : Type 0} where
   abbrev pub rows_of : List (Vec ℕ Z × V) → List (List ℕ × V)
-  rows_of es = map (λ e. (e.0.items, e.1)) es
+  rows_of es = map (λ e. (unpacked e.0.items, e.1)) es
+
+  -- each key is some packed numbers
+  abbrev pub ArePacked : List (Vec ℕ Z × V) → Type 0
+  ArePacked es =
+      (k : ℕ) (e : Vec ℕ Z × V) → slice_get es k ≡ Some e → IsPacked e.0.items

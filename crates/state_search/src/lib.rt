@@ -3,6 +3,7 @@
 
 mod firsts;
 pub mod found;
+mod packing;
 pub mod searched;
 pub mod searching;
 pub mod space;

@@ -15,6 +15,23 @@ use irq_base::NoMemory;
 use std::alloc::Global;
 use std::marker::Model;
 
+/// Room for the numbers of one state, and for the packed numbers of one.
+#[derive(Drop)]
+pub(crate) struct Room {
+    words: Vec<u32>,
+    packed: Vec<u8>,
+}
+
+impl Room {
+    /// No room yet.
+    pub(crate) fn new(alloc: Global) -> Room {
+        Room {
+            words: Vec::new(alloc),
+            packed: Vec::new(alloc),
+        }
+    }
+}
+
 /// What came of the look at a state.
 #[derive(Clone, Copy)]
 pub(crate) enum Look {
@@ -78,15 +95,17 @@ impl<L: Copy> Searched<L> {
         }
     }
 
-    /// The numbers of the state at index `place`, if there is one.
-    pub fn state(&self, place: usize) -> Option<&[u32]>
-        ensures { option_map (λ words. words.now) result ≡ slice_get self.now.states place }
+    /// The numbers of the state at index `place`, if there is one. The only error is `NoMemory`.
+    pub fn state(&self, alloc: Global, place: usize) -> Result<Option<Vec<u32>>, NoMemory>
+        ensures { IfOk result (λ state. option_map (λ words. words.items) state
+            ≡ slice_get self.now.states place) }
     {
-        if place < self.states.len() {
-            Some(self.states.words(place))
-        } else {
-            None
+        if place >= self.states.len() {
+            return Ok(None);
         }
+        let mut words = Vec::new(alloc);
+        self.states.words(place, &mut words)?;
+        Ok(Some(words))
     }
 
     /// The length of the path to the state at index `place`.
@@ -146,7 +165,7 @@ impl<L: Copy> Searched<L> {
         let mut words = Vec::new(alloc);
         space.first(&mut words)?;
         let mut states = States::new(alloc);
-        states.add(alloc, words.as_slice(), None)?;
+        states.start(alloc, words.as_slice())?;
         Ok(Searched {
             states,
             firsts: Vec::new(alloc),
@@ -168,6 +187,7 @@ impl<L: Copy> Searched<L> {
         alloc: Global,
         space: &mut S,
         found: &mut Found<L>,
+        room: &mut Room,
         most: usize,
     ) -> Result<Look, NoMemory>
     where
@@ -193,7 +213,45 @@ impl<L: Copy> Searched<L> {
         ensures stays { IfOk result (λ l. l ≡ Look.Wanted → self.new ≡ self.old) }
     {
         let place = self.looked();
-        let words = self.states.words(place);
+        self.states.words(place, &mut room.words)?;
+        let words = room.words.as_slice();
+        self.look_at(alloc, space, words, found, &mut room.packed, most)
+    }
+
+    /// The same, with the numbers of the next state at hand.
+    fn look_at<S: Space<L>>(
+        &mut self,
+        alloc: Global,
+        space: &mut S,
+        words: &[u32],
+        found: &mut Found<L>,
+        packed: &mut Vec<u8>,
+        most: usize,
+    ) -> Result<Look, NoMemory>
+    where
+        L: Eq,
+        requires words { slice_get self.old.states self.old.looked ≡ Some words.now }
+        requires open { self.old.looked < length self.old.paths }
+        requires few { length self.old.paths ≤ most }
+        requires most { most ≤ 100000000 }
+        requires under { IsUnder L.eq (S.can space.old) (S.node space.old) self.old }
+        requires none { NonePassed (S.can space.old) (S.node space.old) (S.wanted space.old)
+            self.old }
+        ensures same { space.new ≡ space.old }
+        ensures few { OnOk result (length self.new.paths ≤ most) }
+        ensures under { OnOk result (IsUnder L.eq (S.can space.old) (S.node space.old) self.new) }
+        ensures none { OnOk result (NonePassed (S.can space.old) (S.node space.old)
+            (S.wanted space.old) self.new) }
+        ensures on { IfOk result (λ l. l ≡ Look.Whole → self.new.looked ≡ self.old.looked + 1) }
+        ensures cut { IfOk result (λ l. l ≡ Look.Cut → length self.new.paths ≡ most) }
+        ensures left_out { IfOk result (λ l. l ≡ Look.Cut
+            → LeavesOut (S.can space.old) (S.node space.old) self.new.paths self.new.looked) }
+        ensures wanted { IfOk result (λ l. l ≡ Look.Wanted → (g : List L)
+            → IsPath (S.can space.old) g → IsNext (S.node space.old) self.new g
+            → S.wanted space.old g) }
+        ensures stays { IfOk result (λ l. l ≡ Look.Wanted → self.new ≡ self.old) }
+    {
+        let place = self.looked();
         found.clear();
         space.steps(words, found)?;
         if space.is_wanted(words, found)? {
@@ -203,7 +261,10 @@ impl<L: Copy> Searched<L> {
             return Err(NoMemory);
         };
         note(&mut self.firsts, place as u32, found)?;
-        if !self.states.put_all(alloc, place as u32, found, most)? {
+        if !self
+            .states
+            .put_all(alloc, place as u32, found, most, packed)?
+        {
             return Ok(Look::Cut);
         }
         self.counts.push(count)?;

@@ -5,7 +5,7 @@ ghost use Rattle.state_search.specs.Paths.{Searches, LeavesOut, AreCounted, IsNe
 ghost use Rattle.state_search.specs.Seen.{cut_of};
 
 use crate::found::Found;
-use crate::searched::{Look, Searched};
+use crate::searched::{Look, Room, Searched};
 use crate::space::Space;
 use irq_base::NoMemory;
 use std::alloc::Global;
@@ -54,8 +54,9 @@ pub fn search<L: Copy + Eq, S: Space<L>>(
 {
     let mut searched = Searched::start(alloc, space)?;
     let mut found = Found::new(alloc);
+    let mut room = Room::new(alloc);
     while searched.is_open() {
-        match searched.look(alloc, space, &mut found, most)? {
+        match searched.look(alloc, space, &mut found, &mut room, most)? {
             Look::Whole => {}
             Look::Cut => {
                 return Ok(Sought {

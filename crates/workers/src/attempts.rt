@@ -6,6 +6,7 @@ ghost use Rattle.workers.specs.Terms.{terms_of};
 
 use crate::job::Job;
 use crate::lines::SharedLines;
+use crate::post::Reach;
 use callbacks::SharedHandler;
 use irq_base::{CpuEntry, Entry, FlowKind, TakeAnswer};
 use irq_line::{IrqLine, StepRefused};
@@ -58,12 +59,13 @@ impl<L: IrqLine> Job<L> {
     }
 
     /// A processor's attempt. If it has a flow in progress, it steps on the flow's line, where
-    /// something is always due of it; else on the line of its last step, if an
-    /// entry of it is due there, or on the first on which one is.
+    /// something is always due of it; else on the line of its last step, if an entry of it is due
+    /// there, or on the first within reach on which one is.
     pub(crate) fn attempt_cpu<R: Wait, H: SharedHandler>(
         &mut self,
         rt: &R,
         lines: &SharedLines<L>,
+        reach: Reach,
         handlers: &H,
     ) -> Result<Option<Entry>, StepRefused>
         requires posted { ArePosted lines.now self.old }
@@ -79,6 +81,9 @@ impl<L: IrqLine> Job<L> {
             return Ok(Some(entry));
         }
         for place in 0..self.posts.len() {
+            if self.posts[place].is_beyond(reach) {
+                continue;
+            }
             if let Some(entry) = self.step_cpu(rt, lines, place, handlers)? {
                 self.last = place;
                 return Ok(Some(entry));

@@ -1,7 +1,11 @@
 //! Which jobs share a thread.
 ghost use Rattle.std.specs.Prelude.{◌≡◌, ◌<◌, IfOk, IsPermutation, length};
 
-use irq_base::{Actor, NoMemory};
+use crate::drivers::next_call;
+use crate::lines::SharedLines;
+use board_def::Board;
+use irq_base::{Actor, LineNo, NoMemory};
+use irq_line::IrqLine;
 use std::alloc::Global;
 use std::thread::{self, Threads};
 
@@ -23,16 +27,20 @@ pub(crate) fn jobs_a_thread<R: Threads>(rt: &R, jobs: usize) -> usize
     jobs.div_ceil(threads.min(APART).max(1)).max(1)
 }
 
-/// Deals the actors to threads, `size` to each but the last, one after another as cards are dealt.
-/// So those of one line, which are neighbours, come to different threads. What is dealt begins with
-/// the first thread's actors, then come the next one's.
-pub(crate) fn deal(alloc: Global, crew: &[Actor], size: usize) -> Result<Vec<Actor>, NoMemory>
-    requires { 0 < size }
+/// Deals the actors to threads. Those that wait for one another at each step are neighbours in what
+/// is dealt: each processor stands with the threads of the lines that aim at it first, and with the
+/// drivers whose first call is about one of these.
+pub(crate) fn deal<L: IrqLine>(
+    alloc: Global,
+    board: &Board,
+    lines: &SharedLines<L>,
+    crew: &[Actor],
+) -> Result<Vec<Actor>, NoMemory>
     ensures { IfOk result (λ dealt. IsPermutation crew.now dealt.items) }
 {
     let mut hands = Vec::new(alloc);
     for i in 0..crew.len() {
-        hands.push((hand_of(i, crew.len(), size), crew[i]))?;
+        hands.push((home_of(board, lines, crew[i]), crew[i]))?;
     }
     hands.sort_unstable_by_key(|card| card.0);
     let mut dealt = Vec::new(alloc);
@@ -42,15 +50,26 @@ pub(crate) fn deal(alloc: Global, crew: &[Actor], size: usize) -> Result<Vec<Act
     Ok(dealt)
 }
 
-/// The thread to which the actor at index `i` comes. The last thread may get fewer than
-/// the others; once it has all of its own, the others go on without it.
-fn hand_of(i: usize, crew: usize, size: usize) -> usize
-    requires { 0 < size }
-{
-    let threads = crew.div_ceil(size).max(1);
-    let with_last = (crew % size).saturating_mul(threads);
-    if with_last == 0 || i < with_last {
-        return i % threads;
+/// The processor that the actor is likely to wait for: a processor is itself; for a device's thread
+/// it is the lowest in the mask of the device's line, for a driver in that of its first call's.
+fn home_of<L: IrqLine>(board: &Board, lines: &SharedLines<L>, actor: Actor) -> u32 {
+    match actor {
+        Actor::Cpu(cpu) => cpu.0,
+        Actor::Thread(dev) => match board.find_device(dev) {
+            Some(device) => lowest_of(board, device.line),
+            None => 0,
+        },
+        Actor::Driver(driver) => match board.call(next_call(board.calls(), lines, driver, 0)) {
+            Some(call) => lowest_of(board, call.line),
+            None => 0,
+        },
     }
-    (i - with_last) % (threads - 1).max(1)
+}
+
+/// The lowest processor in the line's mask; 0 if there is none.
+fn lowest_of(board: &Board, line: LineNo) -> u32 {
+    match board.find_line(line) {
+        Some(row) => row.mask.trailing_zeros(),
+        None => 0,
+    }
 }

@@ -70,7 +70,7 @@ impl<L: IrqLine> Job<L> {
 
 /// The index of the driver's first call, from `from` on, that is about one of the lines; the number
 /// of calls if there is none.
-fn next_call<L: IrqLine>(
+pub(crate) fn next_call<L: IrqLine>(
     calls: &[ScriptCall],
     lines: &SharedLines<L>,
     driver: DriverNo,

@@ -29,7 +29,11 @@ pub(crate) fn fork_all<L: IrqLine>(
     for place in first..end {
         let first_pass = &mut firsts[place];
         let pass = lines[place].fork(first_pass, actor);
-        posts.push(Post { pass, rests: false })?;
+        posts.push(Post {
+            pass,
+            rests: false,
+            near: false,
+        })?;
     }
     Ok(posts)
 }

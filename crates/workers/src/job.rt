@@ -29,6 +29,8 @@ pub(crate) struct Job<L: IrqLine> {
     pub(crate) at: usize,
     /// How many attempts it has had in this run.
     pub(crate) attempts: u64,
+    /// How many more steps it may make in this shift.
+    pub(crate) left: u32,
     /// How its part of the last shift ended.
     pub(crate) end: Result<Work, StepRefused>,
 }

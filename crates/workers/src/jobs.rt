@@ -66,7 +66,7 @@ pub fn share<'b, R: Threads, L: IrqLine>(
     let (lines, firsts) = share_lines(alloc, lines)?;
     let crew = make_crew(alloc, board, &lines)?;
     let size = jobs_a_thread(rt, crew.len());
-    let dealt = deal(alloc, &crew, size)?;
+    let dealt = deal(alloc, board, &lines, &crew)?;
     let mut jobs = Jobs {
         board,
         size,
@@ -137,6 +137,7 @@ impl<'b, L: IrqLine> Jobs<'b, L> {
             last: 0,
             at: 0,
             attempts: 0,
+            left: 0,
             end: Ok(Work::Idle),
         })?;
         Ok(())

@@ -19,6 +19,17 @@ use std::sync::Wait;
 pub(crate) struct Post<L: IrqLine> {
     pub(crate) pass: Pass<L>,
     pub(crate) rests: bool,
+    /// Whether the actor has made an entry with it.
+    pub(crate) near: bool,
+}
+
+/// Which lines a processor looks at again, of those that had nothing due of it.
+#[derive(Clone, Copy, PartialEq, Eq)]
+pub(crate) enum Reach {
+    /// Those on which it has made an entry.
+    Near,
+    /// All.
+    All,
 }
 
 impl<L: IrqLine> Model for Post<L> {
@@ -57,7 +68,16 @@ impl<L: IrqLine> Post<L> {
         }
         let tried = step_heard(rt, line, &mut self.pass, handlers);
         self.rests = tried == Ok(None);
+        self.near = self.near || !self.rests;
         tried
+    }
+
+    /// Whether a worker that reaches so far passes over the line: nothing was due of the actor last
+    /// time, and the line is beyond its reach.
+    pub(crate) fn is_beyond(&self, reach: Reach) -> bool
+        ensures { IsTrue result → self.now.rests ≡ true }
+    {
+        self.rests && !self.near && reach == Reach::Near
     }
 
     /// Whether nothing was due of the actor last time, and nothing is known to have happened on the

@@ -11,10 +11,11 @@ ghost use Rattle.workers.specs.Terms.{terms_of};
 use crate::gate::Gate;
 use crate::job::{Job, Work};
 use crate::lines::SharedLines;
+use crate::post::Reach;
 use crate::shifts::worse;
 use board_def::Board;
 use callbacks::SharedHandler;
-use irq_base::{Actor, Entry};
+use irq_base::{Actor, Entry, ThreadEntry};
 use irq_line::{IrqLine, StepRefused};
 use std::hint::spin_loop;
 use std::sync::Wait;
@@ -36,8 +37,7 @@ const MOST: u32 = 65_536;
 /// ends.
 const LOOKS: usize = 64;
 
-/// How often a thread with several jobs looks again: less often, since its sweep takes longer, and
-/// a look at a line that has changed takes its lock.
+/// How often a thread with several jobs looks again: less often, since its sweep takes longer.
 const LOOKS_OVER_SEVERAL: usize = 2;
 
 impl<L: IrqLine> Job<L> {
@@ -47,6 +47,7 @@ impl<L: IrqLine> Job<L> {
         rt: &R,
         board: &Board,
         lines: &SharedLines<L>,
+        reach: Reach,
         handlers: &H,
     ) -> Result<Option<Entry>, StepRefused>
         requires boards { AreBoards board.now lines.now }
@@ -56,7 +57,7 @@ impl<L: IrqLine> Job<L> {
     {
         match self.actor {
             Actor::Thread(..) => self.try_post(rt, lines, 0, handlers),
-            Actor::Cpu(_) => self.attempt_cpu(rt, lines, handlers),
+            Actor::Cpu(_) => self.attempt_cpu(rt, lines, reach, handlers),
             Actor::Driver(driver) => self.attempt_driver(rt, board, lines, driver, handlers),
         }
     }
@@ -67,6 +68,7 @@ impl<L: IrqLine> Job<L> {
         rt: &R,
         board: &Board,
         lines: &SharedLines<L>,
+        reach: Reach,
         gate: &G,
         handlers: &H,
     ) -> Result<Option<Entry>, StepRefused>
@@ -77,7 +79,7 @@ impl<L: IrqLine> Job<L> {
     {
         self.attempts = self.attempts.saturating_add(1);
         gate.pass(self.actor, self.attempts);
-        self.attempt(rt, board, lines, handlers)
+        self.attempt(rt, board, lines, reach, handlers)
     }
 
     /// Steps of the actor, as long as there is something to do, at most `most`.
@@ -87,6 +89,7 @@ impl<L: IrqLine> Job<L> {
         board: &Board,
         lines: &SharedLines<L>,
         most: u32,
+        reach: Reach,
         gate: &G,
         handlers: &H,
     ) -> Result<Work, StepRefused>
@@ -100,7 +103,8 @@ impl<L: IrqLine> Job<L> {
         ensures room { RoomAfterPart result self.old self.new }
     {
         for steps in 0..most {
-            match self.attempt_at_gate(rt, board, lines, gate, handlers)? {
+            match self.attempt_at_gate(rt, board, lines, reach, gate, handlers)? {
+                Some(entry) if self.pauses_after(&entry) => return Ok(Work::Busy),
                 Some(_) => {}
                 None if steps > 0 => return Ok(Work::Busy),
                 None => return Ok(Work::Idle),
@@ -109,12 +113,29 @@ impl<L: IrqLine> Job<L> {
         Ok(Work::Busy)
     }
 
-    /// The first that a worker does in a shift.
+    /// Counts a step. Whether the worker makes no more for now: it has made all that it may in this
+    /// shift, or its actor is a thread that is done, and waits to be woken.
+    fn pauses_after(&mut self, entry: &Entry) -> bool
+        ensures { self.new ≡ self.old }
+    {
+        self.left = self.left.saturating_sub(1);
+        self.left == 0 || matches!(entry, Entry::Thread(_, ThreadEntry::Done))
+    }
+
+    /// Lets the worker make so many more steps.
+    fn renew(&mut self, left: u32)
+        ensures { self.new ≡ self.old }
+    {
+        self.left = left;
+    }
+
+    /// The first that a worker does in a shift, in which it may make `left` steps.
     fn work<R: Wait, G: Gate, H: SharedHandler>(
         &mut self,
         rt: &R,
         board: &Board,
         lines: &SharedLines<L>,
+        left: u32,
         most: u32,
         gate: &G,
         handlers: &H,
@@ -125,18 +146,20 @@ impl<L: IrqLine> Job<L> {
         ensures { WorksJob (terms_of L.seen L.may_want (H.gave handlers.now))
             board.now lines.now self.old self.new }
     {
-        self.end = self.make_attempts(rt, board, lines, most, gate, handlers);
+        self.renew(left);
+        self.end = self.make_attempts(rt, board, lines, most, Reach::All, gate, handlers);
     }
 
     /// What a worker does later in the shift, and how this went. If it made a step before, its
     /// part ends as one with a step, also if there is nothing more to do. A worker whose step was
-    /// refused does nothing more.
+    /// refused does nothing more, nor does one that has made all the steps that it may.
     fn go_on<R: Wait, G: Gate, H: SharedHandler>(
         &mut self,
         rt: &R,
         board: &Board,
         lines: &SharedLines<L>,
         most: u32,
+        reach: Reach,
         gate: &G,
         handlers: &H,
     ) -> Result<Work, StepRefused>
@@ -147,7 +170,10 @@ impl<L: IrqLine> Job<L> {
             board.now lines.now self.old self.new }
     {
         let before = self.end?;
-        let end = self.make_attempts(rt, board, lines, most, gate, handlers);
+        if self.left == 0 {
+            return Ok(Work::Idle);
+        }
+        let end = self.make_attempts(rt, board, lines, most, reach, gate, handlers);
         self.end = with_earlier(before, end);
         end
     }
@@ -164,8 +190,8 @@ fn with_earlier(before: Work, end: Result<Work, StepRefused>) -> Result<Work, St
 }
 
 /// A thread's part of a shift: sweeps over its jobs, as long as one of the workers finds something
-/// to do. With several jobs each gets some steps at once. It is counted if it was used up, that is,
-/// if there was still something to do.
+/// to do. With several jobs each gets some steps at once. It is counted if a worker used its steps
+/// up.
 pub(crate) fn work_on<R: Wait, L: IrqLine, G: Gate, H: SharedHandler>(
     rt: &R,
     board: &Board,
@@ -186,16 +212,31 @@ pub(crate) fn work_on<R: Wait, L: IrqLine, G: Gate, H: SharedHandler>(
     } else {
         1
     };
-    sweep_first(rt, board, lines, jobs, at_once, gate, handlers);
-    for _ in 0..most / at_once {
+    sweep_first(rt, board, lines, jobs, most, at_once, gate, handlers);
+    for _ in 0..most {
         if look(rt, board, lines, jobs, at_once, gate, handlers) != Ok(Work::Busy) {
-            return;
+            break;
         }
     }
-    used_up.fetch_add(1, Ordering::SeqCst);
+    if has_used_up(jobs) {
+        used_up.fetch_add(1, Ordering::SeqCst);
+    }
 }
 
-/// Sweeps over the jobs, until a worker finds something to do, or none has for some sweeps.
+/// Whether one of the workers has made all the steps that it may in a shift.
+fn has_used_up<L: IrqLine>(jobs: &[Job<L>]) -> bool {
+    for i in 0..jobs.len() {
+        let job = &jobs[i];
+        if job.left == 0 {
+            return true;
+        }
+    }
+    false
+}
+
+/// Sweeps over the jobs, until a worker finds something to do, or none has for some sweeps. Where
+/// there are several jobs, processors look at all lines in the last of these alone: most lines are
+/// stepped by another thread, and a look at one that has changed takes its lock.
 fn look<R: Wait, L: IrqLine, G: Gate, H: SharedHandler>(
     rt: &R,
     board: &Board,
@@ -211,19 +252,19 @@ fn look<R: Wait, L: IrqLine, G: Gate, H: SharedHandler>(
     ensures { GoOnJobs (terms_of L.seen L.may_want (H.gave handlers.now))
         board.now lines.now jobs.old jobs.new }
 {
-    let looks = if jobs.len() > 1 {
-        LOOKS_OVER_SEVERAL
+    let (looks, reach) = if jobs.len() > 1 {
+        (LOOKS_OVER_SEVERAL, Reach::Near)
     } else {
-        LOOKS
+        (LOOKS, Reach::All)
     };
     for _ in 0..looks {
-        let end = sweep(rt, board, lines, jobs, at_once, gate, handlers);
+        let end = sweep(rt, board, lines, jobs, at_once, reach, gate, handlers);
         if end != Ok(Work::Idle) {
             return end;
         }
         spin_loop();
     }
-    sweep(rt, board, lines, jobs, at_once, gate, handlers)
+    sweep(rt, board, lines, jobs, at_once, Reach::All, gate, handlers)
 }
 
 /// The shift's first sweep: each worker has its first attempts.
@@ -232,6 +273,7 @@ fn sweep_first<R: Wait, L: IrqLine, G: Gate, H: SharedHandler>(
     board: &Board,
     lines: &SharedLines<L>,
     jobs: &mut [Job<L>],
+    most: u32,
     at_once: u32,
     gate: &G,
     handlers: &H,
@@ -243,7 +285,7 @@ fn sweep_first<R: Wait, L: IrqLine, G: Gate, H: SharedHandler>(
         board.now lines.now jobs.old jobs.new }
 {
     for i in 0..jobs.len() {
-        jobs[i].work(rt, board, lines, at_once, gate, handlers);
+        jobs[i].work(rt, board, lines, most, at_once, gate, handlers);
     }
 }
 
@@ -254,6 +296,7 @@ fn sweep<R: Wait, L: IrqLine, G: Gate, H: SharedHandler>(
     lines: &SharedLines<L>,
     jobs: &mut [Job<L>],
     at_once: u32,
+    reach: Reach,
     gate: &G,
     handlers: &H,
 ) -> Result<Work, StepRefused>
@@ -265,7 +308,7 @@ fn sweep<R: Wait, L: IrqLine, G: Gate, H: SharedHandler>(
 {
     let mut all = Ok(Work::Idle);
     for i in 0..jobs.len() {
-        let end = jobs[i].go_on(rt, board, lines, at_once, gate, handlers);
+        let end = jobs[i].go_on(rt, board, lines, at_once, reach, gate, handlers);
         all = worse(all, end);
     }
     all

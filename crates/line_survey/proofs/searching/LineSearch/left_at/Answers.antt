@@ -1,4 +1,5 @@
-use Rattle.std.proofs.Common.{◌≡◌, Some, List, slice_get, sym, subst}
+use Rattle.std.proofs.Common.{◌≡◌, Some, List, slice_get, ap, sym, subst, ◌∙◌}
+use Rattle.std.specs.Option.{option_map}
 use Rattle.irq_base.specs.declared.entries.Entry.{Entry}
 use Rattle.line_survey.proofs.Rests.{legal_at, short_at, words_at, past_at}
 use Rattle.line_survey.specs.Kept.{IsReader}
@@ -15,10 +16,12 @@ left-requires-clause-past c =
     let def = c.self.inside.def in
     let valid = c.self.invariant.valid in
     let line = c.self.invariant.line in
-    let x = past_at def valid s line c.args.place c.in-Some.words.now c.in-Some.ensures in (
+    let words = c.as_slice.result.now in
+    let at = ap Some c.as_slice.ensures.value ∙ (sym (ap (λ o. option_map (λ w. w.items) o) c.in-Some.is) ∙ c.in_ok-words.ensures) in
+    let x = past_at def valid s line c.args.place words at in (
       x.0,
       legal_at def valid s line c.args.place x.0 x.1,
-      words_at def valid s line c.args.place c.in-Some.words.now x.0 c.in-Some.ensures x.1,
+      words_at def valid s line c.args.place words x.0 at x.1,
       short_at def valid s line c.args.place x.0 x.1,
     )
 
@@ -38,4 +41,5 @@ returns-clause-left c = subst
     let valid = c.self.invariant.valid in
     let line = c.self.invariant.line in
     let legal = legal_at def valid s line c.args.place p is in
-    c.in_ok-left.ensures.left p legal (words_at def valid s line c.args.place c.in-Some.words.now p c.in-Some.ensures is))
+    c.in_ok-left.ensures.left p legal (words_at def valid s line c.args.place c.as_slice.result.now p
+    (ap Some c.as_slice.ensures.value ∙ (sym (ap (λ o. option_map (λ w. w.items) o) c.in-Some.is) ∙ c.in_ok-words.ensures)) is))

@@ -1,7 +1,7 @@
 use Rattle.std.proofs.Common.{◌≡◌, true, subst, arith}
 use Rattle.state_search.specs.declared.states.Came.{Came}
 use Rattle.state_search.specs.Growing.{IsPut}
-use Rattle.state_search.proofs.Putting.{put_next, put_long}
+use Rattle.state_search.proofs.Putting.{put_none, put_next, put_long, put_refused}
 use Rattle.state_search.proofs.states.States.put_all.Goals as goal
 
 pub loop-i-preserved : goal.loop-i-preserved
@@ -19,3 +19,23 @@ loop-i-preserved g c =
       grows = omega (arith, c.loop-i.invariant.grows, long.0);
       few = long.1;
     }
+
+pub loop-i-init : goal.loop-i-init
+loop-i-init g c = record {
+  put = put_none c.args.from c.args.found.now c.args.self.now;
+  grows = omega arith;
+  few = c.requires.few;
+}
+
+pub returns-then-not-branch-clause-left : goal.returns-then-not-branch-clause-left
+returns-then-not-branch-clause-left g c = λ same.
+    let l = c.get-label.result.0 in
+    let ws = c.get-label.result.1.now in
+    let came : Came g.row.L.Denot = record { from = c.args.from; label = l } in (
+      c.loop-i.i,
+      l,
+      ws,
+      c.get-label.ensures,
+      put_refused came ws c.args.most c.loop-i.self c.put.new.self
+          (subst (IsPut came ws c.args.most c.loop-i.self c.put.new.self) c.if-not-branch.true c.in_ok-put.ensures),
+    )

@@ -30,7 +30,7 @@ returns-in-Some-3 g c =
     c.step_cpu-in-loop-place.new.self _ c.loop-place.place c.loop-place.invariant.keeps c.loop-place.invariant.room
     (subst (λ (o : Option Entry). StepsCpu (terms_of g.L.IrqLine.seen g.L.IrqLine.may_want
     (g.H.SharedHandler.gave c.args.handlers.now)) c.args.lines.now c.loop-place.place (Ok o) c.loop-place.self
-    c.step_cpu-in-loop-place.new.self) c.in-Some-3.is c.in_ok-entry-2.ensures) (λ is. cc) c.self-in-loop-place.view_is
+    c.step_cpu-in-loop-place.new.self) c.in-Some-3.is c.in_ok-entry-2.ensures) (λ is. cc) c.self-in-loop-place-2.view_is
 
 pub returns-in_err-entry-2 : goal.returns-in_err-entry-2
 returns-in_err-entry-2 g c =

@@ -1,6 +1,9 @@
-use Rattle.std.proofs.Common.{Option, Ok, refl, subst, arith}
+use Rattle.std.proofs.Common.{Option, Some, Ok, refl, sym, subst, arith}
 use Rattle.irq_base.specs.declared.entries.Entry.{Entry}
 use Rattle.workers.specs.Room.{RoomAfter}
+use Rattle.workers.specs.Seen.{JobSeen}
+use Rattle.workers.specs.Shifts.{WorksOn}
+use Rattle.workers.specs.Terms.{terms_of}
 use Rattle.workers.proofs.Shifting.{works_first, works_more}
 use Rattle.workers.proofs.job.Job.make_attempts.Goals as goal
 
@@ -24,22 +27,33 @@ returns-in-None-2-clause-works g c =
     works_more c.args.board.now c.args.lines.now c.args.self.now c.loop-steps.self c.attempt_at_gate.new.self
     c.loop-steps.invariant.works c.attempt_at_gate.ensures.works
 
-pub returns-in_err-attempt_at_gate-clause-works : goal.returns-in_err-attempt_at_gate-clause-works
-returns-in_err-attempt_at_gate-clause-works g c =
+pub returns-in_err-entry-clause-works : goal.returns-in_err-entry-clause-works
+returns-in_err-entry-clause-works g c =
     works_more c.args.board.now c.args.lines.now c.args.self.now c.loop-steps.self c.attempt_at_gate.new.self
     c.loop-steps.invariant.works c.attempt_at_gate.ensures.works
 
+pub returns-in-Some-clause-works : goal.returns-in-Some-clause-works
+returns-in-Some-clause-works g c =
+    subst (λ (s : JobSeen). WorksOn (terms_of g.L.IrqLine.seen g.L.IrqLine.may_want (g.H.SharedHandler.gave c.args.handlers.now))
+    c.args.board.now c.args.lines.now c.args.self.now s) (sym c.pauses_after.ensures)
+    (works_more c.args.board.now c.args.lines.now c.args.self.now c.loop-steps.self c.attempt_at_gate.new.self
+    c.loop-steps.invariant.works c.attempt_at_gate.ensures.works)
+
 pub loop-steps-preserved : goal.loop-steps-preserved
 loop-steps-preserved g c =
-    let moved = subst (λ (o : Option Entry). RoomAfter (Ok o) c.loop-steps.self c.attempt_at_gate.new.self) c.in-Some.is
-    c.in_ok-attempt_at_gate.ensures.room in
+    let same = sym c.pauses_after.ensures in
+    let moved = subst (λ (s : JobSeen). RoomAfter (Ok (Some c.in-Some.entry)) c.loop-steps.self s) same
+    (subst (λ (o : Option Entry). RoomAfter (Ok o) c.loop-steps.self c.attempt_at_gate.new.self) c.in-Some.is
+    c.in_ok-entry.ensures.room) in
     let room = moved.0 in
     let made = moved.1 in
     let room_before = c.loop-steps.invariant.room in
     let made_before = c.loop-steps.invariant.made in
     record {
-      works = works_more c.args.board.now c.args.lines.now c.args.self.now c.loop-steps.self c.attempt_at_gate.new.self
-          c.loop-steps.invariant.works c.attempt_at_gate.ensures.works;
+      works = subst (λ (s : JobSeen). WorksOn (terms_of g.L.IrqLine.seen g.L.IrqLine.may_want (g.H.SharedHandler.gave c.args.handlers.now))
+          c.args.board.now c.args.lines.now c.args.self.now s) same
+          (works_more c.args.board.now c.args.lines.now c.args.self.now c.loop-steps.self c.attempt_at_gate.new.self
+          c.loop-steps.invariant.works c.attempt_at_gate.ensures.works);
       room = omega (arith, room, room_before);
       made = omega (arith, made, made_before);
       none = λ zero. absurd (omega (arith, zero));

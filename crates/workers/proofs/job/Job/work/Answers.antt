@@ -1,6 +1,8 @@
-use Rattle.std.proofs.Common.{ap}
+use Rattle.std.proofs.Common.{ap, subst}
 use Rattle.workers.specs.Seen.{JobSeen}
 use Rattle.workers.specs.Terms.{terms_of}
+use Rattle.workers.specs.Shifts.{WorksOn}
+use Rattle.workers.specs.Room.{RoomAfterPart}
 use Rattle.workers.proofs.Shifting.{ended_at}
 use Rattle.workers.proofs.job.Job.work.Goals as goal
 
@@ -17,5 +19,10 @@ returns g c =
       at = c.self.inside.at;
       end = c.make_attempts-self-inside.result;
     })
-    c.make_attempts-self-inside.ensures.works c.make_attempts-self-inside.ensures.end c.make_attempts-self-inside.ensures.room
+    (subst (λ (s : JobSeen). WorksOn
+    (terms_of g.L.IrqLine.seen g.L.IrqLine.may_want (g.H.SharedHandler.gave c.args.handlers.now))
+    c.args.board.now c.args.lines.now s c.make_attempts-self-inside.new.self) c.renew.ensures c.make_attempts-self-inside.ensures.works)
+    c.make_attempts-self-inside.ensures.end
+    (subst (λ (s : JobSeen). RoomAfterPart c.make_attempts-self-inside.result s c.make_attempts-self-inside.new.self)
+    c.renew.ensures c.make_attempts-self-inside.ensures.room)
     (ap (λ (j : JobSeen). record j { end = c.make_attempts-self-inside.result }) c.self.view_is)
