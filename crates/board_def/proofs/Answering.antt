@@ -330,7 +330,11 @@ module _ (b : BoardSeen) (h : IsBoard b) (dev : DevNo) (rows : List ToldRow) (of
 
   call_kept : (w : Bool) (earlier : List ScriptCall) (x : ScriptCall) → IsCallAfter b earlier x → IsCallAfter (after w) earlier x
   call_kept w earlier x k = record {
-    driver = k.driver; in_order = k.in_order; line = k.line; device = fits_stay w x.line x.call k.device; owner = k.owner;
+    driver = k.driver;
+    in_order = k.in_order;
+    line = k.line;
+    device = fits_stay w x.line x.call k.device;
+    owner = k.owner;
   }
 
   actor_kept : (w : Bool) (a : Actor) → IsActorOf b a → IsActorOf (after w) a

@@ -328,11 +328,19 @@ module _ (b : BoardSeen) (h : IsBoard b) (row : LineRow) where
   pub valid_runs : HasValidRuns def
   valid_runs = record {
     few_calls = omega (arith, length-map (filter keep_run b.runs) of_run, kept_fewer keep_run b.runs, h.runs.few);
-    short_scripts = λ d part. omega (arith, script_count d part (filter keep_run b.runs), count_kept (is_call_of d part) keep_run b.runs,
-        h.runs.short d part);
+    short_scripts = λ d part. omega (
+      arith,
+      script_count d part (filter keep_run b.runs),
+      count_kept (is_call_of d part) keep_run b.runs,
+      h.runs.short d part,
+    );
     few_answers = omega (arith, length-map (filter keep_told b.told) of_told, kept_fewer keep_told b.told, h.told.few);
-    short_answers = λ d. omega (arith, answers_count d (filter keep_told b.told),
-        count_kept (λ (r : ToldRow). same_dev d r.dev) keep_told b.told, h.told.short d);
+    short_answers = λ d. omega (
+      arith,
+      answers_count d (filter keep_told b.told),
+      count_kept (λ (r : ToldRow). same_dev d r.dev) keep_told b.told,
+      h.told.short d,
+    );
     devices = λ k d within. (all_runs k d within).device;
     scripts = λ k d within. (all_runs k d within).script;
     stand = λ k d within. (all_runs k d within).stands;

@@ -48,14 +48,23 @@ pub count_told : (line : LineNo) (dev : DevNo) (part : Part) (answers : List Ans
 count_told line dev part [] = refl
 count_told line dev part (a ∷ answers) =
     let row : ToldRow = record { line = line; dev = dev; part = part; answer = a.answer } in
-    omega (arith, count_told line dev part answers, length-replicate a.times row,
-    length-append (answers_told line dev part a) (flat_map (answers_told line dev part) answers))
+    omega (
+      arith,
+      count_told line dev part answers,
+      length-replicate a.times row,
+      length-append (answers_told line dev part a) (flat_map (answers_told line dev part) answers),
+    )
 
 -- ---- the device may answer so
 
 -- a told device, by its parts
 may_by : (kind : Kind) (part : Part) (a : ToldAnswer) → is_told kind ≡ true → (is_told kind && has_no_part part (Some (record {
-  dev = record { 0 = 0 }; line = record { 0 = 0 }; kind = kind; held = false; forgets = false; }))) ≡ false
+  dev = record { 0 = 0 };
+  line = record { 0 = 0 };
+  kind = kind;
+  held = false;
+  forgets = false;
+}))) ≡ false
     → may_answer (kinds.Told true) part a ≡ true → may_answer kind part a ≡ true
 may_by (kinds.Told t) parts.Primary a told there h = refl
 may_by (kinds.Told true) parts.Thread a told there h = h
@@ -75,7 +84,12 @@ row_may (Some x) dev part a told there h =
     ap (λ b. b && may_answer x.kind part a) (eq-eqb x.line.0 x.line.0 refl) ∙ may_by x.kind part a told (same_part part there) h
   where
     same_part : (part : Part) → (is_told x.kind && has_no_part part (Some x)) ≡ false → (is_told x.kind && has_no_part part (Some (record {
-      dev = record { 0 = 0 }; line = record { 0 = 0 }; kind = x.kind; held = false; forgets = false; }))) ≡ false
+      dev = record { 0 = 0 };
+      line = record { 0 = 0 };
+      kind = x.kind;
+      held = false;
+      forgets = false;
+    }))) ≡ false
     same_part parts.Primary h = h
     same_part parts.Thread h = h
 

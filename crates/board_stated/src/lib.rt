@@ -6,12 +6,12 @@
 
 mod writers;
 
-pub use writers::Writer;
-
 ghost use Rattle.std.specs.Prelude.{◌≡◌, ℕ, List, Ok};
 ghost use Rattle.board_def.specs.Rules.{IsBoard};
 ghost use Rattle.board_def.specs.Seen.{BoardSeen};
 ghost use Rattle.board_stated.specs.TextOf.{board_of_text};
+
+pub use writers::Writer;
 
 /// The board of a text keeps the rules of boards.
 pub fn board_of_a_text_keeps_the_rules()

@@ -9,8 +9,5 @@ pub enum Writer {
     /// The last driver's.
     Driver,
     /// That of the device's runs of that part.
-    Runs {
-        dev: DevNo,
-        part: Part,
-    },
+    Runs { dev: DevNo, part: Part },
 }

@@ -86,7 +86,12 @@ fn told_rows(
     let mut rows = Vec::new(alloc);
     for i in 0..answers.len() {
         if let Some(word) = answers.get(i) {
-            let row = ToldRow { line, dev, part, answer: word.answer };
+            let row = ToldRow {
+                line,
+                dev,
+                part,
+                answer: word.answer,
+            };
             add_told_times(&mut rows, row, word.times)?;
         }
     }

@@ -30,8 +30,7 @@ pub fn has_no_room_to_call(board: &Board, writer: Writer) -> bool
 {
     match writer {
         Writer::Runs { dev, part } => {
-            board.runs_len() >= MOST_RUN_CALLS
-                || calls_of(dev, part, board.runs()) >= LONGEST_RUN
+            board.runs_len() >= MOST_RUN_CALLS || calls_of(dev, part, board.runs()) >= LONGEST_RUN
         }
         Writer::Nobody | Writer::Driver => board.calls_len() >= MOST_CALLS,
     }

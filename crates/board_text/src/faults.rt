@@ -46,7 +46,9 @@ pub fn is_misplaced(board: &Board, statement: &Statement) -> bool
     match statement {
         Statement::Line(line) => board.last_line().is_some_and(|last| line.line.0 <= last.0),
         Statement::Device(device) => {
-            board.last_device().is_some_and(|last| device.dev.0 <= last.0)
+            board
+                .last_device()
+                .is_some_and(|last| device.dev.0 <= last.0)
         }
         Statement::Driver(driver) => board.last_driver().is_some_and(|last| driver.0 <= last.0),
         _ => false,

@@ -25,9 +25,7 @@ pub fn has_bad_run(board: &Board, writer: Writer, statement: &Statement) -> bool
         Statement::Answers { dev, .. } => !is_told_one(board.find_device(*dev)),
         Statement::Runs { dev, part } => !is_written(*part, board.find_device(*dev)),
         Statement::Call(call) => match writer {
-            Writer::Runs { dev, part } => {
-                may_not_call(board, run_call(board, dev, part, *call))
-            }
+            Writer::Runs { dev, part } => { may_not_call(board, run_call(board, dev, part, *call)) }
             Writer::Nobody | Writer::Driver => false,
         },
         _ => false,

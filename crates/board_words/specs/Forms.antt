@@ -150,7 +150,7 @@ form_after version word words =
     else if is word (codes "line") then at part_number (at name (at mask_number line_options)) words
     else if is word (codes "device")
     then at part_number
-        (at part_number (at (one_of (device_kinds version)) (device_options version))) words
+    (at part_number (at (one_of (device_kinds version)) (device_options version))) words
     else if is word (codes "answers") then at part_number part_form words
     else if is word (codes "handler") then at part_number full words
     else if is word (codes "thread") then at part_number full words

@@ -86,11 +86,7 @@ fn is_part_of_later(word: &[u8], version: u32) -> bool
 /// What a statement on a part says, by its first word and the words after it. It stands apart: most
 /// statements are calls.
 #[inline(never)]
-fn read_named_part(
-    word: &[u8],
-    words: Words<'_>,
-    version: u32,
-) -> Result<Statement, FaultKind>
+fn read_named_part(word: &[u8], words: Words<'_>, version: u32) -> Result<Statement, FaultKind>
     requires picks { forms.is word.now (codes "picks") ≡ false }
     requires answers { forms.is word.now (codes "answers") ≡ false }
     requires call { list_any (forms.is word.now) call_texts ≡ false }

@@ -42,9 +42,7 @@ pub enum Kind {
     Odd,
     /// Handler and thread answer as the board says (`ToldAnswer`). `threaded`: some answer of the
     /// handler wakes the thread; the thread serves then, and else the handler.
-    Told {
-        threaded: bool,
-    },
+    Told { threaded: bool },
 }
 
 /// What the board says that a run of a told device does.

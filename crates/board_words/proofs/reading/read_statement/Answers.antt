@@ -11,8 +11,13 @@ returns-in-Ok-clause-exact c =
     let call = c.in-Some-call_word.call in
     let known : is_of_later c.args.version (call_text call) ≡ false = sym c.is_call_of_later.ensures ∙ c.if-is_call_of_later.false in
     let told = outcome_is_ok _ _ _ (sym c.in-Ok.is ∙ c.read_call.ensures) in
-    rw (c.in-Some.ensures, c.in-Some-call_word.ensures, known, same_form c.args.version call (words_left c.next.new.self),
-    said_call call (words_left c.next.new.self)) (told.0, ap (λ x. statements.Call x) told.1)
+    rw (
+      c.in-Some.ensures,
+      c.in-Some-call_word.ensures,
+      known,
+      same_form c.args.version call (words_left c.next.new.self),
+      said_call call (words_left c.next.new.self),
+    ) (told.0, ap (λ x. statements.Call x) told.1)
 
 pub returns-in-Err-clause-exact : goal.returns-in-Err-clause-exact
 returns-in-Err-clause-exact c =
