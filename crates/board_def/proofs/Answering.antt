@@ -27,11 +27,11 @@ use Rattle.irq_model.specs.Kinds.{same_dev}
 use Rattle.irq_model.specs.Lines.{same_part}
 use Rattle.irq_model.specs.Places.{count_of}
 use Rattle.irq_model.specs.RunBounds.{is_wake_word}
-use Rattle.irq_model.specs.ValidRuns.{has_script, is_told, may_stand, may_answer}
+use Rattle.irq_model.specs.ValidRuns.{has_script, is_told, may_stand, may_wait, may_answer}
 use Rattle.domain_rules.specs.Domains.{EachAfter}
 use Rattle.board_def.specs.Rules.{IsBoard, IsLineAfter, IsDeviceAfter, IsCallAfter, IsActorOf, AreRuns, AreAnswers}
 use Rattle.board_def.specs.Rules.{find_device, fits_line, is_on_line, is_threaded, with_answers}
-use Rattle.board_def.specs.Runs.{is_call_of, may_call, may_wait, arms_itself, arms_though_woken, wakes_by_call, is_allowed_run}
+use Rattle.board_def.specs.Runs.{is_call_of, may_call, arms_itself, arms_though_woken, wakes_by_call, is_allowed_run}
 use Rattle.board_def.specs.Runs.{is_told_one, is_allowed_answer, answers_wake, fits_wakes, threaded, with_thread}
 use Rattle.board_def.specs.Seen.{BoardSeen}
 use Rattle.board_def.specs.declared.rows.LineRow.{LineRow}

@@ -21,10 +21,11 @@ use Rattle.irq_model.specs.Kinds.{same_dev}
 use Rattle.irq_model.specs.Lines.{is_device, has_device, kind_in, kind_of, same_part, script_in, run_script, told_in, told_answers}
 use Rattle.irq_model.specs.Places.{count_of}
 use Rattle.irq_model.specs.RunBounds.{arms_this, is_wake_word, wakes_by_handler}
-use Rattle.irq_model.specs.ValidRuns.{HasValidRuns, WakesWhatItHas, names_own_device, has_script, is_told, may_stand, may_answer}
+use Rattle.irq_model.specs.ValidRuns.{HasValidRuns, WakesWhatItHas, NeverWaits, names_own_device, has_script, is_told, may_stand, may_wait}
+use Rattle.irq_model.specs.ValidRuns.{may_answer}
 use Rattle.board_def.specs.LineOf.{line_of_row, with_driver}
 use Rattle.board_def.specs.Rules.{IsBoard, find_device, is_on_line, fits_line}
-use Rattle.board_def.specs.Runs.{of_run, of_told, is_call_of, may_call, may_wait, arms_itself, wakes_by_call, arms_though_woken}
+use Rattle.board_def.specs.Runs.{of_run, of_told, is_call_of, may_call, arms_itself, wakes_by_call, arms_though_woken}
 use Rattle.board_def.specs.Runs.{is_allowed_run, is_allowed_answer, answers_wake, fits_wakes}
 use Rattle.board_def.specs.Seen.{BoardSeen}
 use Rattle.board_def.specs.declared.rows.LineRow.{LineRow}

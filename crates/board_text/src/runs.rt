@@ -2,13 +2,13 @@
 ghost use Rattle.std.specs.Prelude.{◌≡◌};
 ghost use Rattle.std.specs.List.{list_any};
 ghost use Rattle.board_def.specs.Rules.{find_device};
-ghost use Rattle.board_def.specs.Runs.{may_wait, may_call, arms_itself, wakes_by_call};
+ghost use Rattle.board_def.specs.Runs.{may_call, arms_itself, wakes_by_call};
 ghost use Rattle.board_def.specs.Runs.{arms_though_woken, is_allowed_run, is_told_one};
 ghost use Rattle.board_stated.specs.FaultsAfter.{is_written, wakes_what_arms, may_not_call};
 ghost use Rattle.board_stated.specs.FaultsAfter.{has_bad_run};
 ghost use Rattle.board_stated.specs.Stated.{run_call};
 ghost use Rattle.irq_model.specs.RunBounds.{arms_this, wakes_this};
-ghost use Rattle.irq_model.specs.ValidRuns.{has_script, is_told, is_direct, may_stand};
+ghost use Rattle.irq_model.specs.ValidRuns.{has_script, is_told, is_direct, may_stand, may_wait};
 
 use crate::adding::run_call;
 use board_def::{Board, RunCall};

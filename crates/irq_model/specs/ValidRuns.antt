@@ -60,6 +60,17 @@ may_stand kind parts.Thread d (calls.Arm dev) = same_dev d dev
 may_stand kind parts.Primary d (calls.Arm dev) = same_dev d dev && is_direct kind
 may_stand kind part d _ = false
 
+-- a call that may wait for its own run
+abbrev pub may_wait : Call → Bool
+may_wait calls.Disable = true
+may_wait calls.Sync = true
+may_wait (calls.Free dev) = true
+may_wait _ = false
+
+-- no run makes such a call: then nobody hangs
+abbrev pub NeverWaits : LineDef → Type 0
+NeverWaits def = All (λ c. may_wait c.2 ≡ false) def.runs
+
 -- an answer that the part may give: a thread wakes nobody
 abbrev pub may_answer : Kind → Part → ToldAnswer → Bool
 may_answer kind parts.Thread tolds.Wake = false
