@@ -426,7 +426,7 @@ holder_at a d (by.DriverCall s call ∷ past) is f free =
 holder_at a d (e ∷ past) is f free = later_holder a f e past refl refl free (holder_at a d past is)
 
 -- the mutex is held by the maker of the free that is under way
-holds_it : (a : Actor) (d : DevNo) (past : List Entry) → freeing past ≡ Some (a, d) → mutex_holder past ≡ Some a
+pub holds_it : (a : Actor) (d : DevNo) (past : List Entry) → freeing past ≡ Some (a, d) → mutex_holder past ≡ Some a
 holds_it a d past is =
     ap maker_of (last_ext is_being_freed_at (owned (λ d. true) (λ r. false)) past same_place) ∙ holder_at a d past is (λ r. false) refl
 
