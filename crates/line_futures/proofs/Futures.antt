@@ -50,7 +50,7 @@ module _ (def : LineDef) (valid : IsValid def) where
     pub due_same : (a : Actor) → next_past def g a ≡ next_past def h a
     due_same (actors.Thread d) =
         thread_is def g d valid legal ∙ (sym (thread_same def (state_of def g) d)
-        ∙ (ap (λ (s : StateSeen). thread_due s d) like.state
+        ∙ (ap (λ (s : StateSeen). thread_due def s d) like.state
         ∙ (thread_same def (state_of def h) d ∙ sym (thread_is def h d valid other))))
     due_same (actors.Cpu c) =
         cpu_due_is def g c valid legal ∙ (sym (cpu_same def (state_of def g) c)
