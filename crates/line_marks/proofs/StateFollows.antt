@@ -13,6 +13,7 @@ use Rattle.line_marks.proofs.CountsFollow.{tally_more}
 use Rattle.line_marks.proofs.DescFollow.{desc_follows}
 use Rattle.line_marks.proofs.FreeingFollows.{freeing_more}
 use Rattle.line_marks.proofs.ListFollows.{list_more}
+use Rattle.line_marks.proofs.PlacesFollow.{places_more}
 use Rattle.line_marks.proofs.RoundsFollow.{round_more}
 use Rattle.line_marks.proofs.TargetFollow.{aimed_more}
 use Rattle.line_marks.proofs.ThreadsFollow.{threads_follow}
@@ -21,9 +22,9 @@ use Rattle.line_marks.specs.Desc.{desc_of, desc_after}
 use Rattle.line_marks.specs.State.{StateSeen, first_state, state_of, state_after}
 
 same_state : (a b : StateSeen) → a.desc ≡ b.desc → a.cell ≡ b.cell → a.active ≡ b.active → a.aimed ≡ b.aimed
-    → a.aim ≡ b.aim → a.list ≡ b.list → a.threads ≡ b.threads → a.asks ≡ b.asks → a.kinds ≡ b.kinds → a.round ≡ b.round
+    → a.aim ≡ b.aim → a.list ≡ b.list → a.threads ≡ b.threads → a.asks ≡ b.asks → a.facts ≡ b.facts → a.places ≡ b.places → a.round ≡ b.round
     → a.counts ≡ b.counts → a.freeing ≡ b.freeing → a ≡ b
-same_state a b h i j k l m n o p q r s =
+same_state a b h i j k l m n o p q r s t =
     (let e : ◌≡◌ {A = StateSeen} (record {
       desc = a.desc;
       cell = a.cell;
@@ -33,11 +34,12 @@ same_state a b h i j k l m n o p q r s =
       list = a.list;
       threads = a.threads;
       asks = a.asks;
-      kinds = a.kinds;
+      facts = a.facts;
+      places = a.places;
       round = a.round;
       counts = a.counts;
       freeing = a.freeing;
-    }) b = rw (h, i, j, k, l, m, n, o, p, q, r, s) refl in e)
+    }) b = rw (h, i, j, k, l, m, n, o, p, q, r, s, t) refl in e)
 
 pub state_follows : (def : LineDef) (e : Entry) (past : List Entry) → IsValid def → IsLegalPast def (e ∷ past)
     → state_of def (e ∷ past) ≡ state_after def e (state_of def past)
@@ -52,6 +54,7 @@ state_follows def e past valid legal =
     (threads_follow def e past valid legal)
     (asks_more def e past valid)
     refl
+    (places_more def e past valid legal)
     (round_more def e past)
     (tally_more def e past)
     (freeing_more e past)
