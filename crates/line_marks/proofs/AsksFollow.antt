@@ -1,5 +1,6 @@
 -- The counts of the asks, and what is quiet, follow the history.
-use Rattle.std.proofs.Common.{◌≡◌, ℕ, ◌+◌, min, Bool, true, false, not, ◌||◌, ◌&&◌, cond, ltb, Option, Some, None, List, [], ◌∷◌, refl, sym, ap, ap₂, ◌∙◌, arith}
+use Rattle.std.proofs.Common.{◌≡◌, ℕ, ◌+◌, min, Bool, true, false, not, ◌||◌, ◌&&◌, cond, ltb, Option, Some, None, List}
+use Rattle.std.proofs.Common.{[], ◌∷◌, refl, sym, ap, ap₂, ◌∙◌, arith}
 use Rattle.irq_base.specs.declared.devices.Answer.{Answer}
 use Rattle.irq_base.specs.declared.devices.Part.{Part}
 use Rattle.irq_base.specs.declared.devices.Part.TheVariants as parts
@@ -25,7 +26,7 @@ use Rattle.device_table.proofs.Tables.{same_table, change_any}
 use Rattle.ask_counts.specs.Facts.{all_facts}
 use Rattle.ask_counts.specs.declared.facts.DeviceFacts.{DeviceFacts}
 use Rattle.ask_counts.specs.declared.rows.AskRow.{AskRow}
-use Rattle.ask_counts.specs.Rows.{asked, called, begun, served, emptied, turned_off, turned_on}
+use Rattle.ask_counts.specs.Rows.{no_asks, asked, called, begun, served, emptied, turned_off, turned_on}
 use Rattle.line_marks.proofs.FactsFixed.{facts_are}
 use Rattle.line_marks.specs.Asks.{since_begun, fresh_asks, ask_row, asks_of, asks_after, asks_by_call}
 
@@ -350,8 +351,10 @@ quiet_call def call e past k h = quiet def e past (λ d. let a = h d in
 
 call_more : (def : LineDef) (call : CallEntry) (e : Entry) (past : List Entry) → IsCall call e → IsValid def
     → asks_of def (e ∷ past) ≡ asks_by_call call (asks_of def past)
-call_more def (called_by.Serve x n) e past k valid = own_call def (called_by.Serve x n) e past x emptied k (rw (same_self x) refl) (λ d other. (other, refl, refl)) valid
-call_more def (called_by.Quiet x) e past k valid = own_call def (called_by.Quiet x) e past x turned_off k (rw (same_self x) refl) (λ d other. (refl, other, refl)) valid
+call_more def (called_by.Serve x n) e past k valid = own_call def (called_by.Serve x n) e past x emptied k
+    (rw (same_self x) refl) (λ d other. (other, refl, refl)) valid
+call_more def (called_by.Quiet x) e past k valid = own_call def (called_by.Quiet x) e past x turned_off k
+    (rw (same_self x) refl) (λ d other. (refl, other, refl)) valid
 call_more def (called_by.Arm edge x) e past k valid =
     own_call def (called_by.Arm edge x) e past x turned_on k (rw (same_self x) refl) (λ d other. (refl, refl, other)) valid
 call_more def call e past k valid = quiet_call def call e past k (λ d. (refl, refl, refl))
@@ -421,3 +424,12 @@ asks_more def (by.CpuCall c call) past valid = call_more def call (by.CpuCall c 
 asks_more def (by.ThreadCall x call) past valid = call_more def call (by.ThreadCall x call) past (by_thread x call) valid
 asks_more def (by.DriverCall r call) past valid = call_more def call (by.DriverCall r call) past (by_driver r call) valid
 asks_more def e past valid = quiet def e past (λ d. none d e refl refl refl refl refl refl refl refl)
+
+-- nothing was asked yet
+pub asks_first : (def : LineDef) (d : DevNo) → ask_row def [] d ≡ no_asks
+asks_first def d =
+    let none : unserved_asks def d [] ≡ 0 = nothing (left_by_runs (serving def d) d []) in
+    same_row (ask_row def [] d) no_asks none (nothing (since_begun (serving def d) d [])) none none refl
+  where
+    nothing : (n : ℕ) → min 0 n ≡ 0
+    nothing n = omega arith

@@ -277,7 +277,13 @@ runs_few def past d parts.Primary = work_few def past (at_work past)
 runs_few def past d parts.Thread = rows_few def past d
 
 pub state_few : (def : LineDef) (past : List Entry) → IsFew (length past) (state_of def past)
-state_few def past = record { depth = depth_few past; rounds = count_few (begins_round def) past; handled = handled_few def past; asks = asks_few def past; runs = runs_few def past }
+state_few def past = record {
+  depth = depth_few past;
+  rounds = count_few (begins_round def) past;
+  handled = handled_few def past;
+  asks = asks_few def past;
+  runs = runs_few def past;
+}
 
 -- ---- one more fits
 

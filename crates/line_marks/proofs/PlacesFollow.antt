@@ -36,7 +36,8 @@ use Rattle.device_table.specs.Rows.{at, table_by, change}
 use Rattle.device_table.proofs.Tables.{same_table, change_any, at_device}
 use Rattle.line_scripts.proofs.LastEntry.{completes_at, last_of_cpu, last_of_thread}
 use Rattle.line_scripts.specs.Endings.{completes}
-use Rattle.run_scripts.specs.Places.{PlacesSeen, first_place, first_row, row_at, advanced, turned, handler_begun, thread_begun, placed, row_advanced, after_call}
+use Rattle.run_scripts.specs.Places.{PlacesSeen, first_place, first_turn, first_row, row_at, advanced, turned}
+use Rattle.run_scripts.specs.Places.{handler_begun, thread_begun, placed, row_advanced, after_call}
 use Rattle.run_scripts.specs.declared.rows.RunPlace.{RunPlace}
 use Rattle.run_scripts.specs.declared.rows.RunRow.{RunRow}
 use Rattle.run_scripts.specs.declared.rows.Turn.{Turn}
@@ -328,3 +329,11 @@ places_more def (by.ThreadCall x call) past valid legal =
     ∙ ap (λ (r : RunRow). change (row_advanced (completes_some (slice_get (run_script def x parts.Thread) r.calls.place) (by.ThreadCall x call)))
     (table_by (run_row def past) def.devices) x) (sym (row_found def past x there)))
 places_more def e past valid legal = still def e past refl refl (λ d. refl) (λ d. refl) (λ d. refl) (λ d. refl)
+
+-- no run has begun yet
+pub runs_first : (def : LineDef) (d : DevNo) → run_row def [] d ≡ first_row
+runs_first def d = same_row (run_row def [] d) first_row (laid_first (run_script def d parts.Thread))
+    (first (answer_count def parts.Primary d)) (first (answer_count def parts.Thread d))
+  where
+    first : (k : ℕ) → ◌≡◌ {A = Turn} (record { now = min 0 k; next = min 0 k }) first_turn
+    first k = (let e : min 0 k ≡ 0 = omega arith in rw e refl)

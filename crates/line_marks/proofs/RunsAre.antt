@@ -22,7 +22,8 @@ use Rattle.irq_model.specs.Kinds.{same_dev, is_ask, is_serve, is_begin, is_threa
 use Rattle.irq_model.specs.Lines.{is_device, kind_of, run_script, told_answers, same_part}
 use Rattle.irq_model.specs.Places.{since, before, stands}
 use Rattle.irq_model.specs.Rounds.{at_work}
-use Rattle.irq_model.specs.Runs.{answer_of_run_now, due_in_run, entries_of_run, is_recognised, is_that_part, makes_calls, met_by, serves_by_word, served_by_run, told_of}
+use Rattle.irq_model.specs.Runs.{answer_of_run_now, due_in_run, entries_of_run, is_recognised, is_that_part}
+use Rattle.irq_model.specs.Runs.{makes_calls, met_by, serves_by_word, served_by_run, told_of}
 use Rattle.irq_model.specs.Threads.{is_running}
 use Rattle.irq_steps.proofs.Same.{same_self}
 use Rattle.irq_steps.specs.Laid.{with_count}
@@ -70,11 +71,11 @@ taken_first def part d e past is begins =
     omega (arith, u, f)
 
 -- the entry doesn't, nor does it return from one
-taken_later : (s a : Bool) (u f t : ℕ) (before served : Bool) → u - f ≡ cond served 0 t
+taken_later : (s a : Bool) (u f t : ℕ) (served : Bool) → u - f ≡ cond served 0 t
     → cond s 0 (cond a (u + 1) u) - cond s 0 (cond a (f + 1) f) ≡ cond (s || served) 0 t
-taken_later true a u f t before served h = refl
-taken_later false true u f t before served h = omega (arith, h)
-taken_later false false u f t before served h = h
+taken_later true a u f t served h = refl
+taken_later false true u f t served h = omega (arith, h)
+taken_later false false u f t served h = h
 
 or_none : (b : Bool) → (b || false) ≡ b
 or_none true = refl
@@ -83,9 +84,9 @@ or_none false = refl
 pub taken_is : (def : LineDef) (part : Part) (d : DevNo) (past : List Entry) → serving def d ≡ Some part → list_any (begins_run part d) past ≡ true
     → list_any (returns_served part d) (since (begins_run part d) past) ≡ false
     → unserved_asks def d past - fresh_asks def d past ≡ taken_away def part d past
-taken_is def part d [] is there open = cc
-taken_is def part d (e ∷ past) is there open =
-    by_test (begins_run part d e) refl there open (taken_is def part d past is)
+taken_is def part d [] is there going = cc
+taken_is def part d (e ∷ past) is there going =
+    by_test (begins_run part d e) refl there going (taken_is def part d past is)
   where
     by_test : (b : Bool) → begins_run part d e ≡ b → (b || list_any (begins_run part d) past) ≡ true
         → list_any (returns_served part d) (cond b [] (e ∷ since (begins_run part d) past)) ≡ false
@@ -93,9 +94,9 @@ taken_is def part d (e ∷ past) is there open =
         → unserved_asks def d past - fresh_asks def d past ≡ taken_away def part d past)
         → unserved_asks def d (e ∷ past) - fresh_asks def d (e ∷ past)
         ≡ cond (list_any (is_serve d) (cond b [] (e ∷ since (begins_run part d) past))) 0 (unserved_asks def d (cond b past (before (begins_run part d) past)))
-    by_test true begins there open rest = taken_first def part d e past is begins
-    by_test false no there open rest =
-        let p = or_parts (returns_served part d e) _ open in
+    by_test true begins there going rest = taken_first def part d e past is begins
+    by_test false isnt there going rest =
+        let p = or_parts (returns_served part d e) _ going in
         let u : unserved_asks def d (e ∷ past) ≡ cond (is_serve d e) 0 (cond (is_ask d e) (unserved_asks def d past + 1) (unserved_asks def d past)) =
         unserved_more def d e past
         ∙ (ap (λ (o : Option Part). cond (is_serve d e) 0 (cond (ends_serving o d e) (fresh_asks def d past)
@@ -105,11 +106,11 @@ taken_is def part d (e ∷ past) is there open =
         let f : fresh_asks def d (e ∷ past) ≡ cond (is_serve d e) 0 (cond (is_ask d e) (fresh_asks def d past + 1) (fresh_asks def d past)) =
         fresh_more def d e past
         ∙ (ap (λ (o : Option Part). cond (is_serve d e || begins_serving o d e) 0 (cond (is_ask d e) (fresh_asks def d past + 1) (fresh_asks def d past))) is
-        ∙ (ap (λ b. cond (is_serve d e || b) 0 (cond (is_ask d e) (fresh_asks def d past + 1) (fresh_asks def d past))) no
+        ∙ (ap (λ b. cond (is_serve d e || b) 0 (cond (is_ask d e) (fresh_asks def d past + 1) (fresh_asks def d past))) isnt
         ∙ ap (λ b. cond b 0 (cond (is_ask d e) (fresh_asks def d past + 1) (fresh_asks def d past))) (or_none (is_serve d e)))) in
         ap₂ (λ (a b : ℕ). a - b) u f
         ∙ taken_later (is_serve d e) (is_ask d e) (unserved_asks def d past) (fresh_asks def d past)
-        (unserved_asks def d (before (begins_run part d) past)) false (list_any (is_serve d) (since (begins_run part d) past)) (rest there p.1)
+        (unserved_asks def d (before (begins_run part d) past)) (list_any (is_serve d) (since (begins_run part d) past)) (rest there p.1)
 
 -- ---- a run that is there
 
@@ -161,9 +162,9 @@ no_return d (by.Thread x (threads.Return handled n)) h = unserving (same_dev d x
 no_return d e h = refl
 
 pub running_open : (d : DevNo) (past : List Entry) → is_running past d ≡ true → has_returned past d ≡ false → IsOpen parts.Thread d past
-running_open d past run open = record {
+running_open d past run going = record {
   begun = was_there (is_thread_begin d) (is_done d) past run;
-  unreturned = within (returns_served parts.Thread d) (is_thread_return d) (since (is_thread_begin d) past) (no_return d) open;
+  unreturned = within (returns_served parts.Thread d) (is_thread_return d) (since (is_thread_begin d) past) (no_return d) going;
 }
 
 part_of : (part : Part) (o : Option Part) → is_that_part part o ≡ true → o ≡ Some part
@@ -209,7 +210,7 @@ module _ (def : LineDef) (past : List Entry) (d : DevNo) (there : list_any (is_d
   served_if false w n m h = refl
 
   pub served_is : (part : Part) → IsOpen part d past → served_at def (state_of def past) part d ≡ served_by_run def part d past
-  served_is part open =
+  served_is part going =
       let w = serves_by_word (kind_of def d) (told_of def part d past) in
       ap (λ (f : DeviceFacts). cond (is_that_part part f.serving && serves_by_word f.kind (told_at def (state_of def past) part d))
       (taken_in (at (state_of def past).asks d)) 0) (facts_are def d)
@@ -217,7 +218,7 @@ module _ (def : LineDef) (past : List Entry) (d : DevNo) (there : list_any (is_d
       (taken_in (at (state_of def past).asks d)) 0) (told_is part)
       ∙ (ap (λ (o : Option AskRow). cond (is_that_part part (serving def d) && w) (taken_in o) 0) ask_row_is
       ∙ served_if (is_that_part part (serving def d)) w (unserved_asks def d past - fresh_asks def d past) (taken_away def part d past)
-      (λ is. taken_is def part d past (part_of part (serving def d) is) open.begun open.unreturned)))
+      (λ is. taken_is def part d past (part_of part (serving def d) is) going.begun going.unreturned)))
 
   -- ---- the due call
 
@@ -235,8 +236,8 @@ module _ (def : LineDef) (past : List Entry) (d : DevNo) (there : list_any (is_d
 
   -- of the thread in its run
   pub thread_due_is : has_returned past d ≡ false → due_in_run_at def (state_of def past) parts.Thread d ≡ due_in_run def parts.Thread d past
-  thread_due_is open =
+  thread_due_is going =
       let es = entries_of_run parts.Thread d past in
       ap (λ (r : RunRow). with_count (slice_get (run_script def d parts.Thread) r.calls.place) r.calls.within) (row_found def past d there)
       ∙ due_by_place parts.Thread es (thread_place def past d)
-      (ap (λ (xs : List Entry). laid_at (run_script def d parts.Thread) (reverse (filter (is_thread_call d) xs))) (run_began d past open))
+      (ap (λ (xs : List Entry). laid_at (run_script def d parts.Thread) (reverse (filter (is_thread_call d) xs))) (run_began d past going))

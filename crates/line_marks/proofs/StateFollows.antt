@@ -2,23 +2,30 @@
 use Rattle.std.proofs.Common.{◌≡◌, List, [], ◌∷◌, refl, sym, ap, ◌∙◌}
 use Rattle.irq_base.specs.declared.entries.Entry.{Entry}
 use Rattle.irq_base.specs.declared.lines.LineDef.{LineDef}
+use Rattle.irq_base.specs.declared.numbers.DevNo.{DevNo}
 use Rattle.irq_model.specs.Legal.{IsLegalPast}
 use Rattle.irq_model.specs.Valid.{IsValid}
 use Rattle.irq_laws.specs.Driven.{cell_after}
 use Rattle.line_marks.proofs.ActionsFollow.{bare_is}
 use Rattle.line_marks.proofs.AimFollow.{aim_more}
-use Rattle.line_marks.proofs.AsksFollow.{asks_more}
+use Rattle.line_marks.proofs.AsksFollow.{asks_first, asks_more}
 use Rattle.line_marks.proofs.CellFollows.{cell_more}
 use Rattle.line_marks.proofs.CountsFollow.{tally_more}
 use Rattle.line_marks.proofs.DescFollow.{desc_follows}
 use Rattle.line_marks.proofs.FreeingFollows.{freeing_more}
 use Rattle.line_marks.proofs.ListFollows.{list_more}
-use Rattle.line_marks.proofs.PlacesFollow.{places_more}
+use Rattle.line_marks.proofs.PlacesFollow.{places_more, runs_first}
 use Rattle.line_marks.proofs.RoundsFollow.{round_more}
 use Rattle.line_marks.proofs.TargetFollow.{aimed_more}
 use Rattle.line_marks.proofs.ThreadsFollow.{threads_follow}
 use Rattle.line_marks.proofs.UpFollow.{active_follows}
+use Rattle.device_table.proofs.Tables.{same_table}
+use Rattle.ask_counts.specs.Rows.{no_asks}
+use Rattle.run_scripts.specs.Places.{first_place, first_row}
+use Rattle.run_scripts.specs.declared.rows.RunRow.{RunRow}
+use Rattle.line_marks.specs.Asks.{ask_row}
 use Rattle.line_marks.specs.Desc.{desc_of, desc_after}
+use Rattle.line_marks.specs.Places.{run_row}
 use Rattle.line_marks.specs.State.{StateSeen, first_state, state_of, state_after}
 
 same_state : (a b : StateSeen) → a.desc ≡ b.desc → a.cell ≡ b.cell → a.active ≡ b.active → a.aimed ≡ b.aimed
@@ -61,4 +68,8 @@ state_follows def e past valid legal =
 
 -- it begins as one to which nothing was done
 pub state_first : (def : LineDef) → state_of def [] ≡ first_state def
-state_first def = refl
+state_first def =
+    same_state (state_of def []) (first_state def) refl refl refl refl refl refl refl
+    (same_table (λ d. no_asks) (ask_row def []) def.devices (asks_first def)) refl
+    (ap (λ (t : List (DevNo × RunRow)). record { work = first_place; rows = t })
+    (same_table (λ d. first_row) (run_row def []) def.devices (runs_first def))) refl refl refl

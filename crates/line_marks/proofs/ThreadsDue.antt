@@ -107,10 +107,10 @@ opens_is def past d valid there = ap (λ b. not (is_woken past d) &&
 
 -- a run that hasn't returned makes its next call, or returns
 module _ (def : LineDef) (past : List Entry) (valid : IsValid def) (legal : IsLegalPast def past) (d : DevNo)
-    (there : list_any (is_device d) def.devices ≡ true) (run : is_running past d ≡ true) (open : has_returned past d ≡ false) where
+    (there : list_any (is_device d) def.devices ≡ true) (run : is_running past d ≡ true) (still : has_returned past d ≡ false) where
   return_is : thread_return_of def d past ≡ thread_return_by def (state_of def past) d
   return_is = ap₂ (λ (a : Answer) (n : ℕ). by.Thread d (threads.Return (is_handled a) n)) (sym (answer_is def past d there parts.Thread))
-      (sym (served_is def past d there parts.Thread (running_open d past run open)))
+      (sym (served_is def past d there parts.Thread (running_open d past run still)))
 
   call_or_return_is : (o : Option (Call × ℕ)) → call_or_return def d past o ≡ call_or_return_by def (state_of def past) d o
   call_or_return_is None = ap Some return_is
@@ -119,7 +119,7 @@ module _ (def : LineDef) (past : List Entry) (valid : IsValid def) (legal : IsLe
   goes_is : call_or_return def d past (due_in_run def parts.Thread d past)
       ≡ call_or_return_by def (state_of def past) d (due_in_run_at def (state_of def past) parts.Thread d)
   goes_is = call_or_return_is (due_in_run def parts.Thread d past)
-      ∙ ap (call_or_return_by def (state_of def past) d) (sym (due_is def past d there open))
+      ∙ ap (call_or_return_by def (state_of def past) d) (sym (due_is def past d there still))
 
 by_stage : (def : LineDef) (past : List Entry) (d : DevNo) (r t f : Bool) → IsValid def → IsLegalPast def past
     → list_any (is_device d) def.devices ≡ true → is_running past d ≡ r → has_returned past d ≡ t

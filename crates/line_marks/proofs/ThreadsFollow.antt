@@ -89,7 +89,7 @@ call_held (called.Wake woken x) past h d = by_test (woken && same_dev d x) refl
         → is_unfinished (by_someone (called.Wake woken x) ∷ past) d ≡ (linking_flags (by_someone (called.Wake woken x) ∷ past) d).oneshot
     by_test true is = λ on. rw is (held_now (linking_flags past d).oneshot true)
     by_test false is = rw is (h d)
-call_held call past h = h
+call_held call past h d = h d
 
 answers_held : (b w : Bool) → ((b && false) || w) ≡ w
 answers_held true w = refl
@@ -225,7 +225,7 @@ threads_more def (by.Thread x threads.Begin) past valid due k h =
     (there def past x k (woken_there def past k x is.woken))
     (rw (same_self x, is.woken, is.not_running) refl) (λ d apart. rw (other_way d x apart) refl)
 threads_more def (by.Thread x (threads.Return handled n)) past valid due k h =
-    let is = thread_return_due handled def x n past due in
+    let is = thread_return_due def x handled n past due in
     change_table (thread_of past) (thread_of (by.Thread x (threads.Return handled n) ∷ past)) returned_row def.devices x
     valid.distinct (there def past x k (running_there def past k x is.running))
     (rw (same_self x, is.running, is.not_returned) refl) (λ d apart. rw (other_way d x apart) refl)

@@ -350,7 +350,7 @@ pub linked_is_up : (def : LineDef) (past : List Entry) → IsValid def → IsLeg
 linked_is_up def past valid legal some = up_is def past valid legal ∙ ap (λ b. up_by b (freeing past)) some
 
 pub enabled_is_up : (def : LineDef) (past : List Entry) → IsValid def → IsLegalPast def past → depth past ≡ 0 → is_up past ≡ true
-enabled_is_up def past valid legal zero = linked_is_up def past valid legal ((kept def past valid legal).depth.enabled zero).1
+enabled_is_up def past valid legal on = linked_is_up def past valid legal ((kept def past valid legal).depth.enabled on).1
 
 -- ---- what an entry makes of it
 

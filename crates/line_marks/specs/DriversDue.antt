@@ -1,5 +1,6 @@
 -- The entry that is due of a driver, read off its due call and the state of the line.
-use Rattle.std.specs.Prelude.{ℕ, Bool, true, not, if◌then◌else◌, is_some, Option, Some, None, option_map}
+use Rattle.std.specs.Prelude.{ℕ, Bool, true, not, if◌then◌else◌, is_some, Option, Some, None}
+use Rattle.std.specs.Prelude.{option_map}
 use Rattle.irq_base.specs.declared.calls.Call.{Call}
 use Rattle.irq_base.specs.declared.calls.Call.TheVariants as calls
 use Rattle.irq_base.specs.declared.calls.Flags.{Flags}

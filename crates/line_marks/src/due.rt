@@ -47,7 +47,8 @@ pub fn thread_due_is_told()
 {}
 
 /// What is due of a processor: in its flow the next call of the handler at work or its return, the
-/// next handler's begin, or the end by the line's flow; else the take of what is presented or resent.
+/// next handler's begin, or the end by the line's flow; else the take of what is presented or
+/// resent.
 #[tactic(auto, using(crate::proofs::CpuDueIs::cpu_due_is))]
 pub fn cpu_due_is_told()
     ensures law { (def : LineDef) (past : List Entry) (c : CpuNo) → IsValid def
