@@ -15,8 +15,8 @@ use Rattle.irq_base.specs.declared.lines.LineDef.{LineDef}
 use Rattle.irq_base.specs.declared.numbers.CpuNo.{CpuNo}
 use Rattle.irq_base.specs.declared.numbers.DriverNo.{DriverNo}
 use Rattle.irq_base.specs.declared.numbers.DevNo.{DevNo}
-use Rattle.irq_model.specs.Asks.{begins_run, returns_served, left_by_runs, since_served_run, serving, unserved_asks, is_quiet}
-use Rattle.irq_model.specs.Kinds.{same_dev, is_ask, is_begin, is_thread_begin, is_serve, is_call, serves_this, quiets, arms, turns_off, turns_on}
+use Rattle.irq_model.specs.Asks.{begins_run, returns_served, left_by_runs, since_served_run, serving, unserved_asks}
+use Rattle.irq_model.specs.Kinds.{same_dev, is_ask, is_begin, is_thread_begin, is_serve, serves_this, quiets, arms, turns_off, turns_on}
 use Rattle.irq_model.specs.Places.{since, before, count_of}
 use Rattle.irq_model.specs.Runs.{is_that_part}
 use Rattle.irq_model.specs.Valid.{IsValid}

@@ -1,67 +1,44 @@
 -- What is due of a driver by the table of steps is due by the state.
-use Rattle.std.proofs.Common.{◌≡◌, ℕ, ◌+◌, ◌==◌, Bool, true, false, not, ◌||◌, ◌&&◌, cond, is_some, Option, Some, None}
-use Rattle.std.proofs.Common.{List, [], ◌∷◌, refl, sym, ap, ◌∙◌, arith, option_map}
-use Rattle.std.specs.List.{list_any}
+use Rattle.std.proofs.Common.{◌≡◌, ℕ, true, not, cond, is_some, Option, Some, None}
+use Rattle.std.proofs.Common.{List, refl, sym, ap, ◌∙◌, option_map}
 use Rattle.irq_base.specs.declared.calls.Call.{Call}
 use Rattle.irq_base.specs.declared.calls.Call.TheVariants as calls
 use Rattle.irq_base.specs.declared.calls.Flags.{Flags}
-use Rattle.irq_base.specs.declared.devices.DeviceDef.{DeviceDef}
 use Rattle.irq_base.specs.declared.entries.Actor.TheVariants as actors
 use Rattle.irq_base.specs.declared.entries.EnableAnswer.{EnableAnswer}
-use Rattle.irq_base.specs.declared.entries.EnableAnswer.TheVariants as enables
 use Rattle.irq_base.specs.declared.entries.Entry.{Entry}
 use Rattle.irq_base.specs.declared.entries.Entry.TheVariants as by
 use Rattle.irq_base.specs.declared.entries.DriverEntry.TheVariants as drivers
 use Rattle.irq_base.specs.declared.entries.CallEntry.{CallEntry}
-use Rattle.irq_base.specs.declared.entries.CallEntry.TheVariants as called
 use Rattle.irq_base.specs.declared.entries.LinkAnswer.{LinkAnswer}
 use Rattle.irq_base.specs.declared.entries.LinkAnswer.TheVariants as links
 use Rattle.irq_base.specs.declared.entries.Opened.{Opened}
 use Rattle.irq_base.specs.declared.entries.Opened.TheVariants as opens
 use Rattle.irq_base.specs.declared.entries.Resend.{Resend}
-use Rattle.irq_base.specs.declared.entries.UnlinkAnswer.{UnlinkAnswer}
-use Rattle.irq_base.specs.declared.entries.UnlinkAnswer.TheVariants as unlinks
 use Rattle.irq_base.specs.declared.lines.LineDef.{LineDef}
 use Rattle.irq_base.specs.declared.numbers.DevNo.{DevNo}
 use Rattle.irq_base.specs.declared.numbers.DriverNo.{DriverNo}
-use Rattle.irq_laws.proofs.KeptAlways.{kept}
-use Rattle.irq_laws.specs.Driven.{cell_after}
 use Rattle.irq_laws.specs.Kept.{freeing}
 use Rattle.irq_model.specs.Due.{due_call}
 use Rattle.irq_model.specs.Kinds.{opened_by_enable}
 use Rattle.irq_model.specs.Legal.{IsLegalPast}
-use Rattle.irq_model.specs.Lines.{is_device, is_edge_line}
-use Rattle.irq_model.specs.Links.{linked, is_none_linked, depth, linking_flags, has_spurious_mark}
-use Rattle.irq_model.specs.Next.{next_past, next_of_driver, next_step, next_of_request, next_of_free, request_with, link_answer}
-use Rattle.irq_model.specs.Next.{opened_by_request, unlink_answer, is_only, resend_of, enable_answer, freed_of}
-use Rattle.irq_model.specs.Next.{synced_of, hard_clear_of, next_of_disable, next_of_sync}
-use Rattle.irq_model.specs.Places.{count_of}
-use Rattle.irq_model.specs.Threads.{is_woken, is_running}
+use Rattle.irq_model.specs.Links.{linked, is_none_linked, linking_flags, has_spurious_mark}
+use Rattle.irq_model.specs.Next.{next_past, next_of_driver, next_step, next_of_request, request_with, link_answer}
+use Rattle.irq_model.specs.Next.{opened_by_request, enable_answer}
 use Rattle.irq_model.specs.Valid.{IsValid}
-use Rattle.irq_model.specs.Waiting.{is_pending}
-use Rattle.device_table.proofs.Tables.{at_device, at_none}
-use Rattle.device_table.specs.Rows.{table_by}
-use Rattle.device_table.specs.Sums.{one_if}
-use Rattle.act_list.specs.Actions.{is_bare, has, answer_by}
-use Rattle.act_list.specs.Lists.{unlink_by}
-use Rattle.act_thread.specs.Steps.{is_in_run, is_idle_row}
-use Rattle.act_thread.specs.Threads.{active_in, is_idle_at, row_passes}
+use Rattle.act_list.specs.Actions.{is_bare, answer_by}
 use Rattle.ask_counts.specs.Facts.{all_facts}
 use Rattle.desc_state.specs.Desc.{resend_by, enable_by}
 use Rattle.line_marks.proofs.FreeingFollows.{mutex_is}
 use Rattle.line_marks.proofs.ActionsFollow.{actions_are, bare_is}
-use Rattle.line_marks.proofs.CellFollows.{cell_is}
 use Rattle.line_marks.proofs.CallsDue.{asked_named, resend_is, enable_is, ask_edge_is, step_is}
 use Rattle.line_marks.proofs.FactsFixed.{kind_is}
-use Rattle.line_marks.proofs.Known.{linked_known, no_thread, in_run}
-use Rattle.line_marks.proofs.Listed.{mismatch_of, many_of, only_of}
+use Rattle.line_marks.proofs.Listed.{mismatch_of, many_of}
 use Rattle.line_marks.specs.Actions.{actions_of}
-use Rattle.line_marks.specs.Desc.{desc_of}
 use Rattle.line_marks.specs.Calls.{step_by}
 use Rattle.line_marks.specs.DriversDue.{opened_by, request_to, asks_own, driver_due}
 use Rattle.line_marks.specs.Facts.{kind_at}
 use Rattle.line_marks.specs.State.{state_of}
-use Rattle.line_marks.specs.Threads.{thread_of, threads_of, stage_by, has_returned, has_finished}
 
 module _ (def : LineDef) (past : List Entry) (valid : IsValid def) (legal : IsLegalPast def past) where
   -- ---- a request

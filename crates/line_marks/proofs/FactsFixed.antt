@@ -7,8 +7,8 @@ use Rattle.irq_base.specs.declared.devices.DeviceDef.{DeviceDef}
 use Rattle.irq_base.specs.declared.lines.LineDef.{LineDef}
 use Rattle.irq_base.specs.declared.numbers.DevNo.{DevNo}
 use Rattle.irq_base.specs.Handlers.{serving_part}
-use Rattle.irq_model.specs.Asks.{serving, unless_by_script}
-use Rattle.irq_model.specs.Lines.{is_device, kind_of, kind_in, is_held, does_forget}
+use Rattle.irq_model.specs.Asks.{unless_by_script}
+use Rattle.irq_model.specs.Lines.{is_device, kind_of, kind_in}
 use Rattle.device_table.proofs.Tables.{at_device, at_none}
 use Rattle.ask_counts.specs.Facts.{all_facts, facts_at, facts_of, no_facts}
 use Rattle.ask_counts.specs.declared.facts.DeviceFacts.{DeviceFacts}

@@ -5,7 +5,7 @@ use Rattle.irq_base.specs.declared.entries.Actor.TheVariants as actors
 use Rattle.irq_base.specs.declared.entries.CallEntry.{CallEntry}
 use Rattle.irq_base.specs.declared.entries.Entry.{Entry}
 use Rattle.irq_base.specs.Who.{actor_of}
-use Rattle.irq_model.specs.Kinds.{is_call, is_linked_request, made_by, is_by, same_actor}
+use Rattle.irq_model.specs.Kinds.{is_call, made_by, is_by, same_actor}
 use Rattle.irq_model.specs.Links.{linked, is_first_request}
 use Rattle.irq_steps.proofs.Same.{same_self_actor}
 use Rattle.irq_laws.specs.Actors.{by_someone}

@@ -1,13 +1,11 @@
 -- How far the runs are with their calls, and which answers told devices have, follows the history.
-use Rattle.std.proofs.Common.{◌≡◌, ℕ, suc, ◌+◌, ◌<◌, ◌≤◌, min, Bool, true, false, ◌||◌, cond, Option, Some, None, unwrap_or, List, [], ◌∷◌, ◌++◌}
+use Rattle.std.proofs.Common.{◌≡◌, ℕ, ◌+◌, ◌<◌, ◌≤◌, min, Bool, true, false, ◌||◌, cond, Option, Some, None, unwrap_or, List, [], ◌∷◌, ◌++◌}
 use Rattle.std.proofs.Common.{length, drop, filter, reverse, slice_get, nat_lt, option_map, refl, sym, ap, subst, ◌∙◌, arith, add-one, length-append}
 use Rattle.std.proofs.lemmas.Bool.{ltb-true, ltb-false, lt-ltb, le-ltb, or_parts}
 use Rattle.std.proofs.lemmas.Grind.{reverse_onto}
 use Rattle.std.proofs.lemmas.List.{drop-append-le, drop_all}
 use Rattle.std.specs.List.{list_any}
 use Rattle.irq_base.specs.declared.calls.Call.{Call}
-use Rattle.irq_base.specs.declared.devices.DeviceDef.{DeviceDef}
-use Rattle.irq_base.specs.declared.devices.Part.{Part}
 use Rattle.irq_base.specs.declared.devices.Part.TheVariants as parts
 use Rattle.irq_base.specs.declared.entries.Actor.TheVariants as actors
 use Rattle.irq_base.specs.declared.entries.Entry.{Entry}
@@ -20,30 +18,30 @@ use Rattle.irq_base.specs.declared.numbers.CpuNo.{CpuNo}
 use Rattle.irq_base.specs.declared.numbers.DevNo.{DevNo}
 use Rattle.irq_model.specs.Due.{due_of, entries_of_call}
 use Rattle.irq_model.specs.Kinds.{same_dev, is_begin, is_begin_or_return, is_cpu_call, is_thread_begin, is_thread_return, is_thread_call, made_by}
-use Rattle.irq_model.specs.Legal.{IsDue, IsLegalPast}
+use Rattle.irq_model.specs.Legal.{IsLegalPast}
 use Rattle.irq_model.specs.Lines.{is_device, run_script}
-use Rattle.irq_model.specs.Next.{next_of_call, next_step}
-use Rattle.irq_model.specs.Places.{since, before, count_of}
+use Rattle.irq_model.specs.Next.{next_step}
+use Rattle.irq_model.specs.Places.{since, count_of}
 use Rattle.irq_model.specs.Rounds.{at_work}
-use Rattle.irq_model.specs.Runs.{entries_of_run, due_in_run, makes_calls}
+use Rattle.irq_model.specs.Runs.{due_in_run, makes_calls}
 use Rattle.irq_model.specs.Valid.{IsValid}
 use Rattle.irq_steps.proofs.DueSteps.{each_makes_some, makes_as_many}
 use Rattle.irq_steps.proofs.Same.{same_self, same_both}
 use Rattle.irq_steps.specs.Laid.{with_count}
 use Rattle.irq_laws.proofs.ImpliesFlow.{handler_call_due}
 use Rattle.irq_laws.proofs.ImpliesThread.{thread_call_due, thread_there}
-use Rattle.device_table.specs.Rows.{at, table_by, change}
+use Rattle.device_table.specs.Rows.{table_by, change}
 use Rattle.device_table.proofs.Tables.{same_table, change_any, at_device}
 use Rattle.line_scripts.proofs.LastEntry.{completes_at, last_of_cpu, last_of_thread}
 use Rattle.line_scripts.specs.Endings.{completes}
 use Rattle.run_scripts.specs.Places.{PlacesSeen, first_place, first_turn, first_row, row_at, advanced, turned}
-use Rattle.run_scripts.specs.Places.{handler_begun, thread_begun, placed, row_advanced, after_call}
+use Rattle.run_scripts.specs.Places.{handler_begun, thread_begun, placed, row_advanced}
 use Rattle.run_scripts.specs.declared.rows.RunPlace.{RunPlace}
 use Rattle.run_scripts.specs.declared.rows.RunRow.{RunRow}
 use Rattle.run_scripts.specs.declared.rows.Turn.{Turn}
 use Rattle.line_marks.proofs.CallGoes.{Goes, GoesBy, goes_by}
 use Rattle.line_marks.proofs.ScriptsFollow.{found}
-use Rattle.line_marks.specs.Places.{past_one, laid_at, work_with, work_of, begins_or_returns, thread_calls, thread_place, answer_count, turn_of, run_row}
+use Rattle.line_marks.specs.Places.{past_one, laid_at, work_with, work_of, begins_or_returns, thread_place, answer_count, turn_of, run_row}
 use Rattle.line_marks.specs.Places.{places_of, completes_some, called_at_work, places_after}
 
 -- ---- a place

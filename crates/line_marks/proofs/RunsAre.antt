@@ -1,11 +1,10 @@
 -- What a run answers and serves, and which call of it is due, is as the past says.
-use Rattle.std.proofs.Common.{◌≡◌, ℕ, ◌+◌, ◌-◌, Bool, true, false, not, ◌||◌, ◌&&◌, cond, Option, Some, None, unwrap_or, List, [], ◌∷◌, slice_get, nat_lt}
+use Rattle.std.proofs.Common.{◌≡◌, ℕ, ◌+◌, ◌-◌, Bool, true, false, not, ◌||◌, ◌&&◌, cond, Option, Some, None, List, [], ◌∷◌, slice_get, nat_lt}
 use Rattle.std.proofs.Common.{reverse, filter, refl, sym, ap, ap₂, ◌∙◌, arith}
 use Rattle.std.proofs.lemmas.Bool.{or_parts, or_from, or_right}
 use Rattle.std.specs.List.{list_any}
 use Rattle.irq_base.specs.Handlers.{answer_of}
 use Rattle.irq_base.specs.declared.calls.Call.{Call}
-use Rattle.irq_base.specs.declared.devices.DeviceDef.{DeviceDef}
 use Rattle.irq_base.specs.declared.devices.Kind.{Kind}
 use Rattle.irq_base.specs.declared.devices.Part.{Part}
 use Rattle.irq_base.specs.declared.devices.Part.TheVariants as parts
@@ -19,7 +18,7 @@ use Rattle.irq_base.specs.declared.numbers.DevNo.{DevNo}
 use Rattle.irq_model.specs.Asks.{begins_run, returns_served, serving, unserved_asks, taken_away}
 use Rattle.irq_model.specs.Due.{due_of}
 use Rattle.irq_model.specs.Kinds.{same_dev, is_ask, is_serve, is_begin, is_thread_begin, is_thread_return, is_done, is_thread_call}
-use Rattle.irq_model.specs.Lines.{is_device, kind_of, run_script, told_answers, same_part}
+use Rattle.irq_model.specs.Lines.{is_device, kind_of, run_script, told_answers}
 use Rattle.irq_model.specs.Places.{since, before, stands}
 use Rattle.irq_model.specs.Rounds.{at_work}
 use Rattle.irq_model.specs.Runs.{answer_of_run_now, due_in_run, entries_of_run, is_recognised, is_that_part}
@@ -27,12 +26,11 @@ use Rattle.irq_model.specs.Runs.{makes_calls, met_by, serves_by_word, served_by_
 use Rattle.irq_model.specs.Threads.{is_running}
 use Rattle.irq_steps.proofs.Same.{same_self}
 use Rattle.irq_steps.specs.Laid.{with_count}
-use Rattle.device_table.specs.Rows.{at, table_by}
+use Rattle.device_table.specs.Rows.{at}
 use Rattle.device_table.proofs.Tables.{at_device}
-use Rattle.ask_counts.specs.Facts.{all_facts}
 use Rattle.ask_counts.specs.declared.facts.DeviceFacts.{DeviceFacts}
 use Rattle.ask_counts.specs.declared.rows.AskRow.{AskRow}
-use Rattle.run_scripts.specs.Places.{first_row, turn_at}
+use Rattle.run_scripts.specs.Places.{turn_at}
 use Rattle.run_scripts.specs.declared.rows.RunPlace.{RunPlace}
 use Rattle.run_scripts.specs.declared.rows.RunRow.{RunRow}
 use Rattle.run_scripts.specs.declared.rows.Turn.{Turn}
@@ -40,7 +38,7 @@ use Rattle.line_marks.proofs.AsksFollow.{begins_serving, ends_serving, fresh_mor
 use Rattle.line_marks.proofs.FactsFixed.{facts_are, kind_is}
 use Rattle.line_marks.proofs.PlacesFollow.{laid_due, run_began, row_found}
 use Rattle.line_marks.specs.Asks.{ask_row, fresh_asks}
-use Rattle.line_marks.specs.Places.{laid_at, work_with, work_of, thread_calls, thread_place, turn_of, run_row}
+use Rattle.line_marks.specs.Places.{laid_at, work_with, work_of, thread_place, turn_of}
 use Rattle.line_marks.specs.Runs.{met_in, met_at, told_at, answer_at, taken_in, served_at, makes_calls_at, due_in_run_at}
 use Rattle.line_marks.specs.State.{state_of}
 use Rattle.line_marks.specs.Threads.{has_returned}
