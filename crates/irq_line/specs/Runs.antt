@@ -2,6 +2,7 @@
 use Rattle.std.specs.Prelude.{Option, Some, None, List, reverse}
 use Rattle.irq_base.specs.declared.numbers.DevNo.{DevNo}
 use Rattle.irq_base.specs.declared.devices.DeviceDef.{DeviceDef}
+use Rattle.irq_base.specs.declared.devices.Part.{Part}
 use Rattle.irq_base.specs.declared.devices.Part.TheVariants as parts
 use Rattle.irq_base.specs.declared.devices.Run.{Run}
 use Rattle.irq_base.specs.declared.entries.Actor.{Actor}
@@ -24,23 +25,22 @@ device_of def dev = record {
   forgets = does_forget def dev;
 }
 
--- a return ends a run of the device's handler, a thread's return a run of its thread; with the run
--- stands how many asks were unserved as it began, and what a told device is to answer
+-- the run of that part of the device: how many asks were unserved as it began, and what a told
+-- device is to answer in it
+abbrev pub run_at : LineDef → Part → DevNo → List Entry → Run
+run_at def part dev past = record {
+  def = device_of def dev;
+  part = part;
+  unserved = met_by def part dev past;
+  told = told_of def part dev past;
+}
+
+-- a return ends a run of the device's handler, a thread's return a run of its thread
 abbrev pub run_ended : LineDef → List Entry → Entry → Option Run
 run_ended def past (by.Cpu cpu (cpus.Return answer dev served))
-    = Some (record {
-      def = device_of def dev;
-      part = parts.Primary;
-      unserved = met_by def parts.Primary dev past;
-      told = told_of def parts.Primary dev past;
-    })
+    = Some (run_at def parts.Primary dev past)
 run_ended def past (by.Thread dev (threads.Return handled served))
-    = Some (record {
-      def = device_of def dev;
-      part = parts.Thread;
-      unserved = met_by def parts.Thread dev past;
-      told = told_of def parts.Thread dev past;
-    })
+    = Some (run_at def parts.Thread dev past)
 run_ended def past _ = None
 
 abbrev pub run_of_entry : LineDef → List Entry → Option Entry → Option Run
