@@ -13,12 +13,13 @@ use Rattle.irq_model.specs.Due.{due_call}
 use Rattle.irq_model.specs.Next.{next}
 use Rattle.irq_model.specs.Legal.{IsLegal}
 use Rattle.irq_model.specs.Valid.{IsValid}
-use Rattle.irq_model.specs.ValidRuns.{HasValidRuns}
+use Rattle.irq_model.specs.ValidRuns.{HasValidRuns, NeverWaits}
 use Rattle.irq_model.specs.Waits.{Want, nothing_wanted, wanted, wanted_of, wanted_at_work, wanted_by_thread}
 use Rattle.irq_model.specs.Waits.{StandsIn, WaitsFor, WaitsThrough, IsHungPast, IsHeldUpPast, is_unfinished_actor, IsAtRest}
 use Rattle.irq_laws.proofs.KeptAlways.{kept}
 use Rattle.irq_laws.proofs.Standstill.{no_standstill}
 use Rattle.play_laws.specs.Actors.{actors_of, IsOneOf}
+use Rattle.play_laws.proofs.NobodyHangs.{nobody_hangs}
 use Rattle.play_laws.proofs.Listed.{mover_listed, unfinished_listed}
 
 pub others_rest : (def : LineDef) (h : List Entry) (a : Actor) → IsValid def → IsLegal def h → (IsOneOf a (actors_of def) → ⊥) → next def h a ≡ None
@@ -89,3 +90,9 @@ rest_is_at_rest def h valid runs legal rest unhung = record { still = still; don
 
     waits : (a : Actor) → is_unfinished_actor def (reverse h) a ≡ true → ⊥
     waits a h' = by_case a (no_standstill def (reverse h) valid runs legal still a h')
+
+-- where no run waits, what is still is at rest
+pub unwaiting_rests : (def : LineDef) (h : List Entry) → IsValid def → HasValidRuns def → NeverWaits def → IsLegal def h
+    → ((a : Actor) → IsOneOf a (actors_of def) → next def h a ≡ None) → IsAtRest def h
+unwaiting_rests def h valid runs waits legal rest = rest_is_at_rest def h valid runs legal rest
+    (λ a own hung. nobody_hangs def (reverse h) valid runs waits legal a hung)

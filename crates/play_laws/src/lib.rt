@@ -10,7 +10,7 @@ ghost use Rattle.irq_base.specs.declared.entries.Entry.{Entry};
 ghost use Rattle.irq_model.specs.Next.{next};
 ghost use Rattle.irq_model.specs.Legal.{IsLegal};
 ghost use Rattle.irq_model.specs.Valid.{IsValid};
-ghost use Rattle.irq_model.specs.ValidRuns.{HasValidRuns};
+ghost use Rattle.irq_model.specs.ValidRuns.{HasValidRuns, NeverWaits};
 ghost use Rattle.irq_model.specs.Waits.{IsAtRest, IsHungPast};
 ghost use Rattle.play_laws.specs.Actors.{actors_of, IsOneOf};
 
@@ -34,4 +34,14 @@ pub fn rest_is_at_rest()
         → IsLegal def h → ((a : Actor) → IsOneOf a (actors_of def) → next def h a ≡ None)
         → ((a : Actor) → IsOneOf a (actors_of def) → IsHungPast def (reverse h) a → ⊥)
         → IsAtRest def h }
+{}
+
+/// Where no run waits nobody hangs: if after a legal history none of the line's own actors has a
+/// due entry, the line is at rest.
+pub fn unwaiting_rests()
+    ensures law { (def : LineDef) (h : List Entry) → IsValid def → HasValidRuns def
+        → NeverWaits def → IsLegal def h
+        → ((a : Actor) → IsOneOf a (actors_of def) → next def h a ≡ None) → IsAtRest def h }
+    ensures unhung { (def : LineDef) (h : List Entry) (a : Actor) → IsValid def
+        → HasValidRuns def → NeverWaits def → IsLegal def h → IsHungPast def (reverse h) a → ⊥ }
 {}
