@@ -16,7 +16,6 @@ use Rattle.irq_base.specs.declared.entries.Entry.TheVariants as by
 use Rattle.irq_base.specs.declared.entries.CpuEntry.TheVariants as cpus
 use Rattle.irq_base.specs.declared.entries.ThreadEntry.TheVariants as threads
 use Rattle.irq_base.specs.declared.entries.DriverEntry.TheVariants as drivers
-use Rattle.irq_base.specs.declared.entries.CallEntry.{CallEntry}
 use Rattle.irq_base.specs.declared.entries.CallEntry.TheVariants as called
 use Rattle.irq_base.specs.declared.entries.LinkAnswer.{LinkAnswer}
 use Rattle.irq_base.specs.declared.entries.LinkAnswer.TheVariants as links
@@ -51,7 +50,7 @@ use Rattle.ask_counts.specs.Rows.{is_quiet_at, unserved_at}
 use Rattle.desc_state.specs.Desc.{resend_by, enable_by}
 use Rattle.flow_handlers.specs.Flows.{answer_by}
 use Rattle.line_scripts.specs.Rows.{RowSeen}
-use Rattle.run_scripts.specs.Places.{place_at, turn_at}
+use Rattle.run_scripts.specs.Places.{place_at}
 use Rattle.run_scripts.specs.declared.rows.RunPlace.{RunPlace}
 use Rattle.run_scripts.specs.declared.rows.Turn.{Turn}
 use Rattle.line_marks.specs.Acts.{killed_if, left_by}

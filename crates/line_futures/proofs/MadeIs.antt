@@ -118,5 +118,9 @@ module _ (def : LineDef) (past : List Entry) (valid : IsValid def) (legal : IsLe
   made _ due = tt
 
   pub may_follow : (e : Entry) → IsDue def e past → MayFollow e (state_of def past)
-  may_follow e due = record { made = made e due; served = served_kept def past; own = own_by (ask_row def past) def.devices valid.distinct;
-      own_runs = own_by (run_row def past) def.devices valid.distinct }
+  may_follow e due = record {
+    made = made e due;
+    served = served_kept def past;
+    own = own_by (ask_row def past) def.devices valid.distinct;
+    own_runs = own_by (run_row def past) def.devices valid.distinct;
+  }

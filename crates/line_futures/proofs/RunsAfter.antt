@@ -1,19 +1,18 @@
 -- What an entry makes of the places of the runs, and what is read off them: of what decides nothing
 -- any more nothing is read.
-use Rattle.std.proofs.Common.{◌≡◌, ℕ, Bool, true, false, cond, Option, Some, None, List, option_map, unwrap_or, slice_get, refl, sym, ap, ◌∙◌}
-use Rattle.irq_base.specs.declared.calls.Call.{Call}
+use Rattle.std.proofs.Common.{◌≡◌, ℕ, Bool, true, Option, Some, None, option_map, unwrap_or, slice_get, refl, ap, ◌∙◌}
 use Rattle.irq_base.specs.declared.devices.Part.{Part}
 use Rattle.irq_base.specs.declared.devices.Part.TheVariants as parts
 use Rattle.irq_base.specs.declared.lines.LineDef.{LineDef}
 use Rattle.irq_base.specs.declared.numbers.DevNo.{DevNo}
 use Rattle.irq_model.specs.Lines.{run_script}
 use Rattle.device_table.specs.Rows.{at}
-use Rattle.run_scripts.specs.Places.{PlacesSeen, first_row, row_at, place_at, turn_at, handler_begun, thread_begun, placed, row_advanced}
+use Rattle.run_scripts.specs.Places.{PlacesSeen, first_row, place_at, turn_at, handler_begun, thread_begun, placed, row_advanced}
 use Rattle.run_scripts.specs.declared.rows.RunPlace.{RunPlace}
 use Rattle.run_scripts.specs.declared.rows.RunRow.{RunRow}
 use Rattle.run_scripts.specs.declared.rows.Turn.{Turn}
 use Rattle.line_marks.specs.Places.{call_at}
-use Rattle.line_futures.specs.Canon.{kept_if, canon_turn, canon_run, canon_runs, canon_places}
+use Rattle.line_futures.specs.Canon.{canon_turn, canon_run, canon_runs, canon_places}
 use Rattle.line_futures.proofs.AsksAfter.{Lower, kept_lower}
 use Rattle.line_futures.proofs.EachRow.{each_at}
 
