@@ -14,7 +14,7 @@ pub use due::{
 };
 pub use parts::{
     actions_are, active_follows, aim_follows, aimed_follows, asks_follow, bare_is, desc_follows,
-    facts_stand, freeing_follows, freeing_holds_mutex, list_follows, places_follow, places_stay,
+    enabled_is_active, facts_stand, freeing_follows, freeing_holds_mutex, list_follows, places_follow, places_stay,
     rounds_follow, runs_follow, tally_follows, threads_follow, up_is,
 };
 pub use whole::{
