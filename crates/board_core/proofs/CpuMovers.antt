@@ -216,7 +216,7 @@ module _ {view : SystemSeen} (system : KeptSystem view) where
       flow_due : is_cpu c (flow y.def y.past) ≡ true → IsSome (next_past y.def y.past (actors.Cpu c))
       flow_due is =
           let s = line_stands board (board_lines lines) (actors.Cpu c) y its in
-          let r = calm_line board is_board (board_lines lines) kept s.place y s.at in
+          let r = calm_line board is_board (board_lines lines) kept.system.kept s.place y s.at in
           flow_goes_on y.def y.past r.runs r.waits c is
 
       by_flow : (o : Option BoardLine) → flow_line (board_lines lines) c ≡ o
