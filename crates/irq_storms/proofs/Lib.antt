@@ -6,3 +6,5 @@ pub mod ThreadCounts
 pub mod RoundCounts
 pub mod EdgeCounts
 pub mod Laws
+pub mod ServedCounts
+pub mod DeviceSums
