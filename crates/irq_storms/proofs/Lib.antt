@@ -1,6 +1,9 @@
 pub mod Counting
+pub mod Weights
+pub mod CallCosts
 pub mod CallCounts
 pub mod Running
+pub mod Paying
 pub mod RunCounts
 pub mod ThreadCounts
 pub mod RoundCounts
