@@ -1,6 +1,8 @@
 pub mod Counting
 pub mod Weights
 pub mod CallCosts
+pub mod HandlerRuns
+pub mod ThreadRuns
 pub mod CallCounts
 pub mod Running
 pub mod Paying

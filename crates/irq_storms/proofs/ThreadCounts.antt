@@ -105,7 +105,7 @@ any_since : (p : Entry → Bool) (b : Bool) (e : Entry) (xs : List Entry) → li
 any_since p true e xs = refl
 any_since p false e xs = refl
 
-returned_since : (d : DevNo) (e : Entry) (past : List Entry)
+pub returned_since : (d : DevNo) (e : Entry) (past : List Entry)
     → has_returned (e ∷ past) d ≡ cond (is_thread_begin d e) false (is_thread_return d e || has_returned past d)
 returned_since d e past = any_since (is_thread_return d) (is_thread_begin d e) e (since (is_thread_begin d) past)
 
