@@ -55,7 +55,7 @@ module _ {A B C : Type 0} (ka : A → ℕ) (va : A → ℕ) (xs : List A) (kb : 
 
 -- ---- one device among the devices of the line
 
-abbrev number : DeviceDef → ℕ
+abbrev pub number : DeviceDef → ℕ
 number x = x.dev.0
 
 not_here : (b : Bool) (n : ℕ) → b ≡ false → cond b n 0 ≡ 0
@@ -66,7 +66,7 @@ here : (b : Bool) (n : ℕ) → b ≡ true → cond b n 0 ≡ n
 here true n h = refl
 here false n h = cc
 
-absent : (f : DevNo → ℕ) (d : DevNo) (xs : List DeviceDef) → list_any (is_device d) xs ≡ false → total_at number (λ x. f x.dev) d.0 xs ≡ 0
+pub absent : (f : DevNo → ℕ) (d : DevNo) (xs : List DeviceDef) → list_any (is_device d) xs ≡ false → total_at number (λ x. f x.dev) d.0 xs ≡ 0
 absent f d [] h = refl
 absent f d (x ∷ xs) h =
     let p = or_parts (is_device d x) (list_any (is_device d) xs) h in
@@ -74,7 +74,7 @@ absent f d (x ∷ xs) h =
     let r = absent f d xs p.1 in
     omega (arith, a, r)
 
-present : (f : DevNo → ℕ) (d : DevNo) (xs : List DeviceDef) → HasDistinctDevices xs → list_any (is_device d) xs ≡ true
+pub present : (f : DevNo → ℕ) (d : DevNo) (xs : List DeviceDef) → HasDistinctDevices xs → list_any (is_device d) xs ≡ true
     → total_at number (λ x. f x.dev) d.0 xs ≡ f d
 present f d [] apart h = cc
 present f d (x ∷ xs) apart h = by_test (is_device d x) refl h (λ t. present f d xs apart.1 t)

@@ -3,6 +3,8 @@ pub mod Weights
 pub mod CallCosts
 pub mod HandlerRuns
 pub mod ThreadRuns
+pub mod BeginCosts
+pub mod WakeCosts
 pub mod CallCounts
 pub mod Running
 pub mod Paying
@@ -13,3 +15,5 @@ pub mod EdgeCounts
 pub mod Laws
 pub mod ServedCounts
 pub mod DeviceSums
+pub mod LongBound
+pub mod WeightSums
