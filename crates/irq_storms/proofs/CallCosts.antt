@@ -86,17 +86,6 @@ driver_cost h (by.DriverCall driver call) = call_cost h call
 driver_cost h (by.Driver driver e) = starting_cost (is_start (by.Driver driver e))
 driver_cost h _ = 0
 
--- entries that cost no more than their steps
-steps_in_cost : (f : Entry → ℕ) (h : DevNo → ℕ) → ((e : Entry) → f e ≤ total (call_cost h) (step_in e)) → (es : List Entry)
-    → total f es ≤ total (call_cost h) (steps_in es)
-steps_in_cost f h most [] = omega arith
-steps_in_cost f h most (by.CpuCall c call ∷ es) = let m = most (by.CpuCall c call) in let r = steps_in_cost f h most es in omega (arith, m, r)
-steps_in_cost f h most (by.ThreadCall x call ∷ es) = let m = most (by.ThreadCall x call) in let r = steps_in_cost f h most es in omega (arith, m, r)
-steps_in_cost f h most (by.DriverCall s call ∷ es) = let m = most (by.DriverCall s call) in let r = steps_in_cost f h most es in omega (arith, m, r)
-steps_in_cost f h most (by.Cpu c e ∷ es) = let m = most (by.Cpu c e) in let r = steps_in_cost f h most es in omega (arith, m, r)
-steps_in_cost f h most (by.Thread x e ∷ es) = let m = most (by.Thread x e) in let r = steps_in_cost f h most es in omega (arith, m, r)
-steps_in_cost f h most (by.Driver s e ∷ es) = let m = most (by.Driver s e) in let r = steps_in_cost f h most es in omega (arith, m, r)
-
 no_more : (b : Bool) (n m : ℕ) → cond b n 0 ≤ (n + m) + 0
 no_more true n m = omega arith
 no_more false n m = omega arith
@@ -109,38 +98,48 @@ thread_step : (d : DevNo) (h : DevNo → ℕ) (e : Entry) → thread_cost d e �
 thread_step d h (by.ThreadCall x call) = no_more (same_dev d x) (step_cost call) (wake_cost h call)
 thread_step d h e = omega arith
 
--- a call that all may make
-shared_cost : (f : Entry → ℕ) (h : DevNo → ℕ) → ((e : Entry) → f e ≤ total (call_cost h) (step_in e))
-    → (c : Call) → is_shared c ≡ true → (es : List Entry) → MakesAll c es → total f es ≤ call_weight h c
-shared_cost f h most c is es m =
-    let all = steps_in_cost f h most es in
-    let steps = steps_cost h c (steps_in es) (shared_all c is es m).0 in
-    omega (arith, all, steps)
+-- k: what a step costs; w: what the steps of a call cost at most; f: an entry costs no more than its step
+module _ (k : CallEntry → ℕ) (w : Call → ℕ) (steps : (c : Call) (cs : List CallEntry) → MakesSteps c cs → total k cs ≤ w c)
+    (f : Entry → ℕ) (most : (e : Entry) → f e ≤ total k (step_in e)) where
+  steps_in_cost : (es : List Entry) → total f es ≤ total k (steps_in es)
+  steps_in_cost [] = omega arith
+  steps_in_cost (by.CpuCall c call ∷ es) = let m = most (by.CpuCall c call) in let r = steps_in_cost es in omega (arith, m, r)
+  steps_in_cost (by.ThreadCall x call ∷ es) = let m = most (by.ThreadCall x call) in let r = steps_in_cost es in omega (arith, m, r)
+  steps_in_cost (by.DriverCall s call ∷ es) = let m = most (by.DriverCall s call) in let r = steps_in_cost es in omega (arith, m, r)
+  steps_in_cost (by.Cpu c e ∷ es) = let m = most (by.Cpu c e) in let r = steps_in_cost es in omega (arith, m, r)
+  steps_in_cost (by.Thread x e ∷ es) = let m = most (by.Thread x e) in let r = steps_in_cost es in omega (arith, m, r)
+  steps_in_cost (by.Driver s e ∷ es) = let m = most (by.Driver s e) in let r = steps_in_cost es in omega (arith, m, r)
 
--- a call of runs
-runs_cost : (f : Entry → ℕ) (h : DevNo → ℕ) → ((e : Entry) → f e ≤ total (call_cost h) (step_in e))
-    → (c : Call) (es : List Entry) → MakesAll c es → total f es ≤ call_weight h c
-runs_cost f h most (calls.Ask d) (by.Driver r (drivers.Ask edge dev) ∷ []) m = let k = most (by.Driver r (drivers.Ask edge dev)) in omega (arith, k)
-runs_cost f h most (calls.Request d flags) (by.Driver r (drivers.Request given answer opened dev) ∷ []) m =
-    let k = most (by.Driver r (drivers.Request given answer opened dev)) in omega (arith, k)
-runs_cost f h most (calls.Affinity mask) (by.Driver r (drivers.Affinity answer given) ∷ []) m =
-    let k = most (by.Driver r (drivers.Affinity answer given)) in omega (arith, k)
-runs_cost f h most (calls.Moment at) (by.Driver r (drivers.Moment given) ∷ []) m = let k = most (by.Driver r (drivers.Moment given)) in omega (arith, k)
-runs_cost f h most (calls.Free d) es m = shared_cost f h most (calls.Free d) refl es m
-runs_cost f h most calls.Disable es m = shared_cost f h most calls.Disable refl es m
-runs_cost f h most calls.DisableNosync es m = shared_cost f h most calls.DisableNosync refl es m
-runs_cost f h most calls.Enable es m = shared_cost f h most calls.Enable refl es m
-runs_cost f h most calls.Sync es m = shared_cost f h most calls.Sync refl es m
-runs_cost f h most calls.SyncHard es m = shared_cost f h most calls.SyncHard refl es m
-runs_cost f h most calls.DisableHard es m = shared_cost f h most calls.DisableHard refl es m
-runs_cost f h most (calls.Wake d) es m = shared_cost f h most (calls.Wake d) refl es m
-runs_cost f h most (calls.Quiet d) es m = shared_cost f h most (calls.Quiet d) refl es m
-runs_cost f h most (calls.Arm d) es m = shared_cost f h most (calls.Arm d) refl es m
-runs_cost f h most (calls.Serve d) es m = shared_cost f h most (calls.Serve d) refl es m
-runs_cost f h most c es m = absurd m.0
+  -- a call that all may make
+  shared_cost : (c : Call) → is_shared c ≡ true → (es : List Entry) → MakesAll c es → total f es ≤ w c
+  shared_cost c is es m =
+      let all = steps_in_cost es in
+      let own = steps c (steps_in es) (shared_all c is es m).0 in
+      omega (arith, all, own)
+
+  -- any call
+  pub runs_cost : (c : Call) (es : List Entry) → MakesAll c es → total f es ≤ w c
+  runs_cost (calls.Ask d) (by.Driver r (drivers.Ask edge dev) ∷ []) m = let n = most (by.Driver r (drivers.Ask edge dev)) in omega (arith, n)
+  runs_cost (calls.Request d flags) (by.Driver r (drivers.Request given answer opened dev) ∷ []) m =
+      let n = most (by.Driver r (drivers.Request given answer opened dev)) in omega (arith, n)
+  runs_cost (calls.Affinity mask) (by.Driver r (drivers.Affinity answer given) ∷ []) m =
+      let n = most (by.Driver r (drivers.Affinity answer given)) in omega (arith, n)
+  runs_cost (calls.Moment at) (by.Driver r (drivers.Moment given) ∷ []) m = let n = most (by.Driver r (drivers.Moment given)) in omega (arith, n)
+  runs_cost (calls.Free d) es m = shared_cost (calls.Free d) refl es m
+  runs_cost calls.Disable es m = shared_cost calls.Disable refl es m
+  runs_cost calls.DisableNosync es m = shared_cost calls.DisableNosync refl es m
+  runs_cost calls.Enable es m = shared_cost calls.Enable refl es m
+  runs_cost calls.Sync es m = shared_cost calls.Sync refl es m
+  runs_cost calls.SyncHard es m = shared_cost calls.SyncHard refl es m
+  runs_cost calls.DisableHard es m = shared_cost calls.DisableHard refl es m
+  runs_cost (calls.Wake d) es m = shared_cost (calls.Wake d) refl es m
+  runs_cost (calls.Quiet d) es m = shared_cost (calls.Quiet d) refl es m
+  runs_cost (calls.Arm d) es m = shared_cost (calls.Arm d) refl es m
+  runs_cost (calls.Serve d) es m = shared_cost (calls.Serve d) refl es m
+  runs_cost c es m = absurd m.0
 
 pub handler_call : (h : DevNo → ℕ) (c : Call) (es : List Entry) → MakesAll c es → total (handler_cost h) es ≤ call_weight h c
-handler_call h = runs_cost (handler_cost h) h (handler_step h)
+handler_call h = runs_cost (call_cost h) (call_weight h) (steps_cost h) (handler_cost h) (handler_step h)
 
 no_weight : (c : Call) → call_weight (λ d. 0) c ≤ weight_of c
 no_weight (calls.Wake d) = omega arith
@@ -148,7 +147,7 @@ no_weight c = omega arith
 
 pub thread_call : (d : DevNo) (c : Call) (es : List Entry) → MakesAll c es → total (thread_cost d) es ≤ weight_of c
 thread_call d c es m =
-    let t = runs_cost (thread_cost d) (λ d. 0) (thread_step d (λ d. 0)) c es m in
+    let t = runs_cost (call_cost (λ d. 0)) (call_weight (λ d. 0)) (steps_cost (λ d. 0)) (thread_cost d) (thread_step d (λ d. 0)) c es m in
     let n = no_weight c in
     omega (arith, t, n)
 

@@ -5,6 +5,8 @@ pub mod HandlerRuns
 pub mod ThreadRuns
 pub mod BeginCosts
 pub mod WakeCosts
+pub mod Within
+pub mod Meeting
 pub mod CallCounts
 pub mod Running
 pub mod Paying

@@ -135,14 +135,14 @@ module _ (a b r s : Entry → Bool) where
       by_begin false h deeper = by_serve (s e) h deeper
 
 -- what began, with nothing of one kind after it, has nothing of a narrower kind after it
-stands_before : (b q r : Entry → Bool) → ((e : Entry) → r e ≡ true → q e ≡ true) → (past : List Entry) → stands b q past ≡ true → stands b r past ≡ true
+pub stands_before : (b q r : Entry → Bool) → ((e : Entry) → r e ≡ true → q e ≡ true) → (past : List Entry) → stands b q past ≡ true → stands b r past ≡ true
 stands_before b q r narrow [] h = cc
 stands_before b q r narrow (e ∷ past) h = by_tests (b e) (q e) (r e) (stands b q past) (stands b r past) (narrow e) (stands_before b q r narrow past) h
   where
     by_tests : (b q r s t : Bool) → (r ≡ true → q ≡ true) → (s ≡ true → t ≡ true) → (b || (not q && s)) ≡ true → (b || (not r && t)) ≡ true
     by_tests b q r s t i j h = grind arith
 
-stands_began : (b q : Entry → Bool) (past : List Entry) → stands b q past ≡ true → list_any b past ≡ true
+pub stands_began : (b q : Entry → Bool) (past : List Entry) → stands b q past ≡ true → list_any b past ≡ true
 stands_began b q [] h = cc
 stands_began b q (e ∷ past) h = by_tests (b e) (q e) (stands b q past) (list_any b past) (stands_began b q past) h
   where
