@@ -7,6 +7,10 @@ pub mod BeginCosts
 pub mod WakeCosts
 pub mod Within
 pub mod Meeting
+pub mod ArmCosts
+pub mod HandlerArms
+pub mod ThreadArms
+pub mod ToldWords
 pub mod CallCounts
 pub mod Running
 pub mod Paying

@@ -108,6 +108,15 @@ stays_in def parts.Thread d e past due no_begin no_return h =
     by_tests : (b o r t u : Bool) → b ≡ false → t ≡ false → o ≡ false → (r && not u) ≡ true → ((b || (not o && r)) && not (cond b false (t || u))) ≡ true
     by_tests b o r t u i j k l = grind arith
 
+pub begun_in : (q : Part) (d : DevNo) (e : Entry) (past : List Entry) → begins_run q d e ≡ true → is_in q d (e ∷ past) ≡ true
+begun_in parts.Primary d e past h = or_left (is_begin d e) (not (is_return d e) && is_called past d) h
+begun_in parts.Thread d e past h =
+    ap (λ (u : Bool). is_running (e ∷ past) d && not u) (returned_since d e past)
+    ∙ by_tests (is_thread_begin d e) (not (is_done d e) && is_running past d) (is_thread_return d e || has_returned past d) h
+  where
+    by_tests : (b r u : Bool) → b ≡ true → ((b || r) && not (cond b false u)) ≡ true
+    by_tests b r u i = grind arith
+
 -- ---- a script that serves its device
 
 steps_serve : (d : DevNo) (cs : List CallEntry) → MakesSteps (calls.Serve d) cs → list_any (serves_this d) cs ≡ true
@@ -259,15 +268,6 @@ module _ (def : LineDef) (p : Part) (d : DevNo) (always : AlwaysServes def p d) 
   abbrev Keeps : Entry → List Entry → Type 0
   Keeps e past = one_if (meets e past) + one_if (owing past) ≤ one_if (owing (e ∷ past)) + one_if (serves_of d e)
 
-  begun_in : (q : Part) (e : Entry) (past : List Entry) → begins_run q d e ≡ true → is_in q d (e ∷ past) ≡ true
-  begun_in parts.Primary e past h = or_left (is_begin d e) (not (is_return d e) && is_called past d) h
-  begun_in parts.Thread e past h =
-      ap (λ (u : Bool). is_running (e ∷ past) d && not u) (returned_since d e past)
-      ∙ by_tests (is_thread_begin d e) (not (is_done d e) && is_running past d) (is_thread_return d e || has_returned past d) h
-    where
-      by_tests : (b r u : Bool) → b ≡ true → ((b || r) && not (cond b false u)) ≡ true
-      by_tests b r u i = grind arith
-
   at_begin : (e : Entry) (past : List Entry) → IsLegalPast def (e ∷ past) → begins_run p d e ≡ true → Keeps e past
   at_begin e past legal is =
       let none : one_if (owing past) ≡ 0 = ap one_if (ap (λ (i : Bool). i && (nat_lt 0 (met_by def p d past) && (served_since p d past == 0)))
@@ -276,7 +276,7 @@ module _ (def : LineDef) (p : Part) (d : DevNo) (always : AlwaysServes def p d) 
       = ap (λ (c : Bool). unserved_asks def d (cond c past (before (begins_run p d) past))) is in
       let since_is : served_since p d (e ∷ past) ≡ 0 = ap (λ (c : Bool). total (asks_served d) (cond c [] (e ∷ since (begins_run p d) past))) is in
       let same = all_true (begins_run p d e) (is_in p d (e ∷ past)) (nat_lt 0 (unserved_asks def d past)) (nat_lt 0 (met_by def p d (e ∷ past)))
-      (served_since p d (e ∷ past) == 0) is (begun_in p e past is) (ap (nat_lt 0) met) (ap (λ (n : ℕ). n == 0) since_is) in
+      (served_since p d (e ∷ past) == 0) is (begun_in p d e past is) (ap (nat_lt 0) met) (ap (λ (n : ℕ). n == 0) since_is) in
       omega (arith, none, same)
     where
       all_true : (g i u m z : Bool) → g ≡ true → i ≡ true → m ≡ u → z ≡ true → one_if (g && u) ≡ one_if (i && (m && z))
