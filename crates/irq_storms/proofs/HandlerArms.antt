@@ -58,7 +58,7 @@ direct_kind : (k : Kind) → is_direct k ≡ true → k ≡ kinds.Direct
 direct_kind kinds.Direct h = refl
 direct_kind k h = cc
 
-some_due : (m : Bool) (o : Option (Call × ℕ)) (due : Call × ℕ) → cond m o None ≡ Some due → m ≡ true
+pub some_due : (m : Bool) (o : Option (Call × ℕ)) (due : Call × ℕ) → cond m o None ≡ Some due → m ≡ true
 some_due true o due h = refl
 some_due false o due h = cc
 

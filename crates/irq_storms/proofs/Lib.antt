@@ -23,3 +23,4 @@ pub mod ServedCounts
 pub mod DeviceSums
 pub mod LongBound
 pub mod WeightSums
+pub mod ToldWakes

@@ -38,7 +38,7 @@ use Rattle.irq_storms.proofs.WakeCosts.{thread_weight, of_thread, wake_pays, thr
 
 -- ---- a thread wakes none
 
-wake_call : (def : LineDef) (due : Option (Call × ℕ)) (past : List Entry) (woken : Bool) (d : DevNo) → Row def due past (called.Wake woken d)
+pub wake_call : (def : LineDef) (due : Option (Call × ℕ)) (past : List Entry) (woken : Bool) (d : DevNo) → Row def due past (called.Wake woken d)
     → (n : ℕ) × (due ≡ Some (calls.Wake d, n))
 wake_call def due past woken d (wake x n is same) = let s : x ≡ d = cc in (n, is ∙ ap (λ (y : DevNo). Some (calls.Wake y, n)) s)
 wake_call def due past woken d (unlink x is free same) = cc
