@@ -124,7 +124,7 @@ one_start (calls.Arm d) (called.Arm edge dev ∷ []) h = omega arith
 one_start (calls.Serve d) (called.Serve dev served ∷ []) h = omega arith
 one_start c cs h = absurd h
 
-abbrev Renews : Call → List Entry → Type 0
+abbrev pub Renews : Call → List Entry → Type 0
 Renews c es = (count_of is_any_ask es ≤ one_if (is_ask_call c)) × (count_of is_renewal es ≤ one_if (not (is_ask_call c)))
 
 shared_renews : (c : Call) → is_shared c ≡ true → (es : List Entry) → MakesAll c es → Renews c es
@@ -146,7 +146,7 @@ shared_renews c is es h =
     no_ask_call (calls.Ask d) h = cc
     no_ask_call c h = refl
 
-renews : (c : Call) (es : List Entry) → MakesAll c es → Renews c es
+pub renews : (c : Call) (es : List Entry) → MakesAll c es → Renews c es
 renews (calls.Ask d) (by.Driver r (drivers.Ask edge dev) ∷ []) h = (omega arith, omega arith)
 renews (calls.Request d flags) (by.Driver r (drivers.Request given answer opened dev) ∷ []) h =
     (omega arith, at_most_one (is_renewal (by.Driver r (drivers.Request given answer opened dev))))

@@ -24,3 +24,5 @@ pub mod DeviceSums
 pub mod LongBound
 pub mod WeightSums
 pub mod ToldWakes
+pub mod DeviceEdges
+pub mod RunEdgeBound
