@@ -84,7 +84,10 @@ pub fn unserved_asks(def: &LineDef, dev: DevNo, past: &[Entry]) -> u32
 fn is_served_meanwhile(part: Part, dev: DevNo, past: &[Entry]) -> bool
     ensures { result ≡ list_any (is_serve dev) (since (begins_run part dev) past.now) }
 {
-    has(since(past, EntryTest::BeginsRun(part, dev)), EntryTest::Serve(dev))
+    has(
+        since(past, EntryTest::BeginsRun(part, dev)),
+        EntryTest::Serve(dev),
+    )
 }
 
 /// What a run of that part takes away as it returns, if it serves.

@@ -8,11 +8,11 @@ ghost use Rattle.irq_model.specs.Asks.{begins_run, returns_served};
 ghost use Rattle.plain_next.specs.Passes.{passes};
 
 use crate::kinds::{
-    is_again, is_ask, is_begin, is_begin_or_return, is_busy, is_by_driver, is_cleared_finish, is_cpu_call,
-    is_deepening, is_done, is_finish, is_freed, is_freed_by, is_handle, is_kill, is_leave,
-    is_linked_request, is_lowering, is_off, is_resend_take, is_serve, is_soft_start, is_start,
-    is_take, is_thread_begin, is_thread_call, is_thread_return, links_dev, returns_handled,
-    returns_wake, turns_off, turns_on, unlinks_dev, wakes,
+    is_again, is_ask, is_begin, is_begin_or_return, is_busy, is_by_driver, is_cleared_finish,
+    is_cpu_call, is_deepening, is_done, is_finish, is_freed, is_freed_by, is_handle, is_kill,
+    is_leave, is_linked_request, is_lowering, is_off, is_resend_take, is_serve, is_soft_start,
+    is_start, is_take, is_thread_begin, is_thread_call, is_thread_return, links_dev,
+    returns_handled, returns_wake, turns_off, turns_on, unlinks_dev, wakes,
 };
 use irq_base::{Actor, CpuEntry, DevNo, DriverNo, Entry, FlowKind, Part, ThreadEntry, Trigger};
 
@@ -152,7 +152,9 @@ fn returns_served(part: Part, dev: DevNo, entry: Entry) -> bool
             Entry::Cpu(
                 _,
                 CpuEntry::Return {
-                    dev: other, served, ..
+                    dev: other,
+                    served,
+                    ..
                 },
             ),
         ) => dev == other && served > 0,

@@ -82,11 +82,7 @@ pub fn last_of(past: &[Entry], test: EntryTest) -> Option<Entry>
 }
 
 /// The entries that pass the test, the oldest first.
-pub fn oldest_first(
-    alloc: Global,
-    past: &[Entry],
-    test: EntryTest,
-) -> Result<Vec<Entry>, NoMemory>
+pub fn oldest_first(alloc: Global, past: &[Entry], test: EntryTest) -> Result<Vec<Entry>, NoMemory>
     ensures { IfOk result (λ entries. entries.items ≡ reverse (filter (passes test) past.now)) }
 {
     let mut entries = Vec::new(alloc);

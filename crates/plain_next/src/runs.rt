@@ -12,9 +12,7 @@ use crate::entry_tests::EntryTest;
 use crate::lines::{is_same_part, kind_of};
 use crate::places::{before, count_of, oldest_first, since};
 use crate::scripts::run_script;
-use irq_base::{
-    Answer, Call, DevNo, Entry, Kind, LineDef, NoMemory, Part, ToldAnswer, ToldList,
-};
+use irq_base::{Answer, Call, DevNo, Entry, Kind, LineDef, NoMemory, Part, ToldAnswer, ToldList};
 use std::alloc::Global;
 
 // ---- what a run answers
