@@ -68,12 +68,20 @@ impl RunScripts {
 
     /// The first call that isn't complete of the run that is there, and how many entries it has
     /// made; none if all are complete. Whether the run makes calls at all, its answer says.
+    #[inline(always)]
     pub fn due(&self, dev: DevNo, part: Part) -> Option<(Call, u32)>
         ensures { result ≡ due_of self.now dev part }
     {
         if self.bare {
             return None;
         }
+        self.call_left(dev, part)
+    }
+
+    /// That call, where something is called at all.
+    fn call_left(&self, dev: DevNo, part: Part) -> Option<(Call, u32)>
+        ensures { result ≡ due_of self.now dev part }
+    {
         let at = self.place(dev, part);
         let call = self.calls.get(dev, part, at.place)?;
         Some((call, at.within))
@@ -81,12 +89,20 @@ impl RunScripts {
 
     /// What the run that is there is told to answer; none past the last answer, and of a device
     /// that isn't told.
+    #[inline(always)]
     pub fn told(&self, dev: DevNo, part: Part) -> Option<ToldAnswer>
         ensures { result ≡ told_of self.now dev part }
     {
         if self.bare {
             return None;
         }
+        self.answer_told(dev, part)
+    }
+
+    /// That answer, where something is told at all.
+    fn answer_told(&self, dev: DevNo, part: Part) -> Option<ToldAnswer>
+        ensures { result ≡ told_of self.now dev part }
+    {
         let turn = self.turn(dev, part);
         self.answers.get(dev, part, turn.now)
     }
@@ -124,6 +140,7 @@ impl RunScripts {
 
     /// A run of that part of the device begins: its calls begin anew, and it has the part's next
     /// answer.
+    #[inline(always)]
     pub fn begin(&mut self, dev: DevNo, part: Part)
         ensures { self.new ≡ record self.old {
           places = after_begin (length (answers_of self.old dev part)) dev part self.old.places;
@@ -132,6 +149,15 @@ impl RunScripts {
         if self.bare {
             return;
         }
+        self.begin_run(dev, part);
+    }
+
+    /// The same, where something is called or told.
+    fn begin_run(&mut self, dev: DevNo, part: Part)
+        ensures { self.new ≡ record self.old {
+          places = after_begin (length (answers_of self.old dev part)) dev part self.old.places;
+        } }
+    {
         let count = self.answers.count(dev, part);
         match part {
             Part::Primary => self.begin_handler(dev, count),
@@ -182,6 +208,7 @@ impl RunScripts {
     }
 
     /// The run of that part of the device returns.
+    #[inline(always)]
     pub fn returned(&mut self, dev: DevNo, part: Part)
         ensures { self.new
             ≡ record self.old { places = after_return dev part self.old.places } }
@@ -189,6 +216,15 @@ impl RunScripts {
         if self.bare {
             return;
         }
+        self.end_run(dev, part);
+    }
+
+    /// The same, where something is called or told.
+    fn end_run(&mut self, dev: DevNo, part: Part)
+        ensures { self.new
+            ≡ record self.old { places = after_return dev part self.old.places } }
+    {
+        self.bare = false;
         match part {
             Part::Primary => self.work = RunPlace::FIRST,
             Part::Thread => self.go_to(dev, RunPlace::FIRST),
