@@ -1,5 +1,5 @@
 //! The scripts and the answers of a line's runs.
-ghost use Rattle.std.specs.Prelude.{◌≡◌, ◌+◌, ◌^◌, ◌<◌, ◌≤◌, length, IsSome, IfOk};
+ghost use Rattle.std.specs.Prelude.{◌≡◌, ◌+◌, ◌^◌, ◌<◌, ◌≤◌, true, [], length, IsSome, IfOk};
 ghost use Rattle.irq_model.specs.Valid.{HasDistinctDevices};
 ghost use Rattle.device_table.specs.Rows.{change, all_with};
 ghost use Rattle.run_scripts.specs.Places.{first_place, first_row, row_at, place_at, turn_at};
@@ -19,6 +19,8 @@ use std::marker::Model;
 /// for the handler that is at work, and a row for each device.
 #[derive(Drop)]
 pub struct RunScripts {
+    // Nothing is called and nothing told, so that nothing ever changes.
+    bare: bool,
     calls: Groups<Call>,
     answers: Groups<ToldAnswer>,
     work: RunPlace,
@@ -26,7 +28,8 @@ pub struct RunScripts {
 }
 
 impl Model for RunScripts {
-    ghost use Rattle.run_scripts.specs.Runs.{RunsSeen};
+    ghost use Rattle.std.specs.Prelude.{◌≡◌, true};
+    ghost use Rattle.run_scripts.specs.Runs.{RunsSeen, IsBare};
 
     ghost Value = { RunsSeen };
 
@@ -35,6 +38,8 @@ impl Model for RunScripts {
       answers = s.answers;
       places = record { work = s.work; rows = s.rows };
     } };
+
+    ghost invariant = { λ s. s.bare ≡ true → IsBare s.calls.items s.answers.items s.work s.rows };
 }
 
 impl RunScripts {
@@ -51,7 +56,9 @@ impl RunScripts {
         let calls = Groups::new(alloc, &def.devices, &def.runs)?;
         let answers = Groups::new(alloc, &def.devices, &def.told)?;
         let rows = DeviceTable::new(alloc, &def.devices, RunRow::FIRST)?;
+        let bare = are_bare(&calls, &answers);
         Ok(RunScripts {
+            bare,
             calls,
             answers,
             work: RunPlace::FIRST,
@@ -64,6 +71,9 @@ impl RunScripts {
     pub fn due(&self, dev: DevNo, part: Part) -> Option<(Call, u32)>
         ensures { result ≡ due_of self.now dev part }
     {
+        if self.bare {
+            return None;
+        }
         let at = self.place(dev, part);
         let call = self.calls.get(dev, part, at.place)?;
         Some((call, at.within))
@@ -74,6 +84,9 @@ impl RunScripts {
     pub fn told(&self, dev: DevNo, part: Part) -> Option<ToldAnswer>
         ensures { result ≡ told_of self.now dev part }
     {
+        if self.bare {
+            return None;
+        }
         let turn = self.turn(dev, part);
         self.answers.get(dev, part, turn.now)
     }
@@ -116,6 +129,9 @@ impl RunScripts {
           places = after_begin (length (answers_of self.old dev part)) dev part self.old.places;
         } }
     {
+        if self.bare {
+            return;
+        }
         let count = self.answers.count(dev, part);
         match part {
             Part::Primary => self.begin_handler(dev, count),
@@ -132,6 +148,7 @@ impl RunScripts {
           };
         } }
     {
+        self.bare = false;
         self.work = RunPlace::FIRST;
         let Some(row) = self.rows.get(dev) else {
             return;
@@ -148,6 +165,7 @@ impl RunScripts {
           };
         } }
     {
+        self.bare = false;
         let Some(row) = self.rows.get(dev) else {
             return;
         };
@@ -168,6 +186,9 @@ impl RunScripts {
         ensures { self.new
             ≡ record self.old { places = after_return dev part self.old.places } }
     {
+        if self.bare {
+            return;
+        }
         match part {
             Part::Primary => self.work = RunPlace::FIRST,
             Part::Thread => self.go_to(dev, RunPlace::FIRST),
@@ -187,6 +208,7 @@ impl RunScripts {
         if at.place >= count {
             unreachable!();
         }
+        self.bare = false;
         match part {
             Part::Primary => self.work = at.advanced(completes),
             Part::Thread => self.go_to(dev, at.advanced(completes)),
@@ -201,6 +223,7 @@ impl RunScripts {
           };
         } }
     {
+        self.bare = false;
         let Some(row) = self.rows.get(dev) else {
             return;
         };
@@ -228,6 +251,7 @@ impl RunScripts {
           };
         } }
     {
+        self.bare = false;
         self.work = place;
     }
 
@@ -239,8 +263,17 @@ impl RunScripts {
           };
         } }
     {
+        self.bare = false;
         if self.rows.get(dev).is_some() {
             self.rows.set(dev, row);
         }
     }
+}
+
+/// Whether nothing is called and nothing told.
+fn are_bare(calls: &Groups<Call>, answers: &Groups<ToldAnswer>) -> bool
+    ensures calls { result ≡ true → calls.now.items ≡ [] }
+    ensures answers { result ≡ true → answers.now.items ≡ [] }
+{
+    calls.is_empty() && answers.is_empty()
 }
