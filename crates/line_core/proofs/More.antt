@@ -97,19 +97,19 @@ module _ (def : LineDef) (h : List Entry) (s : StateSeen) (scripts after : List 
       (other_place def (reverse h) e r (place_of scripts r) (within_of scripts r) other (is.at r)))
 
   -- the call of the driver whose entry is due
-  record HasCall (w : DriverNo) : Type 0 where
+  record HasDueCall (w : DriverNo) : Type 0 where
     call : Call
     count : ℕ
     due : due_call def w (reverse h) ≡ Some (call, count)
     here : call_of scripts w ≡ Some call
 
-  has_call : (w : DriverNo) → next def h (actors.Driver w) ≡ Some e → HasCall w
+  has_call : (w : DriverNo) → next def h (actors.Driver w) ≡ Some e → HasDueCall w
   has_call w due = by_call (call_of scripts w) refl
     where
       told : due_call def w (reverse h) ≡ due_call_in scripts w
       told = call_is def (reverse h) scripts is.calls is.at w
 
-      by_call : (o : Option Call) → call_of scripts w ≡ o → HasCall w
+      by_call : (o : Option Call) → call_of scripts w ≡ o → HasDueCall w
       by_call None none = absurd (none-some e (sym (ap (next_of_driver def w (reverse h))
           (told ∙ ap (λ (x : Option Call). with_count x (within_of scripts w)) none)) ∙ due))
       by_call (Some c) there = record {
@@ -331,7 +331,7 @@ module _ (def : LineDef) (h : List Entry) (b : Beside def h) where
   line_of_line c (cpus.Begin d) due =
       let u = begin_due def c d (reverse h) due in
       let k = kept def (reverse h) b.is.valid b.is.legal in
-      there_named def (reverse h) k d (ap (λ x. x || is_being_freed (reverse h) d) (begun_is_linked def (reverse h) d u.first))
+      there_named def (reverse h) k d (ap (λ x. x || is_being_freed (reverse h) d) (begun_is_linked def (reverse h) d u.first).0)
   line_of_line c (cpus.Return d) due =
       working_there d (return_due def c d _ _ (reverse h) due).is_at_work
   line_of_line c step due = tt

@@ -77,7 +77,7 @@ driver_told line b r call n o due told =
 -- a driver whose calls are complete has none due
 pub no_call_told : (line : LineSeen) (b : Beside line.def line.entries) (r : DriverNo) → due_call_in b.scripts r ≡ None
     → next line.def line.entries (actors.Driver r) ≡ None
-no_driver_told line b r none = ap (next_of_driver line.def r (reverse line.entries)) (due_call_is line.def line.entries b r ∙ none)
+no_call_told line b r none = ap (next_of_driver line.def r (reverse line.entries)) (due_call_is line.def line.entries b r ∙ none)
 
 -- what is added: the entry of the step, at the history's end
 pub record IsAdded (line : LineSeen) (step : DueStep) (e : Entry) (new : LineSeen) : Type 0 where
