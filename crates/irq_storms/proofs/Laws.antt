@@ -1,14 +1,19 @@
 -- The laws, of histories.
-use Rattle.std.proofs.Common.{◌≡◌, ℕ, ◌+◌, ◌≤◌, List, reverse, arith}
+use Rattle.std.proofs.Common.{◌≡◌, ℕ, ◌+◌, ◌≤◌, true, List, reverse, length, arith}
+use Rattle.std.proofs.lemmas.List.{length-reverse}
 use Rattle.irq_base.specs.declared.lines.LineDef.{LineDef}
 use Rattle.irq_base.specs.declared.entries.Entry.{Entry}
 use Rattle.irq_model.specs.Legal.{IsLegal}
+use Rattle.irq_model.specs.Lines.{is_edge_line}
+use Rattle.irq_model.specs.RunBounds.{run_edge_bound}
 use Rattle.irq_model.specs.Valid.{IsValid}
+use Rattle.irq_model.specs.ValidRuns.{HasValidRuns}
 use Rattle.irq_storms.specs.Storms.{RunsAreCounted, CallsAreCounted, AsksAreCounted}
 use Rattle.irq_storms.proofs.RunCounts.{begins_past, returns_past, rounds_past}
 use Rattle.irq_storms.proofs.ThreadCounts.{begins_of, returns_of, finishes_of, dones_of}
 use Rattle.irq_storms.proofs.ServedCounts.{served_exactly, served_of}
 use Rattle.irq_storms.proofs.DeviceSums.{served_of_all, served_past}
+use Rattle.irq_storms.proofs.RunEdgeBound.{edge_within}
 use Rattle.irq_storms.proofs.CallCounts.{driver_entries, asks_of_drivers, renewals_of_drivers}
 
 below : (t m n : ℕ) → t + m ≤ n → t ≤ n
@@ -45,3 +50,7 @@ asks_are_counted def h valid legal = record {
   all = served_of_all def (reverse h) valid legal;
   all_runs = served_past def (reverse h) legal;
 }
+
+pub within_edge_bound : (def : LineDef) (h : List Entry) → IsValid def → HasValidRuns def → IsLegal def h → is_edge_line def ≡ true
+    → length h ≤ run_edge_bound def
+within_edge_bound def h valid runs legal edge = let n = edge_within def (reverse h) valid runs legal edge in let l = length-reverse h in omega (arith, n, l)

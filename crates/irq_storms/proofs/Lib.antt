@@ -26,3 +26,5 @@ pub mod WeightSums
 pub mod ToldWakes
 pub mod DeviceEdges
 pub mod RunEdgeBound
+pub mod WindowRule
+pub mod KillCounts

@@ -4,12 +4,14 @@
 //! it or cite its lemma.
 #![tactic(auto)]
 
-ghost use Rattle.std.specs.Prelude.{List, reverse};
+ghost use Rattle.std.specs.Prelude.{◌≡◌, ◌≤◌, true, List, length, reverse};
 ghost use Rattle.irq_base.specs.declared.lines.LineDef.{LineDef};
 ghost use Rattle.irq_base.specs.declared.entries.Entry.{Entry};
 ghost use Rattle.irq_model.specs.Legal.{IsLegal};
-ghost use Rattle.irq_model.specs.RunBounds.{RoundsAreCountedPast};
+ghost use Rattle.irq_model.specs.Lines.{is_edge_line};
+ghost use Rattle.irq_model.specs.RunBounds.{run_edge_bound, RoundsAreCountedPast};
 ghost use Rattle.irq_model.specs.Valid.{IsValid};
+ghost use Rattle.irq_model.specs.ValidRuns.{HasValidRuns};
 ghost use Rattle.irq_storms.specs.Storms.{RunsAreCounted, CallsAreCounted, AsksAreCounted};
 ghost use Rattle.irq_storms.specs.Storms.{EdgeIsCounted};
 
@@ -46,4 +48,11 @@ pub fn rounds_are_counted()
 #[tactic(auto, using(crate::proofs::EdgeCounts::edge_is_counted))]
 pub fn edge_is_counted()
     ensures law { (def : LineDef) (h : List Entry) → IsLegal def h → EdgeIsCounted def h }
+{}
+
+/// A legal history of an edge line has at most as many entries as its bound says, whatever runs
+/// call and devices are told.
+pub fn within_edge_bound()
+    ensures law { (def : LineDef) (h : List Entry) → IsValid def → HasValidRuns def
+        → IsLegal def h → is_edge_line def ≡ true → length h ≤ run_edge_bound def }
 {}
