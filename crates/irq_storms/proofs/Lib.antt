@@ -28,3 +28,4 @@ pub mod DeviceEdges
 pub mod RunEdgeBound
 pub mod WindowRule
 pub mod KillCounts
+pub mod EndCounts
