@@ -29,3 +29,4 @@ pub mod RunEdgeBound
 pub mod WindowRule
 pub mod KillCounts
 pub mod EndCounts
+pub mod HandledRuns
