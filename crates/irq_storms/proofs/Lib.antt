@@ -30,3 +30,4 @@ pub mod WindowRule
 pub mod KillCounts
 pub mod EndCounts
 pub mod HandledRuns
+pub mod LevelBound

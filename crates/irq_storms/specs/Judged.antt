@@ -8,7 +8,7 @@ use Rattle.irq_model.specs.Places.{stands, count_of}
 use Rattle.irq_model.specs.Kinds.{is_kill, is_start, is_linked_request}
 use Rattle.irq_model.specs.Rounds.{has_flow}
 use Rattle.irq_model.specs.Spurious.{Counts, now, round_wakes, round_handles, counts_of}
-use Rattle.irq_storms.specs.Tests.{is_end, is_moment, is_renewal}
+use Rattle.irq_storms.specs.Tests.{is_end, is_moment, is_renewal, is_by_any_driver}
 
 -- a mark as a number
 abbrev pub one_if : Bool → ℕ
@@ -92,6 +92,11 @@ breaks def past = handled_ends def past + count_of is_renewal past
 abbrev pub renews : Entry → List Entry → Bool
 renews e past =
     is_moment e || (is_linked_request e || (is_start e && stands is_kill is_start past))
+
+-- of these, the starts by runs of a line that was killed, and not started since
+abbrev pub starts_killed : Entry → List Entry → Bool
+starts_killed e past =
+    not (is_by_any_driver e) && (is_start e && stands is_kill is_start past)
 
 abbrev pub renewals : List Entry → ℕ
 renewals past = count_where renews past
