@@ -31,3 +31,4 @@ pub mod KillCounts
 pub mod EndCounts
 pub mod HandledRuns
 pub mod LevelBound
+pub mod OwedEnables

@@ -184,7 +184,7 @@ handler_wakes_none def d c (called.Wake woken x) past none due = by_test (same_d
         (none_wake def.runs d u.dev none) at) is)
 handler_wakes_none def d c call past none due = refl
 
-no_thread_wake : (d : DevNo) (call : CallEntry) → wake_cost (λ x. 1) call ≡ 0 → wakes_by_call d call ≡ false
+pub no_thread_wake : (d : DevNo) (call : CallEntry) → wake_cost (λ x. 1) call ≡ 0 → wakes_by_call d call ≡ false
 no_thread_wake d (called.Wake true x) h = absurd (omega (arith, h))
 no_thread_wake d (called.Wake false x) h = refl
 no_thread_wake d call h = refl
