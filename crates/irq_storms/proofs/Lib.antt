@@ -32,3 +32,4 @@ pub mod EndCounts
 pub mod HandledRuns
 pub mod LevelBound
 pub mod OwedEnables
+pub mod KilledStarts

@@ -121,16 +121,16 @@ is_own_enable d (by.ThreadCall dev call) = same_dev d dev && enables call
 is_own_enable d _ = false
 
 -- its handler is at work, past a disable; its thread is to run; or it is in a run that hasn't enabled
-abbrev past_disable : DevNo → List Entry → Bool
+abbrev pub past_disable : DevNo → List Entry → Bool
 past_disable d past = is_called past d && list_any is_cpu_disable (since is_begin_or_return past)
 
-abbrev to_enable : DevNo → List Entry → Bool
+abbrev pub to_enable : DevNo → List Entry → Bool
 to_enable d past = is_in_run past d && not (list_any (is_own_enable d) (since (is_thread_begin d) past))
 
-abbrev sum_if : Bool → Bool → Bool → Bool → ℕ
+abbrev pub sum_if : Bool → Bool → Bool → Bool → ℕ
 sum_if own h w t = cond own (one_if h + one_if w + one_if t) 0
 
-abbrev owes : LineDef → DevNo → List Entry → ℕ
+abbrev pub owes : LineDef → DevNo → List Entry → ℕ
 owes def d past = sum_if (owns def d) (past_disable d past) (is_woken past d) (to_enable d past)
 
 abbrev pub owed : LineDef → List Entry → ℕ
@@ -592,7 +592,7 @@ module _ (def : LineDef) (valid : IsValid def) (runs : HasValidRuns def) (rules 
       none_woken o h false w t i = omega arith
       none_woken o h true w t i = cc
 
-  owed_more : (e : Entry) (past : List Entry) → IsLegalPast def (e ∷ past) → OwedMore e past
+  pub owed_more : (e : Entry) (past : List Entry) → IsLegalPast def (e ∷ past) → OwedMore e past
   owed_more (by.Cpu c (cpus.Take way answer)) past legal = omega arith
   owed_more (by.Cpu c (cpus.End again unmask note)) past legal = omega arith
   owed_more (by.Cpu c (cpus.Begin x)) past legal = begins c x past
