@@ -33,3 +33,4 @@ pub mod HandledRuns
 pub mod LevelBound
 pub mod OwedEnables
 pub mod KilledStarts
+pub mod PlainBounds
