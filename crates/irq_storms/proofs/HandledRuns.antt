@@ -1,5 +1,5 @@
 -- The runs that answer Handled: at most the asks, and the words of told devices that say so.
-use Rattle.std.proofs.Common.{◌≡◌, ℕ, ◌+◌, ◌≤◌, ◌==◌, Bool, true, false, not, ◌||◌, ◌&&◌, cond, nat_lt, Option, Some, None, List, [], ◌∷◌, refl, sym, ap, ◌∙◌, subst, arith}
+use Rattle.std.proofs.Common.{◌≡◌, ℕ, ◌+◌, ◌≤◌, ◌==◌, Bool, true, false, not, ◌&&◌, cond, nat_lt, Option, Some, None, List, [], ◌∷◌, refl, sym, ap, ◌∙◌, subst, arith}
 use Rattle.std.proofs.lemmas.Bool.{and_parts}
 use Rattle.irq_base.specs.declared.numbers.DevNo.{DevNo}
 use Rattle.irq_base.specs.declared.devices.Answer.{Answer}
@@ -21,23 +21,21 @@ use Rattle.irq_model.specs.Kinds.{same_dev, is_any_ask, is_ask, is_handled}
 use Rattle.irq_model.specs.Lines.{kind_of, same_part, told_in, told_answers}
 use Rattle.irq_model.specs.Asks.{begins_run, unserved_asks}
 use Rattle.irq_model.specs.Threads.{is_running}
-use Rattle.irq_model.specs.Reason.{is_called}
-use Rattle.irq_model.specs.RunLaws.{is_in_run}
 use Rattle.irq_model.specs.Runs.{met_by, told_of, answer_of_run_now}
 use Rattle.irq_model.specs.RunBounds.{is_told_handled, told_handled}
-use Rattle.irq_model.specs.Legal.{IsDue, IsLegalPast}
+use Rattle.irq_model.specs.Legal.{IsLegalPast}
 use Rattle.irq_steps.proofs.Same.{dev_from_same}
 use Rattle.irq_laws.proofs.ScriptLaws.{runs_past}
 use Rattle.irq_laws.proofs.ImpliesFlow.{return_due}
 use Rattle.irq_laws.proofs.ImpliesThread.{thread_return_due, has_returned}
 use Rattle.irq_storms.specs.Judged.{one_if}
-use Rattle.irq_storms.specs.Tests.{answers_handled, total}
-use Rattle.irq_storms.proofs.Counting.{count_more, count_ext, count_total, total_at, total_ext, at_key, totals_by_two}
+use Rattle.irq_storms.specs.Tests.{answers_handled}
+use Rattle.irq_storms.proofs.Counting.{count_more, count_ext, count_total, total_at, at_key, totals_by_two}
 use Rattle.irq_storms.proofs.ServedCounts.{key_ask}
 use Rattle.irq_storms.proofs.ThreadCounts.{dev_key}
-use Rattle.irq_storms.proofs.Meeting.{is_in, returns_run, AlwaysServes, not_in_before, meetings, direct_serves, check_serves, null_serves}
+use Rattle.irq_storms.proofs.Meeting.{is_in, returns_run, AlwaysServes, meetings, direct_serves, check_serves, null_serves}
 use Rattle.irq_storms.proofs.ToldWords.{not_in_after, in_before, told_counted}
-use Rattle.irq_storms.proofs.Paying.{sum_over, StaysPaid, is_paid, sum_alone}
+use Rattle.irq_storms.proofs.Paying.{StaysPaid, is_paid, sum_alone}
 
 -- ---- a run of d's part that answers Handled
 

@@ -26,11 +26,11 @@ use Rattle.irq_model.specs.Lines.{kind_of, run_script}
 use Rattle.irq_model.specs.Asks.{begins_run, unserved_asks}
 use Rattle.irq_model.specs.Rounds.{at_work}
 use Rattle.irq_model.specs.Reason.{is_called}
-use Rattle.irq_model.specs.Runs.{met_by, told_of, is_recognised, makes_calls, answer_of_run_now, entries_of_run}
+use Rattle.irq_model.specs.Runs.{met_by, told_of, is_recognised, makes_calls, entries_of_run}
 use Rattle.irq_model.specs.Due.{due_of}
 use Rattle.irq_model.specs.RunBounds.{arms_this, arms_of}
-use Rattle.irq_model.specs.ValidRuns.{HasValidRuns, is_direct, may_stand}
-use Rattle.irq_model.specs.Legal.{IsDue, IsLegalPast}
+use Rattle.irq_model.specs.ValidRuns.{HasValidRuns, is_direct}
+use Rattle.irq_model.specs.Legal.{IsLegalPast}
 use Rattle.irq_steps.proofs.Same.{same_self, dev_from_same}
 use Rattle.irq_laws.proofs.Chosen.{the_same}
 use Rattle.irq_laws.proofs.ScriptLaws.{runs_past}
@@ -42,7 +42,7 @@ use Rattle.irq_storms.specs.Judged.{one_if}
 use Rattle.irq_storms.specs.Tests.{total}
 use Rattle.irq_storms.proofs.Counting.{count_total}
 use Rattle.irq_storms.proofs.HandlerRuns.{made_most}
-use Rattle.irq_storms.proofs.Meeting.{meets, meetings, direct_serves}
+use Rattle.irq_storms.proofs.Meeting.{meetings, direct_serves}
 use Rattle.irq_storms.proofs.ArmCosts.{edge_arm, arm_cost, arm_weight, handler_arms, handler_made, handlers_alone, arm_call}
 use Rattle.irq_storms.proofs.Paying.{sum_over, StaysPaid, is_paid, sum_below}
 

@@ -1,5 +1,5 @@
 -- Runs start a killed line no more often than drivers make other calls than asks.
-use Rattle.std.proofs.Common.{◌≡◌, ◌⊎◌, inl, inr, ℕ, ◌+◌, ◌-◌, ◌≤◌, ◌==◌, Bool, true, false, not, ◌||◌, ◌&&◌, cond, Option, Some, None, List, [], ◌∷◌, filter, length, refl, sym, ap, ◌∙◌, subst, arith}
+use Rattle.std.proofs.Common.{◌≡◌, ◌⊎◌, inl, inr, ℕ, ◌+◌, ◌-◌, ◌≤◌, Bool, true, false, not, ◌||◌, ◌&&◌, cond, List, [], ◌∷◌, filter, length, refl, sym, ap, ◌∙◌, arith}
 use Rattle.std.proofs.lemmas.Bool.{and_parts, or_parts, or_cases, false_from_ne_true}
 use Rattle.std.specs.List.{list_any}
 use Rattle.irq_base.specs.declared.numbers.DevNo.{DevNo}
@@ -19,7 +19,6 @@ use Rattle.irq_base.specs.declared.entries.CallEntry.TheVariants as called
 use Rattle.irq_base.specs.declared.entries.LinkAnswer.TheVariants as links
 use Rattle.irq_base.specs.declared.entries.Opened.{Opened}
 use Rattle.irq_base.specs.declared.entries.Opened.TheVariants as opens
-use Rattle.irq_base.specs.declared.entries.Note.TheVariants as notes
 use Rattle.irq_base.specs.declared.entries.UnlinkAnswer.TheVariants as unlinks
 use Rattle.irq_model.specs.Places.{stands, count_of}
 use Rattle.irq_model.specs.Kinds.{same_dev, made_by, is_kill, is_start, is_disable, is_started_opened, is_lowering_opened, opened_of}
@@ -39,21 +38,20 @@ use Rattle.irq_steps.proofs.ListSteps.{linked_refused, linked_not_there}
 use Rattle.irq_steps.proofs.DepthSteps.{raised, lowered, raised_reset, raised_more}
 use Rattle.irq_steps.proofs.Same.{same_both, same_self}
 use Rattle.irq_laws.specs.Actors.{by_someone}
-use Rattle.irq_laws.specs.Kept.{Kept, KeepsDepth}
+use Rattle.irq_laws.specs.Kept.{Kept}
 use Rattle.irq_laws.proofs.Lists.{both_ways}
 use Rattle.irq_laws.proofs.KeptAlways.{kept}
 use Rattle.irq_laws.proofs.DepthKept.{Opens, opens_at}
-use Rattle.irq_laws.proofs.RestKept.{none_freed, parts_of}
+use Rattle.irq_laws.proofs.RestKept.{none_freed}
 use Rattle.irq_laws.proofs.Requested.{of_linked}
 use Rattle.irq_laws.proofs.ImpliesDriver.{request_due, unlink_due}
 use Rattle.irq_laws.proofs.ScriptLaws.{is_shared, shared_all, few_steps, follows_past}
 use Rattle.irq_storms.specs.Judged.{one_if, count_where, starts_killed}
 use Rattle.irq_storms.specs.Tests.{total, is_by_any_driver}
-use Rattle.irq_storms.proofs.Counting.{mark_most, count_more, count_total, total_none}
+use Rattle.irq_storms.proofs.Counting.{count_more, count_total, total_none}
 use Rattle.irq_storms.proofs.Weights.{of_drivers}
-use Rattle.irq_storms.proofs.CallCosts.{runs_cost}
 use Rattle.irq_storms.proofs.EndCounts.{where_more}
-use Rattle.irq_storms.proofs.OwedEnables.{owns, owes, owed, sum_if, is_yield, yields, owed_more, past_disable, to_enable}
+use Rattle.irq_storms.proofs.OwedEnables.{owns, owes, owed, sum_if, is_yield, yields, owed_more}
 
 -- ---- what is linked
 

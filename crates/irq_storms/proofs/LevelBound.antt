@@ -2,7 +2,6 @@
 use Rattle.std.proofs.Common.{◌≡◌, ℕ, ◌+◌, ◌*◌, ◌≤◌, Bool, true, false, not, ◌||◌, ◌&&◌, cond, List, [], ◌∷◌, length, refl, sym, ap, ◌∙◌, arith}
 use Rattle.std.proofs.Math.Nat.{mul-add, add-mul, mul-le-mul_left, mul-le-mul_right, mul_assoc, mul_comm, mul-one}
 use Rattle.irq_base.specs.declared.lines.LineDef.{LineDef}
-use Rattle.irq_base.specs.declared.lines.FlowKind.{FlowKind}
 use Rattle.irq_base.specs.declared.entries.Entry.{Entry}
 use Rattle.irq_base.specs.declared.entries.Entry.TheVariants as by
 use Rattle.irq_base.specs.declared.entries.CpuEntry.TheVariants as cpus
@@ -30,7 +29,7 @@ use Rattle.irq_storms.proofs.EndCounts.{where_more, handled_past, deferred_past,
 use Rattle.irq_storms.proofs.HandledRuns.{handled_past as handled_runs}
 use Rattle.irq_storms.proofs.LongBound.{by_rounds}
 use Rattle.irq_storms.proofs.WakeCosts.{thread_weight}
-use Rattle.irq_storms.proofs.WeightSums.{all_handlers, round_pays, is_arm_call, calls_paid}
+use Rattle.irq_storms.proofs.WeightSums.{all_handlers, round_pays, calls_paid}
 
 -- ---- each end is judged one way
 

@@ -1,6 +1,6 @@
 -- What the threads that enable their line still owe: the disables of their handlers, and what drivers
 -- woke, bound it.
-use Rattle.std.proofs.Common.{◌≡◌, ◌⊎◌, inl, inr, ℕ, ◌+◌, ◌≤◌, ◌==◌, Bool, true, false, not, ◌||◌, ◌&&◌, cond, nat_lt, Option, Some, None, List, [], ◌∷◌, ◌++◌, filter, refl, sym, ap, ◌∙◌, subst, arith}
+use Rattle.std.proofs.Common.{◌≡◌, ◌⊎◌, inl, inr, ℕ, ◌+◌, ◌≤◌, Bool, true, false, not, ◌||◌, ◌&&◌, cond, List, [], ◌∷◌, ◌++◌, filter, refl, sym, ap, ◌∙◌, subst, arith}
 use Rattle.std.proofs.lemmas.Bool.{and_parts, or_parts, or_cases, false_from_ne_true}
 use Rattle.std.specs.List.{list_any}
 use Rattle.irq_base.specs.declared.numbers.CpuNo.{CpuNo}
@@ -11,35 +11,28 @@ use Rattle.irq_base.specs.declared.calls.Call.TheVariants as calls
 use Rattle.irq_base.specs.declared.devices.DeviceDef.{DeviceDef}
 use Rattle.irq_base.specs.declared.devices.Answer.{Answer}
 use Rattle.irq_base.specs.declared.devices.Answer.TheVariants as answers
-use Rattle.irq_base.specs.declared.devices.Kind.{Kind}
-use Rattle.irq_base.specs.declared.devices.Kind.TheVariants as kinds
 use Rattle.irq_base.specs.declared.devices.Part.TheVariants as parts
-use Rattle.irq_base.specs.declared.devices.ToldAnswer.{ToldAnswer}
 use Rattle.irq_base.specs.declared.lines.LineDef.{LineDef}
 use Rattle.irq_base.specs.declared.entries.Entry.{Entry}
 use Rattle.irq_base.specs.declared.entries.Entry.TheVariants as by
 use Rattle.irq_base.specs.declared.entries.CpuEntry.TheVariants as cpus
 use Rattle.irq_base.specs.declared.entries.ThreadEntry.TheVariants as threads
-use Rattle.irq_base.specs.declared.entries.DriverEntry.{DriverEntry}
 use Rattle.irq_base.specs.declared.entries.DriverEntry.TheVariants as drivers
 use Rattle.irq_base.specs.declared.entries.CallEntry.{CallEntry}
 use Rattle.irq_base.specs.declared.entries.CallEntry.TheVariants as called
 use Rattle.irq_base.specs.declared.entries.UnlinkAnswer.TheVariants as unlinks
-use Rattle.irq_base.specs.Handlers.{answer_of}
 use Rattle.irq_model.specs.Places.{since, count_of}
-use Rattle.irq_model.specs.Kinds.{same_dev, is_begin_or_return, is_wake, wakes_by_call, disables, is_disable, is_thread_begin, is_thread_return, is_return}
+use Rattle.irq_model.specs.Kinds.{same_dev, is_begin_or_return, is_wake, wakes_by_call, disables, is_disable, is_thread_begin, is_thread_return}
 use Rattle.irq_model.specs.Kinds.{is_cpu_call, is_thread_call, opened_by_call, is_lowering_opened}
-use Rattle.irq_model.specs.Lines.{is_device, has_device, kind_of, run_script}
+use Rattle.irq_model.specs.Lines.{is_device, run_script}
 use Rattle.irq_model.specs.Links.{is_lowering}
 use Rattle.irq_model.specs.Threads.{is_woken, is_running}
 use Rattle.irq_model.specs.Reason.{is_called}
-use Rattle.irq_model.specs.Rounds.{at_work}
-use Rattle.irq_model.specs.Runs.{met_by, told_of, makes_calls, is_recognised, entries_of_run}
+use Rattle.irq_model.specs.Runs.{makes_calls, is_recognised, entries_of_run}
 use Rattle.irq_model.specs.RunLaws.{calls_of_run, is_in_run, is_enabling}
 use Rattle.irq_model.specs.RunBounds.{is_nosync, EnablesOnlyItsOwn}
 use Rattle.irq_model.specs.Scripts.{MakesSteps, MakesAll, MakesAllOf, steps_in, step_in}
 use Rattle.irq_model.specs.Legal.{IsDue, IsLegalPast}
-use Rattle.irq_model.specs.Next.{next_of_thread}
 use Rattle.irq_model.specs.Valid.{IsValid, HasDistinctDevices}
 use Rattle.irq_model.specs.ValidRuns.{HasValidRuns}
 use Rattle.irq_steps.proofs.Same.{same_self, same_both, dev_from_same}
@@ -55,8 +48,8 @@ use Rattle.irq_storms.proofs.Counting.{count_total, total_le}
 use Rattle.irq_storms.proofs.CallCosts.{runs_cost}
 use Rattle.irq_storms.proofs.HandlerRuns.{made_most as handler_most}
 use Rattle.irq_storms.proofs.ThreadRuns.{made_most as thread_most, in_run_before}
-use Rattle.irq_storms.proofs.ThreadCounts.{begin_tells, returned_since}
-use Rattle.irq_storms.proofs.Within.{any_back, any_kept}
+use Rattle.irq_storms.proofs.ThreadCounts.{begin_tells}
+use Rattle.irq_storms.proofs.Within.{any_back}
 use Rattle.irq_storms.proofs.Meeting.{run_made}
 use Rattle.irq_storms.proofs.LongBound.{thread_wakes_none}
 use Rattle.irq_storms.proofs.ToldWakes.{handler_wakes_none, no_thread_wake}

@@ -1,6 +1,6 @@
 -- Where no run makes a call and no device is told what to answer, the bounds are those of lines whose
 -- drivers alone call.
-use Rattle.std.proofs.Common.{◌≡◌, ℕ, ◌+◌, ◌*◌, Bool, true, false, not, ◌&&◌, cond, List, [], ◌∷◌, length, refl, sym, ap, ◌∙◌, arith}
+use Rattle.std.proofs.Common.{◌≡◌, ℕ, ◌+◌, ◌*◌, Bool, true, false, ◌&&◌, cond, List, [], ◌∷◌, length, refl, sym, ap, ◌∙◌, arith}
 use Rattle.std.proofs.Math.Nat.{mul-one, mul_comm}
 use Rattle.std.specs.List.{list_any, sum_by}
 use Rattle.irq_base.specs.declared.numbers.DevNo.{DevNo}
@@ -13,11 +13,11 @@ use Rattle.irq_base.specs.declared.devices.Part.TheVariants as parts
 use Rattle.irq_base.specs.declared.devices.ToldAnswer.{ToldAnswer}
 use Rattle.irq_base.specs.declared.lines.LineDef.{LineDef}
 use Rattle.irq_model.specs.Places.{count_of}
-use Rattle.irq_model.specs.Lines.{is_edge_line, is_level_line, is_eoi_flow, script_in, run_script}
+use Rattle.irq_model.specs.Lines.{is_edge_line, is_eoi_flow, script_in, run_script}
 use Rattle.irq_model.specs.Bounds.{ask_calls, other_calls, edge_bound, level_bound, bound}
 use Rattle.irq_model.specs.RunLaws.{is_enabling}
 use Rattle.irq_model.specs.RunBounds.{weight_of, script_weight, device_weight, wake_weight, round_weight, arms_this, asks_of, arms_of, told_wakes, edges_by_arms, device_edges}
-use Rattle.irq_model.specs.RunBounds.{run_edge_bound, is_told_handled, told_handled, run_level_bound, wakes_by_handler, EnablesOnlyItsOwn}
+use Rattle.irq_model.specs.RunBounds.{run_edge_bound, is_told_handled, told_handled, run_level_bound}
 use Rattle.irq_storms.specs.Lengths.{history_bound, IsBounded, HasPlainRuns}
 use Rattle.irq_storms.specs.Tests.{total}
 use Rattle.irq_storms.proofs.Counting.{total_none}

@@ -1,6 +1,6 @@
 -- The asks of a device, served by runs as they return, or by calls.
 use Rattle.std.proofs.Common.{◌≡◌, ℕ, ◌+◌, ◌≤◌, ◌==◌, min, ◌⊎◌, inl, inr, Bool, true, false, not, ◌||◌, ◌&&◌, cond, nat_lt}
-use Rattle.std.proofs.Common.{Option, Some, None, List, [], ◌∷◌, refl, sym, ap, ap₂, ◌∙◌, subst, arith}
+use Rattle.std.proofs.Common.{Option, Some, None, List, [], ◌∷◌, refl, sym, ap, ◌∙◌, subst, arith}
 use Rattle.std.proofs.lemmas.Bool.{and_parts, or_parts, ltb-true, ltb-false}
 use Rattle.std.specs.List.{list_any}
 use Rattle.irq_base.specs.declared.numbers.CpuNo.{CpuNo}
@@ -20,7 +20,7 @@ use Rattle.irq_base.specs.declared.entries.CallEntry.TheVariants as called
 use Rattle.irq_model.specs.Places.{stands, since, before, count_of}
 use Rattle.irq_model.specs.Kinds.{same_dev, is_any_ask, is_ask, is_begin, is_return, is_thread_begin, is_thread_return, is_serve, is_done, made_by}
 use Rattle.irq_model.specs.Lines.{kind_of}
-use Rattle.irq_model.specs.Asks.{begins_run, returns_served, since_served_run, left_by_runs, serving, unserved_asks, taken_away}
+use Rattle.irq_model.specs.Asks.{begins_run, returns_served, left_by_runs, serving, unserved_asks, taken_away}
 use Rattle.irq_model.specs.Threads.{is_running}
 use Rattle.irq_model.specs.Reason.{is_called}
 use Rattle.irq_model.specs.Runs.{is_that_part, serves_by_word, told_of, served_by_run}
@@ -33,9 +33,9 @@ use Rattle.irq_laws.proofs.ImpliesFlow.{return_due}
 use Rattle.irq_laws.proofs.ImpliesThread.{thread_return_due, has_returned}
 use Rattle.irq_laws.proofs.ImpliesDriver.{serve_due}
 use Rattle.irq_storms.specs.Judged.{one_if}
-use Rattle.irq_storms.specs.Tests.{is_any_serving, serves_of, asks_served, all_served, total}
-use Rattle.irq_storms.proofs.Counting.{count_more, count_ext, counts_by_key}
-use Rattle.irq_storms.proofs.ThreadCounts.{dev_key, swapped}
+use Rattle.irq_storms.specs.Tests.{serves_of, asks_served, total}
+use Rattle.irq_storms.proofs.Counting.{count_more}
+use Rattle.irq_storms.proofs.ThreadCounts.{dev_key}
 
 -- ---- a run that is in progress: b its beginnings, r its returns that have served, s the calls that
 -- serve, a the asks

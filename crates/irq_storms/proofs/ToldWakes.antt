@@ -1,6 +1,6 @@
 -- How often a told device's thread is woken, if no handler wakes it by a call: by its handler's
 -- words, and by drivers.
-use Rattle.std.proofs.Common.{◌≡◌, ℕ, ◌+◌, ◌≤◌, ◌==◌, Bool, true, false, not, ◌||◌, ◌&&◌, cond, Option, Some, None, List, [], ◌∷◌, refl, sym, ap, ◌∙◌, subst, arith}
+use Rattle.std.proofs.Common.{◌≡◌, ℕ, ◌+◌, ◌≤◌, Bool, true, false, not, ◌&&◌, cond, Option, Some, None, List, [], ◌∷◌, refl, sym, ap, ◌∙◌, subst, arith}
 use Rattle.std.proofs.lemmas.Bool.{and_parts, or_parts}
 use Rattle.std.specs.List.{list_any, AllByRecursion}
 use Rattle.irq_base.specs.declared.numbers.CpuNo.{CpuNo}
@@ -8,8 +8,6 @@ use Rattle.irq_base.specs.declared.numbers.DevNo.{DevNo}
 use Rattle.irq_base.specs.declared.numbers.DriverNo.{DriverNo}
 use Rattle.irq_base.specs.declared.calls.Call.{Call}
 use Rattle.irq_base.specs.declared.calls.Call.TheVariants as calls
-use Rattle.irq_base.specs.declared.devices.Answer.{Answer}
-use Rattle.irq_base.specs.declared.devices.Answer.TheVariants as answers
 use Rattle.irq_base.specs.declared.devices.Kind.{Kind}
 use Rattle.irq_base.specs.declared.devices.Kind.TheVariants as kinds
 use Rattle.irq_base.specs.declared.devices.Part.{Part}
@@ -26,19 +24,18 @@ use Rattle.irq_base.specs.declared.entries.CallEntry.TheVariants as called
 use Rattle.irq_base.specs.declared.entries.UnlinkAnswer.TheVariants as unlinks
 use Rattle.irq_base.specs.Handlers.{answer_of, answer_of_told}
 use Rattle.irq_model.specs.Places.{count_of}
-use Rattle.irq_model.specs.Kinds.{same_dev, is_wake, wakes, wakes_by_call, is_call, is_return}
+use Rattle.irq_model.specs.Kinds.{same_dev, is_wake, wakes, wakes_by_call, is_return}
 use Rattle.irq_model.specs.Lines.{kind_of, script_in, run_script, told_answers, same_part}
 use Rattle.irq_model.specs.Asks.{begins_run}
 use Rattle.irq_model.specs.Reason.{is_called}
 use Rattle.irq_model.specs.Runs.{met_by, told_of, makes_calls, entries_of_run}
 use Rattle.irq_model.specs.Due.{due_of}
-use Rattle.irq_model.specs.Scripts.{MakesSteps, MakesAll, step_in}
+use Rattle.irq_model.specs.Scripts.{MakesSteps, step_in}
 use Rattle.irq_model.specs.RunBounds.{wakes_this, wakes_by_handler, is_wake_word, told_wakes}
 use Rattle.irq_model.specs.ValidRuns.{HasValidRuns}
 use Rattle.irq_model.specs.Legal.{IsDue, IsLegalPast}
 use Rattle.irq_steps.proofs.Same.{dev_from_same}
 use Rattle.irq_laws.proofs.ScriptLaws.{runs_past, follows_past}
-use Rattle.irq_laws.proofs.Lists.{both_ways}
 use Rattle.irq_laws.proofs.Requested.{one_of}
 use Rattle.irq_laws.proofs.ImpliesCall.{step_row}
 use Rattle.irq_laws.proofs.ImpliesFlow.{return_due, handler_call_due}

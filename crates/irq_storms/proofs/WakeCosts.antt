@@ -4,8 +4,6 @@ use Rattle.std.proofs.Math.Nat.{mul-add, mul-le-mul_left, mul_comm}
 use Rattle.std.proofs.lemmas.List.Sums.{sum_by-cons}
 use Rattle.std.specs.List.{sum_by}
 use Rattle.irq_base.specs.declared.numbers.DevNo.{DevNo}
-use Rattle.irq_base.specs.declared.calls.Call.{Call}
-use Rattle.irq_base.specs.declared.devices.Answer.{Answer}
 use Rattle.irq_base.specs.declared.devices.Part.TheVariants as parts
 use Rattle.irq_base.specs.declared.lines.LineDef.{LineDef}
 use Rattle.irq_base.specs.declared.entries.Entry.{Entry}
@@ -15,7 +13,7 @@ use Rattle.irq_base.specs.declared.entries.ThreadEntry.TheVariants as threads
 use Rattle.irq_base.specs.declared.entries.CallEntry.{CallEntry}
 use Rattle.irq_base.specs.declared.entries.CallEntry.TheVariants as called
 use Rattle.irq_model.specs.Places.{count_of}
-use Rattle.irq_model.specs.Kinds.{is_wake, wakes, wakes_by_call, is_thread_begin, is_thread_return, is_thread_call, is_finish, is_done, same_dev}
+use Rattle.irq_model.specs.Kinds.{is_wake, wakes, wakes_by_call, is_thread_begin, is_thread_return, is_thread_call, is_finish, is_done}
 use Rattle.irq_model.specs.Lines.{run_script}
 use Rattle.irq_model.specs.RunBounds.{weight_of, script_weight}
 use Rattle.irq_model.specs.Legal.{IsLegalPast}
@@ -26,7 +24,7 @@ use Rattle.irq_storms.proofs.Counting.{count_more, total_at, total_ext, totals_b
 use Rattle.irq_storms.proofs.CallCosts.{step_cost, wake_cost, thread_cost, thread_call}
 use Rattle.irq_storms.proofs.ThreadCounts.{dev_key, call_key, begins_of, returns_of, finishes_of, dones_of}
 use Rattle.irq_storms.proofs.ThreadRuns.{thread_paid}
-use Rattle.irq_storms.proofs.Paying.{sum_over, sum_alone}
+use Rattle.irq_storms.proofs.Paying.{sum_over}
 
 -- a run of d's thread: it begins, returns, finishes and is done, and makes its calls
 abbrev pub thread_weight : LineDef → DevNo → ℕ

@@ -1,9 +1,8 @@
 -- The weight of a round, in the weights of its handlers' runs; and what a driver's call weighs.
-use Rattle.std.proofs.Common.{◌≡◌, ℕ, ◌+◌, ◌*◌, ◌≤◌, ◌==◌, Bool, true, false, not, ◌||◌, ◌&&◌, cond, List, [], ◌∷◌, All, refl, sym, ap, ◌∙◌, subst, arith}
-use Rattle.std.proofs.Math.Nat.{mul-add, mul-one}
+use Rattle.std.proofs.Common.{◌≡◌, ℕ, ◌+◌, ◌*◌, ◌≤◌, ◌==◌, Bool, true, false, not, ◌||◌, ◌&&◌, cond, List, [], ◌∷◌, All, refl, ap, ◌∙◌, arith}
+use Rattle.std.proofs.Math.Nat.{mul-add}
 use Rattle.std.proofs.lemmas.List.Elements.{All-head, All-tail}
-use Rattle.std.specs.List.{list_any, sum_by}
-use Rattle.std.proofs.lemmas.Bool.{or_parts}
+use Rattle.std.specs.List.{list_any}
 use Rattle.irq_base.specs.declared.numbers.DevNo.{DevNo}
 use Rattle.irq_base.specs.declared.numbers.DriverNo.{DriverNo}
 use Rattle.irq_base.specs.declared.calls.Call.{Call}
@@ -14,9 +13,9 @@ use Rattle.irq_base.specs.declared.devices.Part.TheVariants as parts
 use Rattle.irq_base.specs.declared.lines.LineDef.{LineDef}
 use Rattle.irq_model.specs.Places.{count_of}
 use Rattle.irq_model.specs.Kinds.{same_dev}
-use Rattle.irq_model.specs.Lines.{is_device, has_device, same_part, script_in, run_script}
+use Rattle.irq_model.specs.Lines.{is_device, same_part, script_in, run_script}
 use Rattle.irq_model.specs.Bounds.{is_ask_call, ask_calls, other_calls}
-use Rattle.irq_model.specs.RunBounds.{weight_of, script_weight, device_weight, wake_weight, round_weight}
+use Rattle.irq_model.specs.RunBounds.{weight_of, device_weight, wake_weight, round_weight}
 use Rattle.irq_model.specs.Valid.{IsValid, HasDistinctDevices}
 use Rattle.irq_model.specs.ValidRuns.{HasValidRuns, names_own_device}
 use Rattle.irq_steps.proofs.Same.{dev_from_same}
@@ -25,7 +24,6 @@ use Rattle.irq_storms.specs.Tests.{total}
 use Rattle.irq_storms.proofs.Counting.{count_more, total_at, total_ext, total_sum as total_parts, totals_by_key}
 use Rattle.irq_storms.proofs.CallCosts.{call_weight, woken_weight, driver_weight}
 use Rattle.irq_storms.proofs.DeviceSums.{number, present, absent}
-use Rattle.irq_storms.proofs.HandlerRuns.{script_cost}
 use Rattle.irq_storms.proofs.LongBound.{handler_weight}
 use Rattle.irq_storms.proofs.WakeCosts.{thread_weight, total_sum}
 
