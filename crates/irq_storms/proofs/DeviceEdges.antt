@@ -161,7 +161,8 @@ module _ (def : LineDef) (runs : HasValidRuns def) where
   at_device k e past legal = let n = no_weight (k == dev_key e) in omega (arith, n)
 
   both_arms : (k : ℕ) (past : List Entry) → IsLegalPast def past
-      → total_at dev_key run_arms k past ≤ sum_over (λ e past. handler_arms (record { 0 = k }) e) past + sum_over (λ e past. thread_arms (record { 0 = k }) e) past
+      → total_at dev_key run_arms k past ≤ sum_over (λ e past. handler_arms (record { 0 = k }) e) past + sum_over
+          (λ e past. thread_arms (record { 0 = k }) e) past
   both_arms k past legal =
       let a = sum_alone (λ e. cond (k == dev_key e) (run_arms e) 0) past in
       let s = sum_below def (λ e past. cond (k == dev_key e) (run_arms e) 0)
@@ -215,7 +216,8 @@ module _ (def : LineDef) (runs : HasValidRuns def) where
       less : (b m w : ℕ) → b + m ≤ w → b ≤ w
       less b m w h = omega (arith, h)
 
-      by_wakes : (b : Bool) → list_any (wakes_by_handler d) def.runs ≡ b → sum_over (λ e past. thread_arms d e) past ≤ arms_of def parts.Thread d * told_wakes def d
+      by_wakes : (b : Bool) → list_any (wakes_by_handler d) def.runs ≡ b
+          → sum_over (λ e past. thread_arms d e) past ≤ arms_of def parts.Thread d * told_wakes def d
       by_wakes true woken =
           let none = any_none (run_script def d parts.Thread) (runs.told_arms d (ap is_told is) woken) in
           let a = any_arms def d past legal in
@@ -290,7 +292,8 @@ module _ (def : LineDef) (runs : HasValidRuns def) where
   arms_of_runs : (past : List Entry) → IsValid def → IsLegalPast def past → total run_arms past ≤ total (λ x. edges_by_arms def x.dev x.kind) def.devices
   arms_of_runs past valid legal =
       let all = totals_by_key dev_key run_arms past number (λ x. edges_of x.dev) def.devices each in
-      let same = total_kinds def.devices (λ x. edges_of x.dev) (λ x. edges_by_arms def x.dev x.kind) (edges_are def.devices (own_kinds def.devices valid.distinct)) in
+      let same = total_kinds def.devices (λ x. edges_of x.dev) (λ x. edges_by_arms def x.dev x.kind)
+          (edges_are def.devices (own_kinds def.devices valid.distinct)) in
       omega (arith, all, same)
     where
       each : (k : ℕ) → total_at dev_key run_arms k past ≤ total_at number (λ x. edges_of x.dev) k def.devices

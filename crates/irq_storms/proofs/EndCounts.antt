@@ -1,5 +1,6 @@
 -- The ends of a level line that were judged handled, deferred, or nothing.
-use Rattle.std.proofs.Common.{◌≡◌, ℕ, ◌+◌, ◌-◌, ◌*◌, ◌<◌, ◌≤◌, ◌==◌, Bool, true, false, not, ◌||◌, ◌&&◌, cond, nat_lt, List, [], ◌∷◌, refl, sym, ap, ◌∙◌, arith, le-ltb}
+use Rattle.std.proofs.Common.{◌≡◌, ℕ, ◌+◌, ◌-◌, ◌*◌, ◌<◌, ◌≤◌, ◌==◌, Bool, true, false, not, ◌||◌, ◌&&◌, cond, nat_lt}
+use Rattle.std.proofs.Common.{List, [], ◌∷◌, refl, sym, ap, ◌∙◌, arith, le-ltb}
 use Rattle.std.proofs.Math.Nat.{mul-add, mul-one, mul_comm, mul_assoc, mul-le-mul_left}
 use Rattle.std.proofs.lemmas.Bool.{false_from_ne_true}
 use Rattle.irq_base.specs.declared.numbers.CpuNo.{CpuNo}
@@ -298,7 +299,8 @@ moment_most w k u false l l' small = by_tests (l || nat_lt u k) (l' || nat_lt u 
 
 -- a request that is linked: s: it was shut, g: it starts the line
 linked_most : (w k u : ℕ) (s g l : Bool) → k < w → (s ≡ true → (k ≡ 0) × (u ≡ 0))
-    → cond (false || (not g && s)) (cond l w 0) (cond (l || nat_lt 0 0) (2 * w - 0) (w - 0)) ≤ cond s (cond l w 0) (cond (l || nat_lt u k) (2 * w - k) (w - k)) + w
+    → cond (false || (not g && s)) (cond l w 0) (cond (l || nat_lt 0 0) (2 * w - 0) (w - 0)) ≤ cond s (cond l w 0)
+        (cond (l || nat_lt u k) (2 * w - k) (w - k)) + w
 linked_most w k u true true true small empty = omega arith
 linked_most w k u true true false small empty = omega arith
 linked_most w k u true false true small empty = omega arith
@@ -310,7 +312,8 @@ linked_most w k u false false false small empty = omega arith
 
 -- any other entry: r: it renews
 other_most : (w k u : ℕ) (s g l r : Bool) → (s ≡ true → (k ≡ 0) × (u ≡ 0)) → (g && s) ≡ r
-    → cond (false || (not g && s)) (cond l w 0) (cond (l || nat_lt u k) (2 * w - k) (w - k)) ≤ cond s (cond l w 0) (cond (l || nat_lt u k) (2 * w - k) (w - k)) + cond r w 0
+    → cond (false || (not g && s)) (cond l w 0) (cond (l || nat_lt u k) (2 * w - k) (w - k)) ≤ cond s (cond l w 0)
+        (cond (l || nat_lt u k) (2 * w - k) (w - k)) + cond r w 0
 other_most w k u true true l true empty is =
     let e = empty refl in
     let none : nat_lt u k ≡ false = le-ltb u k (let z = e.0 in omega (arith, z)) in
@@ -355,12 +358,14 @@ room_more def (by.Cpu c (cpus.End again unmask note)) past valid legal level due
 room_more def (by.Driver s (drivers.Moment at)) past valid legal level due =
     let c = counts_of def past in
     let small = small_past def past (let w = valid.some_window in omega (arith, w)) in
-    let m = moment_most def.window c.irq_count c.irqs_unhandled (stands is_kill is_start past) (is_late (now past) c) (is_late (now (by.Driver s (drivers.Moment at) ∷ past)) c) small in
+    let m = moment_most def.window c.irq_count c.irqs_unhandled (stands is_kill is_start past) (is_late (now past) c)
+        (is_late (now (by.Driver s (drivers.Moment at) ∷ past)) c) small in
     omega (arith, m)
 room_more def (by.Driver s (drivers.Request flags links.Linked opened x)) past valid legal level due =
     let c = counts_of def past in
     let small = small_past def past (let w = valid.some_window in omega (arith, w)) in
-    let m = linked_most def.window c.irq_count c.irqs_unhandled (stands is_kill is_start past) (is_start (by.Driver s (drivers.Request flags links.Linked opened x)))
+    let m = linked_most def.window c.irq_count c.irqs_unhandled (stands is_kill is_start past)
+        (is_start (by.Driver s (drivers.Request flags links.Linked opened x)))
     (is_late (now past) c) small (empty_past def past valid legal level) in
     omega (arith, m)
 room_more def (by.Driver s (drivers.Request flags (links.Refused error) opened x)) past valid legal level due =

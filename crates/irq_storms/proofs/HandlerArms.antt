@@ -1,6 +1,7 @@
 -- The edges that handlers make as they turn a device's interrupt on: of direct devices alone, and in
 -- runs that met something unserved.
-use Rattle.std.proofs.Common.{◌≡◌, ℕ, ◌+◌, ◌-◌, ◌*◌, ◌≤◌, Bool, true, false, not, ◌||◌, ◌&&◌, cond, nat_lt, Option, Some, None, List, [], ◌∷◌, refl, sym, ap, ◌∙◌, subst, arith}
+use Rattle.std.proofs.Common.{◌≡◌, ℕ, ◌+◌, ◌-◌, ◌*◌, ◌≤◌, Bool, true, false, not, ◌||◌, ◌&&◌, cond, nat_lt, Option}
+use Rattle.std.proofs.Common.{Some, None, List, [], ◌∷◌, refl, sym, ap, ◌∙◌, subst, arith}
 use Rattle.std.proofs.Math.Nat.{mul-add, mul-one, mul-le-mul_left}
 use Rattle.std.proofs.lemmas.Bool.{and_parts}
 use Rattle.irq_base.specs.declared.numbers.CpuNo.{CpuNo}
@@ -79,9 +80,11 @@ arms_own def c edge x d past runs same u =
     let own : u.dev ≡ d = dev_from_same u.dev x parts_are.0 ∙ sym (dev_from_same d x same) in
     let kind : kind_of def u.dev ≡ kinds.Direct = direct_kind (kind_of def u.dev) parts_are.1 in
     let makes : makes_calls def parts.Primary u.dev past ≡ true =
-    some_due (makes_calls def parts.Primary u.dev past) (due_of (run_script def u.dev parts.Primary) (entries_of_run parts.Primary u.dev past)) u.due u.is_due in
+    some_due (makes_calls def parts.Primary u.dev past)
+        (due_of (run_script def u.dev parts.Primary) (entries_of_run parts.Primary u.dev past)) u.due u.is_due in
     let known : is_recognised (answer_of kinds.Direct parts.Primary (met_by def parts.Primary u.dev past) (told_of def parts.Primary u.dev past)) ≡ true =
-    ap (λ (k : Kind). is_recognised (answer_of k parts.Primary (met_by def parts.Primary u.dev past) (told_of def parts.Primary u.dev past))) (sym kind) ∙ makes in
+    ap (λ (k : Kind). is_recognised (answer_of k parts.Primary (met_by def parts.Primary u.dev past)
+        (told_of def parts.Primary u.dev past))) (sym kind) ∙ makes in
     subst (λ (y : DevNo). Arms def past y) own
     (record { is_at_work = u.is_at_work; direct = kind; met = recognises (met_by def parts.Primary u.dev past) (told_of def parts.Primary u.dev past) known })
 
@@ -172,16 +175,19 @@ module _ (def : LineDef) (runs : HasValidRuns def) (d : DevNo) where
   at_call c call past legal = by_test (edge_arm d call) refl
     where
       by_test : (b : Bool) → edge_arm d call ≡ b → Paid (by.CpuCall c call) past
-      by_test false is = let s = same_rest (active past) (made past) (made (by.CpuCall c call ∷ past)) (let z : arm_cost d call ≡ 0 = ap one_if is in omega (arith, z)) in
+      by_test false is = let s = same_rest (active past) (made past) (made (by.CpuCall c call ∷ past))
+          (let z : arm_cost d call ≡ 0 = ap one_if is in omega (arith, z)) in
           let z : arm_cost d call ≡ 0 = ap one_if is in omega (arith, s, z)
       by_test true is =
           let u = who_arms def c call d past runs is (handler_call_due def c call past legal.0) in
           let most : made (by.CpuCall c call ∷ past) ≤ all =
           made_most (handler_arms d) (arm_weight d) (handler_made d) (handlers_alone d) def (by.CpuCall c call ∷ past) legal d u.is_at_work in
           let called_now : is_called past d ≡ true = ((runs_past def past legal.1).working d u.is_at_work).0 in
-          let was : rest past ≡ all - made past = ap (λ (b : Bool). cond b (all - made past) 0) (both (is_called past d) (nat_lt 0 (met_by def parts.Primary d past)) called_now u.met) in
+          let was : rest past ≡ all - made past = ap (λ (b : Bool). cond b (all - made past) 0)
+              (both (is_called past d) (nat_lt 0 (met_by def parts.Primary d past)) called_now u.met) in
           let is_now : rest (by.CpuCall c call ∷ past) ≡ all - made (by.CpuCall c call ∷ past) =
-          ap (λ (b : Bool). cond b (all - made (by.CpuCall c call ∷ past)) 0) (both (is_called past d) (nat_lt 0 (met_by def parts.Primary d past)) called_now u.met) in
+          ap (λ (b : Bool). cond b (all - made (by.CpuCall c call ∷ past)) 0)
+              (both (is_called past d) (nat_lt 0 (met_by def parts.Primary d past)) called_now u.met) in
           omega (arith, most, was, is_now)
         where
           both : (a b : Bool) → a ≡ true → b ≡ true → (a && b) ≡ true

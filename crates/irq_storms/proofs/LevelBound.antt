@@ -163,7 +163,8 @@ spread f m w =
     omega (arith, one, a, b, c, d)
 
 level_product : (def : LineDef) → is_level_line def ≡ true → run_level_bound def ≡ round_weight def * phases def * (2 * def.window + 5) * 1
-level_product def level = ap (λ (b : Bool). round_weight def * phases def * (2 * def.window + 5) * cond (b && is_eoi_flow def.flow) 2 1) (not_edge (is_edge_line def) level)
+level_product def level = ap (λ (b : Bool). round_weight def * phases def * (2 * def.window + 5) * cond
+    (b && is_eoi_flow def.flow) 2 1) (not_edge (is_edge_line def) level)
   where
     not_edge : (b : Bool) → not b ≡ true → b ≡ false
     not_edge true h = cc

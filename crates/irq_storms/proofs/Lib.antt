@@ -34,3 +34,4 @@ pub mod LevelBound
 pub mod OwedEnables
 pub mod KilledStarts
 pub mod PlainBounds
+pub mod StormRows

@@ -133,6 +133,7 @@ module _ (def : LineDef) where
       let r = runs_paid def h past legal in
       let s = sum_below def (λ e past. run_pays def h e) (λ e past. begin_pays def handler_weight e) (λ e past legal. pays_same e) past legal in
       let b = begins_paid def handler_weight past valid legal in
-      let d = of_drivers (driver_cost h) (driver_weight h) (driver_call h) (drivers_cost_alone h) def past (λ q. follows_past def past legal (actors.Driver q)) in
+      let d = of_drivers (driver_cost h) (driver_weight h) (driver_call h) (drivers_cost_alone h) def past
+          (λ q. follows_past def past legal (actors.Driver q)) in
       let e = rounds_past def past legal in
       omega (arith, n, a, t, r, s, b, d, e)

@@ -180,7 +180,8 @@ own_entries parts.Thread d q past h = any_kept q _ _ (any_back q _ h)
 abbrev pub Made : LineDef → Part → DevNo → List Entry → Type 0
 Made def p d past = MakesAllOf (calls_of_run def p d past) (entries_of_run p d past)
 
-pub run_made : (def : LineDef) (p : Part) (d : DevNo) (e : Entry) (past : List Entry) → IsLegalPast def (e ∷ past) → returns_run p d e ≡ true → Made def p d past
+pub run_made : (def : LineDef) (p : Part) (d : DevNo) (e : Entry) (past : List Entry) → IsLegalPast def (e ∷ past)
+    → returns_run p d e ≡ true → Made def p d past
 run_made def p d e past legal h =
     let turned : reverse (reverse (e ∷ past)) ≡ e ∷ past = reverse-reverse (e ∷ past) in
     let laws = follows_run_scripts def (reverse (e ∷ past)) (subst (λ (l : List Entry). IsLegalPast def l) (sym turned) legal) in

@@ -1,6 +1,7 @@
 -- What the threads that enable their line still owe: the disables of their handlers, and what drivers
 -- woke, bound it.
-use Rattle.std.proofs.Common.{◌≡◌, ◌⊎◌, inl, inr, ℕ, ◌+◌, ◌≤◌, Bool, true, false, not, ◌||◌, ◌&&◌, cond, List, [], ◌∷◌, ◌++◌, filter, refl, sym, ap, ◌∙◌, subst, arith}
+use Rattle.std.proofs.Common.{◌≡◌, ◌⊎◌, inl, inr, ℕ, ◌+◌, ◌≤◌, Bool, true, false, not, ◌||◌, ◌&&◌, cond, List, [], ◌∷◌}
+use Rattle.std.proofs.Common.{◌++◌, filter, refl, sym, ap, ◌∙◌, subst, arith}
 use Rattle.std.proofs.lemmas.Bool.{and_parts, or_parts, or_cases, false_from_ne_true}
 use Rattle.std.specs.List.{list_any}
 use Rattle.irq_base.specs.declared.numbers.CpuNo.{CpuNo}
@@ -193,7 +194,8 @@ none_any : (p : Entry → Bool) (es : List Entry) → total (λ e. one_if (p e))
 none_any p [] h = refl
 none_any p (e ∷ es) h = by_test (p e) h (none_any p es)
   where
-    by_test : (b : Bool) → one_if b + total (λ e. one_if (p e)) es ≡ 0 → (total (λ e. one_if (p e)) es ≡ 0 → list_any p es ≡ false) → (b || list_any p es) ≡ false
+    by_test : (b : Bool) → one_if b + total (λ e. one_if (p e)) es ≡ 0
+        → (total (λ e. one_if (p e)) es ≡ 0 → list_any p es ≡ false) → (b || list_any p es) ≡ false
     by_test true h deeper = absurd (omega (arith, h))
     by_test false h deeper = deeper (omega (arith, h))
 
@@ -310,10 +312,12 @@ module _ (def : LineDef) (rules : EnablesOnlyItsOwn def) where
   waking c x answer n past legal wakes own =
       let u = return_due def c x answer n past legal.0 in
       let makes : makes_calls def parts.Primary x past ≡ true = wake_recognised _ (sym (ap is_wake u.answer_is) ∙ wakes) in
-      let script : calls_of_run def parts.Primary x past ≡ run_script def x parts.Primary = ap (λ (m : Bool). cond m (run_script def x parts.Primary) []) makes in
+      let script : calls_of_run def parts.Primary x past
+          ≡ run_script def x parts.Primary = ap (λ (m : Bool). cond m (run_script def x parts.Primary) []) makes in
       let made = subst (λ (cs : List Call). MakesAllOf cs (entries_of_run parts.Primary x past)) script
       (run_made def parts.Primary x (by.Cpu c (cpus.Return answer x n)) past legal (same_self x)) in
-      let some = script_disables (run_script def x parts.Primary) (entries_of_run parts.Primary x past) (some_count (run_script def x parts.Primary) (rules.threads x own).2) made in
+      let some = script_disables (run_script def x parts.Primary) (entries_of_run parts.Primary x past)
+          (some_count (run_script def x parts.Primary) (rules.threads x own).2) made in
       both (is_called past x) (list_any is_cpu_disable (since is_begin_or_return past)) ((runs_past def past legal.1).working x u.is_at_work).0
       (cpu_kept (since is_begin_or_return past) (any_back is_disable (filter is_cpu_call (since is_begin_or_return past)) some))
     where
@@ -398,7 +402,8 @@ yields _ = false
 begin_now : (d x : DevNo) (past : List Entry) → to_enable d (by.Thread x threads.Begin ∷ past) ≡ (same_dev d x || to_enable d past)
 begin_now d x past = by_test (same_dev d x)
   where
-    by_test : (s : Bool) → (((s || (true && is_running past d)) && not (list_any (is_thread_return d) (cond s [] (by.Thread x threads.Begin ∷ since (is_thread_begin d) past))))
+    by_test : (s : Bool) → (((s || (true && is_running past d)) && not
+        (list_any (is_thread_return d) (cond s [] (by.Thread x threads.Begin ∷ since (is_thread_begin d) past))))
         && not (list_any (is_own_enable d) (cond s [] (by.Thread x threads.Begin ∷ since (is_thread_begin d) past))))
         ≡ (s || to_enable d past)
     by_test true = refl
@@ -408,7 +413,8 @@ begin_now d x past = by_test (same_dev d x)
 enable_before : (d : DevNo) (e : Entry) (past : List Entry) → is_thread_begin d e ≡ false → to_enable d (e ∷ past) ≡ true → to_enable d past ≡ true
 enable_before d e past other h =
     let p = and_parts (is_in_run (e ∷ past) d) (not (list_any (is_own_enable d) (since (is_thread_begin d) (e ∷ past)))) h in
-    let any : list_any (is_own_enable d) (since (is_thread_begin d) (e ∷ past)) ≡ (is_own_enable d e || list_any (is_own_enable d) (since (is_thread_begin d) past)) =
+    let any : list_any (is_own_enable d) (since (is_thread_begin d) (e ∷ past))
+        ≡ (is_own_enable d e || list_any (is_own_enable d) (since (is_thread_begin d) past)) =
     ap (λ (b : Bool). list_any (is_own_enable d) (cond b [] (e ∷ since (is_thread_begin d) past))) other in
     both (is_in_run past d) (is_own_enable d e) (list_any (is_own_enable d) (since (is_thread_begin d) past)) (in_run_before d e past other p.0)
     (sym (ap not any) ∙ p.1)
@@ -458,12 +464,15 @@ module _ (def : LineDef) (valid : IsValid def) (runs : HasValidRuns def) (rules 
   handler_call c call past legal d = by_own (owns def d) refl
     where
       by_own : (b : Bool) → owns def d ≡ b
-          → sum_if b (is_called past d && (disables call || list_any is_cpu_disable (since is_begin_or_return past))) (wakes_by_call d call || (true && is_woken past d)) (to_enable d past)
+          → sum_if b (is_called past d && (disables call || list_any is_cpu_disable (since is_begin_or_return past)))
+              (wakes_by_call d call || (true && is_woken past d)) (to_enable d past)
           ≤ sum_if b (past_disable d past) (is_woken past d) (to_enable d past) + one_if (is_called past d && disables call)
       by_own false is = omega arith
       by_own true is =
           let w = handler_wakes_none def d c call past (rules.wakes d is) legal.0 in
-          subst (λ (v : Bool). sum_if true (is_called past d && (disables call || list_any is_cpu_disable (since is_begin_or_return past))) (v || (true && is_woken past d)) (to_enable d past)
+          subst (λ (v : Bool). sum_if true (is_called past d &&
+              (disables call || list_any is_cpu_disable (since is_begin_or_return past)))
+              (v || (true && is_woken past d)) (to_enable d past)
           ≤ sum_if true (past_disable d past) (is_woken past d) (to_enable d past) + one_if (is_called past d && disables call)) (sym w)
           (at_call true (is_called past d) (list_any is_cpu_disable (since is_begin_or_return past)) (is_woken past d) (to_enable d past) (disables call))
 
@@ -493,7 +502,9 @@ module _ (def : LineDef) (valid : IsValid def) (runs : HasValidRuns def) (rules 
           let u = handler_call_due def c call past legal.0 in
           devices_more (λ d. o d (by.CpuCall c call ∷ past)) (λ d. o d past) u.dev def.devices valid.distinct
           (let h = handler_call c call past legal u.dev in let z = one (is_called past u.dev && disables call) in omega (arith, h, z))
-          (λ d other. let h = handler_call c call past legal d in let z : one_if (is_called past d && disables call) ≡ 0 = ap (λ (k : Bool). one_if (k && disables call)) (none d other) in
+          (λ d other. let h = handler_call c call past legal d in
+              let z : one_if (is_called past d && disables call)
+              ≡ 0 = ap (λ (k : Bool). one_if (k && disables call)) (none d other) in
           omega (arith, h, z))
         where
           one : (b : Bool) → one_if b ≤ 1
@@ -550,8 +561,11 @@ module _ (def : LineDef) (valid : IsValid def) (runs : HasValidRuns def) (rules 
       here is =
           let g = enabling def rules x call past legal is in
           let s = thread_other x call past legal x in
-          let m = sum_gt (owns def x) (past_disable x past) (is_woken past x) (to_enable x past) (past_disable x past) (is_woken past x) (to_enable x (by.ThreadCall x call ∷ past)) g.own
-          (let a : one_if (to_enable x past) ≡ 1 = ap one_if g.to_come in let b : one_if (to_enable x (by.ThreadCall x call ∷ past)) ≡ 0 = ap one_if (now is) in omega (arith, a, b)) in
+          let m = sum_gt (owns def x) (past_disable x past) (is_woken past x) (to_enable x past) (past_disable x past)
+              (is_woken past x) (to_enable x (by.ThreadCall x call ∷ past)) g.own
+          (let a : one_if (to_enable x past) ≡ 1 = ap one_if g.to_come in
+              let b : one_if (to_enable x (by.ThreadCall x call ∷ past)) ≡ 0 = ap one_if (now is) in
+              omega (arith, a, b)) in
           omega (arith, s, m)
 
       by_test : (b : Bool) → enables call ≡ b → OwedMore (by.ThreadCall x call) past
@@ -571,7 +585,8 @@ module _ (def : LineDef) (valid : IsValid def) (runs : HasValidRuns def) (rules 
   wakes_one : (r : DriverNo) (x : DevNo) (past : List Entry) → OwedMore (by.DriverCall r (called.Wake true x)) past
   wakes_one r x past =
       let e = by.DriverCall r (called.Wake true x) in
-      let m = devices_more (λ d. o d (e ∷ past)) (λ d. o d past) x def.devices valid.distinct (one_woken (owns def x) (past_disable x past) (same_dev x x) (is_woken past x) (to_enable x past))
+      let m = devices_more (λ d. o d (e ∷ past)) (λ d. o d past) x def.devices valid.distinct
+          (one_woken (owns def x) (past_disable x past) (same_dev x x) (is_woken past x) (to_enable x past))
       (λ d other. none_woken (owns def d) (past_disable d past) (same_dev d x) (is_woken past d) (to_enable d past) other) in
       omega (arith, m)
     where
@@ -592,11 +607,14 @@ module _ (def : LineDef) (valid : IsValid def) (runs : HasValidRuns def) (rules 
   owed_more (by.Cpu c (cpus.Return answer x n)) past legal = returns c x answer n past legal
   owed_more (by.CpuCall c call) past legal = handler_calls c call past legal
   owed_more (by.Thread x threads.Begin) past legal = thread_begins x past legal.0
-  owed_more (by.Thread x (threads.Return handled n)) past legal = let m = fewer (by.Thread x (threads.Return handled n)) past (λ d. refl) (λ d. refl) in omega (arith, m)
-  owed_more (by.Thread x (threads.Finish kept unmask)) past legal = let m = fewer (by.Thread x (threads.Finish kept unmask)) past (λ d. refl) (λ d. refl) in omega (arith, m)
+  owed_more (by.Thread x (threads.Return handled n)) past legal = let m
+      = fewer (by.Thread x (threads.Return handled n)) past (λ d. refl) (λ d. refl) in omega (arith, m)
+  owed_more (by.Thread x (threads.Finish kept unmask)) past legal = let m
+      = fewer (by.Thread x (threads.Finish kept unmask)) past (λ d. refl) (λ d. refl) in omega (arith, m)
   owed_more (by.Thread x threads.Done) past legal = let m = fewer (by.Thread x threads.Done) past (λ d. refl) (λ d. refl) in omega (arith, m)
   owed_more (by.ThreadCall x call) past legal = thread_calls x call past legal
-  owed_more (by.Driver r (drivers.Request flags answer opened x)) past legal = let l = one (is_lowering (by.Driver r (drivers.Request flags answer opened x))) in omega (arith, l)
+  owed_more (by.Driver r (drivers.Request flags answer opened x)) past legal = let l
+      = one (is_lowering (by.Driver r (drivers.Request flags answer opened x))) in omega (arith, l)
     where
       one : (b : Bool) → one_if b ≤ 1
       one true = omega arith

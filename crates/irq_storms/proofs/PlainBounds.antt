@@ -16,7 +16,8 @@ use Rattle.irq_model.specs.Places.{count_of}
 use Rattle.irq_model.specs.Lines.{is_edge_line, is_eoi_flow, script_in, run_script}
 use Rattle.irq_model.specs.Bounds.{ask_calls, other_calls, edge_bound, level_bound, bound}
 use Rattle.irq_model.specs.RunLaws.{is_enabling}
-use Rattle.irq_model.specs.RunBounds.{weight_of, script_weight, device_weight, wake_weight, round_weight, arms_this, asks_of, arms_of, told_wakes, edges_by_arms, device_edges}
+use Rattle.irq_model.specs.RunBounds.{weight_of, script_weight, device_weight, wake_weight, round_weight, arms_this}
+use Rattle.irq_model.specs.RunBounds.{asks_of, arms_of, told_wakes, edges_by_arms, device_edges}
 use Rattle.irq_model.specs.RunBounds.{run_edge_bound, is_told_handled, told_handled, run_level_bound}
 use Rattle.irq_storms.specs.Lengths.{history_bound, IsBounded, HasPlainRuns}
 use Rattle.irq_storms.specs.Tests.{total}
@@ -82,7 +83,8 @@ plain_edge def plain =
 
 plain_level : (def : LineDef) → HasPlainRuns def → is_edge_line def ≡ false → run_level_bound def ≡ level_bound def
 plain_level def plain level =
-    ap (λ (b : Bool). round_weight def * (ask_calls def + other_calls def + told_handled def + 1) * (2 * def.window + 5) * cond (b && is_eoi_flow def.flow) 2 1) level
+    ap (λ (b : Bool). round_weight def * (ask_calls def + other_calls def + told_handled def + 1) * (2 * def.window + 5)
+        * cond (b && is_eoi_flow def.flow) 2 1) level
     ∙ mul-one (round_weight def * (ask_calls def + other_calls def + told_handled def + 1) * (2 * def.window + 5))
     ∙ ap (λ (n : ℕ). n * (ask_calls def + other_calls def + told_handled def + 1) * (2 * def.window + 5)) (plain_round def plain)
     ∙ ap (λ (n : ℕ). (6 * length def.devices + 8) * n * (2 * def.window + 5)) (let t = plain_told def plain in omega (arith, t))

@@ -89,7 +89,8 @@ wakes_below def valid =
 handler_parts : (def : LineDef) (x : DeviceDef) → handler_weight def x.dev ≡ device_weight def x + wakes_in def x.dev
 handler_parts def x =
     let parts_are : total (call_weight (thread_weight def)) (run_script def x.dev parts.Primary)
-    ≡ total weight_of (run_script def x.dev parts.Primary) + wakes_in def x.dev = total_parts _ weight_of (woken_weight (thread_weight def)) (run_script def x.dev parts.Primary) (λ c. refl) in
+    ≡ total weight_of (run_script def x.dev parts.Primary) + wakes_in def x.dev
+        = total_parts _ weight_of (woken_weight (thread_weight def)) (run_script def x.dev parts.Primary) (λ c. refl) in
     let s = total_sum weight_of (run_script def x.dev parts.Primary) in
     omega (arith, parts_are, s)
 
@@ -123,7 +124,8 @@ is_arm_call _ = false
 abbrev CallPays : LineDef → ℕ → ℕ → Call → Type 0
 CallPays def n f c = n * one_if (is_arm_call c) + driver_weight (thread_weight def) c ≤ one_if (is_ask_call c) + f * one_if (not (is_ask_call c))
 
-a_call : (def : LineDef) (f : ℕ) (c : Call) → HasValidRuns def → names_own_device def c ≡ true → 8 + all_handlers def ≤ f → CallPays def (3 + all_handlers def) f c
+a_call : (def : LineDef) (f : ℕ) (c : Call) → HasValidRuns def → names_own_device def c ≡ true
+    → 8 + all_handlers def ≤ f → CallPays def (3 + all_handlers def) f c
 a_call def f (calls.Ask d) runs named most = omega arith
 a_call def f (calls.Wake d) runs named most =
     let one = one_of_all (handler_weight def) d def.devices named in
@@ -132,7 +134,8 @@ a_call def f (calls.Arm d) runs named most = omega (arith, most)
 a_call def f c runs named most = omega (arith, most)
 
 -- the calls of drivers, and the edges of their arms
-all_calls : (def : LineDef) (f : ℕ) → HasValidRuns def → 8 + all_handlers def ≤ f → (cs : List (DriverNo × Call)) → All (λ c. names_own_device def c.1 ≡ true) cs
+all_calls : (def : LineDef) (f : ℕ) → HasValidRuns def → 8 + all_handlers def ≤ f → (cs : List (DriverNo × Call))
+    → All (λ c. names_own_device def c.1 ≡ true) cs
     → (3 + all_handlers def) * count_of (λ c. is_arm_call c.1) cs + total (λ c. driver_weight (thread_weight def) c.1) cs
     ≤ count_of (λ c. is_ask_call c.1) cs + f * count_of (λ c. not (is_ask_call c.1)) cs
 all_calls def f runs most [] named = omega arith

@@ -157,7 +157,8 @@ handled_more window count u l small = by_tests (l || nat_lt u (count + 1)) (l ||
     by_tests false false = omega (arith, small)
 
 handled_close : (window count u : ℕ) (k l : Bool) → count < window
-    → cond k (cond l window 0) (cond (l || nat_lt 0 0) (2 * window - 0) (window - 0)) ≤ window + cond (l || nat_lt u count) (2 * window - count) (window - count)
+    → cond k (cond l window 0) (cond (l || nat_lt 0 0) (2 * window - 0) (window - 0)) ≤ window + cond
+        (l || nat_lt u count) (2 * window - count) (window - count)
 handled_close window count u true true small = omega arith
 handled_close window count u true false small = omega arith
 handled_close window count u false true small = omega (arith, small)
@@ -168,7 +169,8 @@ handled_room : (window limit at : ℕ) (c : Counts) → c.irq_count < window
 handled_room window limit at c small =
     by_count (λ n. room_after window at n ≤ window + allowance window at c) window limit c (λ z. omega arith)
     (λ z more. handled_more window c.irq_count c.irqs_unhandled (is_late at c) small)
-    (λ z over. handled_close window c.irq_count c.irqs_unhandled (is_killed (cond (nat_lt limit c.irqs_unhandled) notes.Killed notes.Counted)) (is_late at c) small)
+    (λ z over. handled_close window c.irq_count c.irqs_unhandled
+        (is_killed (cond (nat_lt limit c.irqs_unhandled) notes.Killed notes.Counted)) (is_late at c) small)
 
 -- an end that is judged nothing isn't late any more
 same_unhandled : (window limit : ℕ) (c : Counts) → (counted window limit c).counts.last_unhandled ≡ c.last_unhandled
@@ -181,7 +183,8 @@ nothing_room window limit at c lim small =
     let late : is_late at (judged window limit at false c).counts ≡ false =
     ap (λ (l : ℕ). nat_lt 100 (at - l)) (same_unhandled window limit (unhandled at c)) ∙ no_time at in
     let same : room_after window at (judged window limit at false c) ≡ allowed_after window at (judged window limit at false c) =
-    ap (λ (l : Bool). cond (is_killed (judged window limit at false c).note) (cond l window 0) (allowance window at (judged window limit at false c).counts)) late in
+    ap (λ (l : Bool). cond (is_killed (judged window limit at false c).note) (cond l window 0)
+        (allowance window at (judged window limit at false c).counts)) late in
     omega (arith, n, same)
 
 -- ---- an end
@@ -277,6 +280,7 @@ end_facts window limit at w h c = by_tests w h c.deferred (c.threads_handled == 
           allows = λ lim small. omega arith;
           empties = λ kills. cc;
         }
-    by_tests true true d s id is = judged_handled window limit at true true c (record c { deferred = false }) refl refl refl (omega arith) (mark_most c.deferred)
+    by_tests true true d s id is = judged_handled window limit at true true c (record c { deferred = false }) refl refl
+        refl (omega arith) (mark_most c.deferred)
     by_tests false true d s id is = judged_handled window limit at false true c c refl refl refl (omega arith) (omega arith)
     by_tests false false d s id is = judged_nothing window limit at false false c refl

@@ -60,7 +60,8 @@ pub record AsksAreCounted (def : LineDef) (h : List Entry) : Type 0 where
       def.devices ≡ count_of is_any_ask (reverse h)
   pub all_runs : count_of is_any_serving (reverse h) ≤ count_of is_any_ask (reverse h)
 
--- the runs that answer Handled are counted: each has an ask of its own that it met, or a word of the
+-- the runs that answer Handled are counted: each has an ask of its own that it met, or a word of
+-- the
 -- board's
 abbrev pub HandledAreCounted : LineDef → List Entry → Type 0
 HandledAreCounted def h = count_of answers_handled (reverse h) ≤ ask_calls def + told_handled def
