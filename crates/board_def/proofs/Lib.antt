@@ -7,7 +7,7 @@ pub mod NameBack
 mod Owners
 pub mod Paths
 pub mod Rising
-mod RunRules
+pub mod RunRules
 mod Tabled
 pub mod Threads
 pub mod Unnaming

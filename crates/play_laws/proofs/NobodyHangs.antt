@@ -51,7 +51,7 @@ script_waits (c ∷ cs) d part h = by_test (same_dev d c.0 && same_part part c.1
     by_test true is rest = rw is (ap not h.0, rest)
     by_test false is rest = rw is rest
 
-run_waits_not : (def : LineDef) (past : List Entry) (part : Part) (d : DevNo) (c : Call) (n : ℕ) → NeverWaits def
+pub run_waits_not : (def : LineDef) (past : List Entry) (part : Part) (d : DevNo) (c : Call) (n : ℕ) → NeverWaits def
     → due_in_run def part d past ≡ Some (c, n) → not (may_wait c) ≡ true
 run_waits_not def past part d c n waits h = by_test (makes_calls def part d past) refl
   where

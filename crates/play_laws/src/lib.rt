@@ -3,12 +3,17 @@
 //! lemma.
 #![tactic(auto)]
 
-ghost use Rattle.std.specs.Prelude.{◌≡◌, None, List, reverse};
+ghost use Rattle.std.specs.Prelude.{◌≡◌, false, ◌||◌, IsSome, Some, None, List, reverse};
 ghost use Rattle.irq_base.specs.declared.lines.LineDef.{LineDef};
+ghost use Rattle.irq_base.specs.declared.numbers.CpuNo.{CpuNo};
+ghost use Rattle.irq_base.specs.declared.numbers.DevNo.{DevNo};
 ghost use Rattle.irq_base.specs.declared.entries.Actor.{Actor};
+ghost use Rattle.irq_base.specs.declared.entries.Actor.TheVariants as actors;
 ghost use Rattle.irq_base.specs.declared.entries.Entry.{Entry};
 ghost use Rattle.irq_model.specs.Next.{next};
 ghost use Rattle.irq_model.specs.Legal.{IsLegal};
+ghost use Rattle.irq_model.specs.Rounds.{flow, has_flow};
+ghost use Rattle.irq_model.specs.Threads.{is_woken, is_running};
 ghost use Rattle.irq_model.specs.Valid.{IsValid};
 ghost use Rattle.irq_model.specs.ValidRuns.{HasValidRuns, NeverWaits};
 ghost use Rattle.irq_model.specs.Waits.{IsAtRest, IsHungPast};
@@ -44,4 +49,21 @@ pub fn unwaiting_rests()
         → ((a : Actor) → IsOneOf a (actors_of def) → next def h a ≡ None) → IsAtRest def h }
     ensures unhung { (def : LineDef) (h : List Entry) (a : Actor) → IsValid def
         → HasValidRuns def → NeverWaits def → IsLegal def h → IsHungPast def (reverse h) a → ⊥ }
+{}
+
+/// Where no run waits, the processor of the flow in progress always has a due entry.
+pub fn flow_goes_on()
+    ensures law { (def : LineDef) (h : List Entry) (c : CpuNo) → HasValidRuns def
+        → NeverWaits def → flow def (reverse h) ≡ Some c → IsSome (next def h (actors.Cpu c)) }
+{}
+
+/// Where no run waits: if after a legal history neither a processor nor a thread has a due entry, no
+/// flow is in progress, and no thread is woken or in a run.
+pub fn still_is_idle()
+    ensures no_flow { (def : LineDef) (h : List Entry) → HasValidRuns def → NeverWaits def
+        → ((c : CpuNo) → next def h (actors.Cpu c) ≡ None) → has_flow def (reverse h) ≡ false }
+    ensures no_thread { (def : LineDef) (h : List Entry) → IsValid def → HasValidRuns def
+        → NeverWaits def → IsLegal def h → has_flow def (reverse h) ≡ false
+        → ((d : DevNo) → next def h (actors.Thread d) ≡ None) → (d : DevNo)
+        → (is_woken (reverse h) d || is_running (reverse h) d) ≡ false }
 {}

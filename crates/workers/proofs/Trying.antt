@@ -10,6 +10,7 @@ use Rattle.irq_base.specs.declared.lines.LineDef.{LineDef}
 use Rattle.irq_base.specs.declared.numbers.CpuNo.{CpuNo}
 use Rattle.irq_model.specs.Legal.{IsLegal}
 use Rattle.irq_model.specs.Next.{next}
+use Rattle.irq_model.specs.ValidRuns.{HasValidRuns, NeverWaits}
 use Rattle.callbacks.specs.Heard.{Heard, one_run}
 use Rattle.callbacks.specs.Seen.{IsSaidFor, SaidSeen, answer_to}
 use Rattle.callbacks.proofs.Calls.{was_heard}
@@ -128,7 +129,8 @@ module _ {T E : Type 0} (seen_of : T → LineSeen) (may_want : Option Entry → 
     pub flow_not_yet : StepsSo (Ok stepped.NotYet) → (c : CpuNo)
         → who ≡ actors.Cpu c → IsInFlow line.def c old.knows → ⊥
     flow_not_yet s c same own =
-        moves_within line.def c s.line.entries old.knows.mine (subst (λ (d : LineDef). IsLegal d s.line.entries) s.def s.sound.legal)
+        moves_within line.def c s.line.entries old.knows.mine (subst HasValidRuns s.def s.sound.runs)
+        (subst NeverWaits s.def s.sound.waits) (subst (λ (d : LineDef). IsLegal d s.line.entries) s.def s.sound.legal)
         (sym w.mine ∙ (s.mine ∙ ap (λ (a : Actor). placed a s.line.entries) same)) own
         (ap (λ (a : Actor). next line.def s.line.entries a) (sym same) ∙ subst (λ (d : LineDef). next d s.line.entries who ≡ None) s.def s.answer.0)
 
