@@ -1,4 +1,4 @@
--- The ends of a level line that were judged handled, deferred, or nothing.
+-- The ends that were judged handled, deferred, or nothing.
 use Rattle.std.proofs.Common.{◌≡◌, ℕ, ◌+◌, ◌-◌, ◌*◌, ◌<◌, ◌≤◌, ◌==◌, Bool, true, false, not, ◌||◌, ◌&&◌, cond, nat_lt}
 use Rattle.std.proofs.Common.{List, [], ◌∷◌, refl, sym, ap, ◌∙◌, arith, le-ltb}
 use Rattle.std.proofs.Math.Nat.{mul-add, mul-one, mul_comm, mul_assoc, mul-le-mul_left}
@@ -14,10 +14,12 @@ use Rattle.irq_base.specs.declared.entries.TakeAnswer.TheVariants as takes
 use Rattle.irq_base.specs.declared.entries.LinkAnswer.TheVariants as links
 use Rattle.irq_base.specs.declared.entries.Note.{Note}
 use Rattle.irq_base.specs.declared.entries.Note.TheVariants as notes
-use Rattle.irq_model.specs.Places.{stands, count_of}
-use Rattle.irq_model.specs.Kinds.{is_handled, is_kill, is_start, is_linked_request}
-use Rattle.irq_model.specs.Lines.{is_level_line}
-use Rattle.irq_model.specs.Rounds.{flow, has_flow}
+use Rattle.std.proofs.Common.{is_some, Some}
+use Rattle.std.specs.List.{list_any}
+use Rattle.irq_model.specs.Places.{stands, since, last_of, count_of}
+use Rattle.irq_model.specs.Kinds.{is_handled, is_handle, returns_handled, is_kill, is_start, is_linked_request}
+use Rattle.irq_model.specs.Lines.{is_eoi_flow}
+use Rattle.irq_model.specs.Rounds.{closes, begins_round, cpu_of_handle, flow, has_flow}
 use Rattle.irq_model.specs.Spurious.{Counts, now, round_wakes, round_handles, noted_end, counts_of}
 use Rattle.irq_model.specs.Legal.{IsDue, IsLegalPast}
 use Rattle.irq_model.specs.Valid.{IsValid}
@@ -30,7 +32,7 @@ use Rattle.irq_storms.specs.Judged.{nothing_ends, deferred_ends, clearing_ends, 
 use Rattle.irq_storms.specs.Judged.{allowed}
 use Rattle.irq_storms.proofs.Counting.{mark_most, count_more}
 use Rattle.irq_storms.proofs.RunCounts.{flow_stays}
-use Rattle.irq_storms.proofs.KillCounts.{no_flow_after, shut_past}
+use Rattle.irq_storms.proofs.KillCounts.{shut_past}
 use Rattle.irq_storms.proofs.WindowRule.{is_killed, room_after, allowed_most, EndFacts, end_facts}
 
 -- ---- counts that look at what stands before
@@ -85,23 +87,36 @@ return_marks f f' r a t same = rw same (by_tests f a)
     by_tests true false = omega arith
     by_tests false a = omega arith
 
-handled_more : (def : LineDef) (e : Entry) (past : List Entry) → IsValid def → is_level_line def ≡ true → IsDue def e past → HandledMore def e past
-handled_more def (by.Cpu c (cpus.End again unmask note)) past valid level due =
+-- an end closes the flow, or begins a round
+end_marks : (def : LineDef) (c : CpuNo) (again unmask : Bool) (note : Note) (past : List Entry)
+    → one_if (has_flow def (by.Cpu c (cpus.End again unmask note) ∷ past) && round_handles def (by.Cpu c (cpus.End again unmask note) ∷ past)) ≡ 0
+end_marks def c false unmask note past = refl
+end_marks def c true unmask note past = by_flow (is_eoi_flow def.flow)
+  where
+    none : (a : Bool) → one_if (a && false) ≡ 0
+    none true = refl
+    none false = refl
+
+    by_flow : (b : Bool) → one_if (is_some (cpu_of_handle (cond (false || (false || (b && true)))
+        (Some (by.Cpu c (cpus.End true unmask note))) (last_of (λ e. is_handle e || closes def e) past)))
+        && list_any returns_handled (cond (false || (true && not b)) [] (by.Cpu c (cpus.End true unmask note) ∷ since (begins_round def) past))) ≡ 0
+    by_flow true = refl
+    by_flow false = none (has_flow def past)
+
+handled_more : (def : LineDef) (e : Entry) (past : List Entry) → IsDue def e past → HandledMore def e past
+handled_more def (by.Cpu c (cpus.End again unmask note)) past due =
     let e = by.Cpu c (cpus.End again unmask note) in
     let f = facts_of def past in
     let m = f.marks in
-    let after : one_if (has_flow def (e ∷ past) && round_handles def (e ∷ past)) ≡ 0 = none _ _ (no_flow_after def c again unmask note past valid level due) in
+    let after = end_marks def c again unmask note past in
     let was : one_if (has_flow def past && round_handles def past)
     ≡ one_if (round_handles def past) = some _ _ (has_a_flow c (flow def past)
     (end_due def c again unmask note past due).of_flow) in
     omega (arith, m, after, was)
   where
-    none : (a b : Bool) → a ≡ false → one_if (a && b) ≡ 0
-    none a b h = grind arith
-
     some : (a b : Bool) → a ≡ true → one_if (a && b) ≡ one_if b
     some a b h = grind arith
-handled_more def (by.Thread x (threads.Return handled served)) past valid level due
+handled_more def (by.Thread x (threads.Return handled served)) past due
     = by_answer handled (flow_stays def (by.Thread x (threads.Return handled served)) past refl refl refl)
   where
     by_answer : (b : Bool) → has_flow def (by.Thread x (threads.Return handled served) ∷ past) ≡ has_flow def past
@@ -118,25 +133,25 @@ handled_more def (by.Thread x (threads.Return handled served)) past valid level 
         = ap (λ (f : Bool). one_if (f && round_handles def past)) same in
         omega (arith, m, s)
     by_answer false same = idle_marks _ _ _ _ _ same
-handled_more def (by.Cpu c (cpus.Return answer x served)) past valid level due =
+handled_more def (by.Cpu c (cpus.Return answer x served)) past due =
     return_marks (has_flow def past) (has_flow def (by.Cpu c (cpus.Return answer x served) ∷ past)) (round_handles def past)
     (is_handled answer) _ (flow_stays def (by.Cpu c (cpus.Return answer x served)) past refl refl refl)
-handled_more def (by.Cpu c (cpus.Take way takes.Handle)) past valid level due = omega arith
-handled_more def (by.Cpu c (cpus.Take way takes.Busy)) past valid level due
+handled_more def (by.Cpu c (cpus.Take way takes.Handle)) past due = omega arith
+handled_more def (by.Cpu c (cpus.Take way takes.Busy)) past due
     = quiet_marks _ _ _ _ (flow_stays def (by.Cpu c (cpus.Take way takes.Busy)) past refl refl refl)
-handled_more def (by.Cpu c (cpus.Take way takes.Off)) past valid level due
+handled_more def (by.Cpu c (cpus.Take way takes.Off)) past due
     = quiet_marks _ _ _ _ (flow_stays def (by.Cpu c (cpus.Take way takes.Off)) past refl refl refl)
-handled_more def (by.Driver s (drivers.Request flags links.Linked opened x)) past valid level due
+handled_more def (by.Driver s (drivers.Request flags links.Linked opened x)) past due
     = quiet_marks _ _ _ _ (flow_stays def (by.Driver s (drivers.Request flags links.Linked opened x)) past refl refl refl)
-handled_more def (by.Driver s (drivers.Request flags (links.Refused error) opened x)) past valid level due
+handled_more def (by.Driver s (drivers.Request flags (links.Refused error) opened x)) past due
     = quiet_marks _ _ _ _ (flow_stays def (by.Driver s (drivers.Request flags (links.Refused error) opened x)) past refl refl refl)
-handled_more def e past valid level due = quiet_marks _ _ _ _ (flow_stays def e past refl refl refl)
+handled_more def e past due = quiet_marks _ _ _ _ (flow_stays def e past refl refl refl)
 
-pub handled_past : (def : LineDef) (past : List Entry) → IsValid def → IsLegalPast def past → is_level_line def ≡ true
+pub handled_past : (def : LineDef) (past : List Entry) → IsLegalPast def past
     → handled_ends def past + serving_marks def past ≤ count_of answers_handled past
-handled_past def past valid legal level =
+handled_past def past legal =
     let r = runs_within def (ends_handled def) (λ e past. answers_handled e) (serving_marks def) (λ past. 0) refl
-    (λ e past legal due. handled_more def e past valid level due) past legal in
+    (λ e past legal due. handled_more def e past due) past legal in
     let w = where_of answers_handled past in
     omega (arith, r, w)
 
@@ -210,38 +225,38 @@ kill_note c again unmask notes.Quiet = refl
 kill_note c again unmask notes.Counted = refl
 
 -- the line isn't shut while a flow is in progress
-in_flow_open : (def : LineDef) (past : List Entry) → IsValid def → IsLegalPast def past → is_level_line def ≡ true
+in_flow_open : (def : LineDef) (past : List Entry) → IsValid def → IsLegalPast def past
     → has_flow def past ≡ true → stands is_kill is_start past ≡ false
-in_flow_open def past valid legal level f = false_from_ne_true (stands is_kill is_start past)
-    (λ shut. both_ways (has_flow def past) f (shut_past def past valid legal level shut).no_flow)
+in_flow_open def past valid legal f = false_from_ne_true (stands is_kill is_start past)
+    (λ shut. both_ways (has_flow def past) f (shut_past def past valid legal shut).no_flow)
 
 behind_other : (k s x : Bool) → k ≡ false → (k || (not s && x)) ≡ true → x ≡ true
 behind_other k s x h i = grind arith
 
-empty_more : (def : LineDef) (e : Entry) (past : List Entry) → IsValid def → IsLegalPast def (e ∷ past) → is_level_line def ≡ true
+empty_more : (def : LineDef) (e : Entry) (past : List Entry) → IsValid def → IsLegalPast def (e ∷ past)
     → stands is_kill is_start (e ∷ past) ≡ true → (stands is_kill is_start past ≡ true → IsEmpty (counts_of def past)) → IsEmpty (counts_of def (e ∷ past))
-empty_more def (by.Cpu c (cpus.End again unmask note)) past valid legal level h was =
+empty_more def (by.Cpu c (cpus.End again unmask note)) past valid legal h was =
     let u = end_due def c again unmask note past legal.0 in
-    let open_now = in_flow_open def past valid legal.1 level (has_a_flow c (flow def past) u.of_flow) in
+    let open_now = in_flow_open def past valid legal.1 (has_a_flow c (flow def past) u.of_flow) in
     (facts_of def past).empties (sym (kill_note c again unmask note ∙ ap is_killed u.note_is) ∙ kills _ _ h open_now)
   where
     kills : (k x : Bool) → (k || (true && x)) ≡ true → x ≡ false → k ≡ true
     kills k x h i = grind arith
-empty_more def (by.Thread x (threads.Return handled served)) past valid legal level h was = by_answer handled (was h)
+empty_more def (by.Thread x (threads.Return handled served)) past valid legal h was = by_answer handled (was h)
   where
     by_answer : (b : Bool) → IsEmpty (counts_of def past)
         → IsEmpty (cond b (record (counts_of def past) { threads_handled = (counts_of def past).threads_handled + 1 }) (counts_of def past))
     by_answer true empty = empty
     by_answer false empty = empty
-empty_more def (by.Driver s (drivers.Request flags links.Linked opened x)) past valid legal level h was = (refl, refl)
-empty_more def (by.Driver s (drivers.Request flags (links.Refused error) opened x)) past valid legal level h was =
+empty_more def (by.Driver s (drivers.Request flags links.Linked opened x)) past valid legal h was = (refl, refl)
+empty_more def (by.Driver s (drivers.Request flags (links.Refused error) opened x)) past valid legal h was =
     was (behind_other false (is_start (by.Driver s (drivers.Request flags (links.Refused error) opened x))) (stands is_kill is_start past) refl h)
-empty_more def e past valid legal level h was = was (behind_other false (is_start e) (stands is_kill is_start past) refl h)
+empty_more def e past valid legal h was = was (behind_other false (is_start e) (stands is_kill is_start past) refl h)
 
-empty_past : (def : LineDef) (past : List Entry) → IsValid def → IsLegalPast def past → is_level_line def ≡ true
+empty_past : (def : LineDef) (past : List Entry) → IsValid def → IsLegalPast def past
     → stands is_kill is_start past ≡ true → IsEmpty (counts_of def past)
-empty_past def [] valid legal level h = cc
-empty_past def (e ∷ past) valid legal level h = empty_more def e past valid legal level h (λ shut. empty_past def past valid legal.1 level shut)
+empty_past def [] valid legal h = cc
+empty_past def (e ∷ past) valid legal h = empty_more def e past valid legal h (λ shut. empty_past def past valid legal.1 shut)
 
 -- ---- what the window allows, and a start of a line that was killed
 
@@ -256,15 +271,15 @@ RoomMore def e past = one_if (ends_nothing def e past) + room def (e ∷ past)
     ≤ room def past + (cond (ends_handled def e past) def.window 0 + cond (renews e past) def.window 0)
 
 end_more : (def : LineDef) (c : CpuNo) (again unmask : Bool) (note : Note) (past : List Entry) → IsValid def
-    → IsLegalPast def past → is_level_line def ≡ true → IsDue def (by.Cpu c (cpus.End again unmask note)) past
+    → IsLegalPast def past → IsDue def (by.Cpu c (cpus.End again unmask note)) past
     → RoomMore def (by.Cpu c (cpus.End again unmask note)) past
-end_more def c again unmask note past valid legal level due =
+end_more def c again unmask note past valid legal due =
     let u = end_due def c again unmask note past due in
     let e = by.Cpu c (cpus.End again unmask note) in
     let f = facts_of def past in
     let small = small_past def past (let w = valid.some_window in omega (arith, w)) in
     let a = f.allows valid.limit small in
-    let standing = in_flow_open def past valid legal level (has_a_flow c (flow def past) u.of_flow) in
+    let standing = in_flow_open def past valid legal (has_a_flow c (flow def past) u.of_flow) in
     let was : room def past ≡ allowance def.window (now past) (counts_of def past)
     = ap (λ (b : Bool). room_of def b (now past) (counts_of def past)) standing in
     let kills : is_kill e ≡ is_killed (noted_end def past (counts_of def past)).note = kill_note c again unmask note ∙ ap is_killed u.note_is in
@@ -337,14 +352,14 @@ same_room def s at c d same = rw (same.0, same.1, same.2) refl
 no_renewal : (r : Bool) (s : Bool) → (false || (false || (r && s))) ≡ (r && s)
 no_renewal r s = refl
 
-quiet_more : (def : LineDef) (e : Entry) (past : List Entry) → IsValid def → IsLegalPast def past → is_level_line def ≡ true
+quiet_more : (def : LineDef) (e : Entry) (past : List Entry) → IsValid def → IsLegalPast def past
     → is_end e ≡ false → is_kill e ≡ false → is_moment e ≡ false → is_linked_request e ≡ false → now (e ∷ past) ≡ now past
     → SameWindow (counts_of def past) (counts_of def (e ∷ past)) → RoomMore def e past
-quiet_more def e past valid legal level no_end no_kill no_moment no_link same_now same =
+quiet_more def e past valid legal no_end no_kill no_moment no_link same_now same =
     let c = counts_of def past in
     let none : one_if (ends_nothing def e past) ≡ 0 = ap one_if (ap (λ (b : Bool). b && is_nothing_judgement (judgement def past)) no_end) in
     let most = other_most def.window c.irq_count c.irqs_unhandled (stands is_kill is_start past) (is_start e) (is_late (now past) c) (renews e past)
-    (empty_past def past valid legal level) (sym (ap (λ (b : Bool). b || (is_linked_request e || (is_start e && stands is_kill is_start past))) no_moment
+    (empty_past def past valid legal) (sym (ap (λ (b : Bool). b || (is_linked_request e || (is_start e && stands is_kill is_start past))) no_moment
     ∙ ap (λ (b : Bool). b || (is_start e && stands is_kill is_start past)) no_link)) in
     let is : room def (e ∷ past) ≡ room_of def (false || (not (is_start e) && stands is_kill is_start past)) (now past) c =
     ap (λ (b : Bool). room_of def (b || (not (is_start e) && stands is_kill is_start past)) (now (e ∷ past)) (counts_of def (e ∷ past))) no_kill
@@ -353,43 +368,43 @@ quiet_more def e past valid legal level no_end no_kill no_moment no_link same_no
     omega (arith, none, most, is)
 
 room_more : (def : LineDef) (e : Entry) (past : List Entry) → IsValid def → IsLegalPast def past
-    → is_level_line def ≡ true → IsDue def e past → RoomMore def e past
-room_more def (by.Cpu c (cpus.End again unmask note)) past valid legal level due = end_more def c again unmask note past valid legal level due
-room_more def (by.Driver s (drivers.Moment at)) past valid legal level due =
+    → IsDue def e past → RoomMore def e past
+room_more def (by.Cpu c (cpus.End again unmask note)) past valid legal due = end_more def c again unmask note past valid legal due
+room_more def (by.Driver s (drivers.Moment at)) past valid legal due =
     let c = counts_of def past in
     let small = small_past def past (let w = valid.some_window in omega (arith, w)) in
     let m = moment_most def.window c.irq_count c.irqs_unhandled (stands is_kill is_start past) (is_late (now past) c)
         (is_late (now (by.Driver s (drivers.Moment at) ∷ past)) c) small in
     omega (arith, m)
-room_more def (by.Driver s (drivers.Request flags links.Linked opened x)) past valid legal level due =
+room_more def (by.Driver s (drivers.Request flags links.Linked opened x)) past valid legal due =
     let c = counts_of def past in
     let small = small_past def past (let w = valid.some_window in omega (arith, w)) in
     let m = linked_most def.window c.irq_count c.irqs_unhandled (stands is_kill is_start past)
         (is_start (by.Driver s (drivers.Request flags links.Linked opened x)))
-    (is_late (now past) c) small (empty_past def past valid legal level) in
+    (is_late (now past) c) small (empty_past def past valid legal) in
     omega (arith, m)
-room_more def (by.Driver s (drivers.Request flags (links.Refused error) opened x)) past valid legal level due =
-    quiet_more def (by.Driver s (drivers.Request flags (links.Refused error) opened x)) past valid legal level refl refl refl refl refl (refl, refl, refl)
-room_more def (by.Thread x (threads.Return handled served)) past valid legal level due =
-    quiet_more def (by.Thread x (threads.Return handled served)) past valid legal level refl refl refl refl refl (by_answer handled)
+room_more def (by.Driver s (drivers.Request flags (links.Refused error) opened x)) past valid legal due =
+    quiet_more def (by.Driver s (drivers.Request flags (links.Refused error) opened x)) past valid legal refl refl refl refl refl (refl, refl, refl)
+room_more def (by.Thread x (threads.Return handled served)) past valid legal due =
+    quiet_more def (by.Thread x (threads.Return handled served)) past valid legal refl refl refl refl refl (by_answer handled)
   where
     by_answer : (b : Bool) → SameWindow (counts_of def past)
         (cond b (record (counts_of def past) { threads_handled = (counts_of def past).threads_handled + 1 }) (counts_of def past))
     by_answer true = (refl, refl, refl)
     by_answer false = (refl, refl, refl)
-room_more def e past valid legal level due = quiet_more def e past valid legal level refl refl refl refl refl (refl, refl, refl)
+room_more def e past valid legal due = quiet_more def e past valid legal refl refl refl refl refl (refl, refl, refl)
 
 -- the ends judged nothing, plus those that the open window allows, are at most a window for each end
 -- that was judged handled and for each renewal, and two more
-room_past : (def : LineDef) (past : List Entry) → IsValid def → IsLegalPast def past → is_level_line def ≡ true
+room_past : (def : LineDef) (past : List Entry) → IsValid def → IsLegalPast def past
     → nothing_ends def past + room def past ≤ def.window * (handled_ends def past + renewals past + 2)
-room_past def [] valid legal level =
+room_past def [] valid legal =
     let m = allowed_most def.window 0 (counts_of def []) in
     let o = mul_comm def.window 2 in
     omega (arith, m, o)
-room_past def (e ∷ past) valid legal level =
-    summed _ _ _ _ _ _ _ _ (where_more (ends_nothing def) e past) (room_past def past valid legal.1 level)
-    (room_more def e past valid legal.1 level legal.0)
+room_past def (e ∷ past) valid legal =
+    summed _ _ _ _ _ _ _ _ (where_more (ends_nothing def) e past) (room_past def past valid legal.1)
+    (room_more def e past valid legal.1 legal.0)
     (windows def.window (handled_ends def past) (renewals past) (ends_handled def e past)
     (renews e past) _ _ (where_more (ends_handled def) e past) (where_more renews e past))
   where
@@ -417,10 +432,10 @@ allowed_room def past = by_test (stands is_kill is_start past)
     by_test true = omega arith
     by_test false = omega arith
 
-pub renewed_past : (def : LineDef) (past : List Entry) → IsValid def → IsLegalPast def past → is_level_line def ≡ true
+pub renewed_past : (def : LineDef) (past : List Entry) → IsValid def → IsLegalPast def past
     → nothing_ends def past + allowed def past ≤ def.window * (handled_ends def past + renewals past + 2)
-renewed_past def past valid legal level =
-    let r = room_past def past valid legal level in
+renewed_past def past valid legal =
+    let r = room_past def past valid legal in
     let a = allowed_room def past in
     omega (arith, r, a)
 
@@ -449,10 +464,10 @@ renewals_below (e ∷ past) =
 
 -- the ends judged nothing, plus the ends that the open window allows, are at most two windows for
 -- each break and one more
-pub nothing_past : (def : LineDef) (past : List Entry) → IsValid def → IsLegalPast def past → is_level_line def ≡ true
+pub nothing_past : (def : LineDef) (past : List Entry) → IsValid def → IsLegalPast def past
     → nothing_ends def past + allowed def past ≤ 2 * def.window * (breaks def past + 1)
-nothing_past def past valid legal level =
-    let n = renewed_past def past valid legal level in
+nothing_past def past valid legal =
+    let n = renewed_past def past valid legal in
     let b = renewals_below past in
     let few : handled_ends def past + renewals past + 2 ≤ 2 * (breaks def past + 1) = omega (arith, b) in
     let m = mul-le-mul_left def.window few in

@@ -99,12 +99,12 @@ pub level_is_counted : (def : LineDef) (h : List Entry) → IsValid def → IsLe
 level_is_counted def h valid legal level =
     let past = reverse h in
     record {
-      handled = handled_past def past valid legal level;
+      handled = handled_past def past legal;
       deferred = deferred_past def past legal;
       clearing = clearing_past def past;
-      shut = shut_past def past valid legal level;
-      nothing = nothing_past def past valid legal level;
-      renewed = renewed_past def past valid legal level;
+      shut = shut_past def past valid legal;
+      nothing = nothing_past def past valid legal;
+      renewed = renewed_past def past valid legal;
       busy = λ flow. on_level_flow def past flow (busy_past def past valid legal level);
       none_busy = none_busy def past legal level;
       off = offs_past def past valid legal level;

@@ -59,7 +59,7 @@ takes_by_answer (by.Cpu c (cpus.Take way takes.Busy) ∷ past) = let r = takes_b
 takes_by_answer (by.Cpu c (cpus.Take way takes.Off) ∷ past) = let r = takes_by_answer past in omega (arith, r)
 takes_by_answer (e ∷ past) = takes_by_answer past
 
-handles_begin : (def : LineDef) (past : List Entry) → count_of is_handle past ≤ count_of (begins_round def) past
+pub handles_begin : (def : LineDef) (past : List Entry) → count_of is_handle past ≤ count_of (begins_round def) past
 handles_begin def [] = omega arith
 handles_begin def (e ∷ past) =
     let r = handles_begin def past in
@@ -117,19 +117,19 @@ renewals_past def past legal = let r = renewals_by past in let d = renewals_of_d
 abbrev pub phases : LineDef → ℕ
 phases def = ask_calls def + other_calls def + told_handled def + 1
 
-level_rounds : (def : LineDef) (past : List Entry) → IsValid def → IsLegalPast def past → is_level_line def ≡ true
+level_rounds : (def : LineDef) (past : List Entry) → IsValid def → IsLegalPast def past
     → count_where starts_killed past ≤ other_calls def → count_of (begins_round def) past ≤ 2 * phases def + 2 * (def.window * phases def)
-level_rounds def past valid legal level few =
+level_rounds def past valid legal few =
     let r = rounds_past def past legal in
     let e = ends_judged def past in
     let f = mark_most (has_flow def past) in
-    let h = handled_past def past valid legal level in
+    let h = handled_past def past legal in
     let s = handled_runs def past legal in
     let a = asks_of_drivers def past legal in
     let d = deferred_past def past legal in
     let cl = clearing_past def past in
     let mark = mark_most (counts_of def past).deferred in
-    let n = renewed_past def past valid legal level in
+    let n = renewed_past def past valid legal in
     let w = renewals_past def past legal in
     let most : handled_ends def past + renewals past + 2 ≤ 2 * phases def = omega (arith, h, s, a, w, few) in
     let m = mul-le-mul_left def.window most in
@@ -175,7 +175,7 @@ pub level_within : (def : LineDef) (past : List Entry) → IsValid def → HasVa
     → count_where starts_killed past ≤ other_calls def → length past ≤ run_level_bound def
 level_within def past valid runs legal level few =
     let n = by_level_rounds def past valid runs legal level in
-    let r = level_rounds def past valid legal level few in
+    let r = level_rounds def past valid legal few in
     let p = round_pays def valid in
     let x = mul-le-mul_left (2 + all_handlers def) r in
     let y = mul-le-mul_right (2 * phases def + 2 * (def.window * phases def)) (less (round_weight def) (all_handlers def) p) in

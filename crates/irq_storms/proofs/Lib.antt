@@ -35,3 +35,4 @@ pub mod OwedEnables
 pub mod KilledStarts
 pub mod PlainBounds
 pub mod StormRows
+pub mod EdgeTakes
