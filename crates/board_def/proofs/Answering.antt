@@ -9,7 +9,6 @@ use Rattle.std.proofs.lemmas.List.{take-map, length-map}
 use Rattle.std.proofs.lemmas.List.Elements.{All-append, All-head, All-tail}
 use Rattle.std.proofs.lemmas.List.Folds.{list_any-append}
 use Rattle.std.proofs.lemmas.Option.{slice_get-map}
-use Rattle.irq_base.specs.Handlers.{has_thread}
 use Rattle.irq_base.specs.declared.calls.Call.{Call}
 use Rattle.irq_base.specs.declared.calls.Call.TheVariants as calls
 use Rattle.irq_base.specs.declared.devices.DeviceDef.{DeviceDef}
@@ -27,11 +26,11 @@ use Rattle.irq_model.specs.Kinds.{same_dev}
 use Rattle.irq_model.specs.Lines.{same_part}
 use Rattle.irq_model.specs.Places.{count_of}
 use Rattle.irq_model.specs.RunBounds.{is_wake_word}
-use Rattle.irq_model.specs.ValidRuns.{has_script, is_told, may_stand, may_wait, may_answer}
+use Rattle.irq_model.specs.ValidRuns.{is_told, may_stand, may_wait, may_answer}
 use Rattle.domain_rules.specs.Domains.{EachAfter}
 use Rattle.board_def.specs.Rules.{IsBoard, IsLineAfter, IsDeviceAfter, IsCallAfter, IsActorOf, AreRuns, AreAnswers}
 use Rattle.board_def.specs.Rules.{find_device, fits_line, is_on_line, is_threaded, with_answers}
-use Rattle.board_def.specs.Runs.{is_call_of, may_call, arms_itself, arms_though_woken, wakes_by_call, is_allowed_run}
+use Rattle.board_def.specs.Runs.{may_call, arms_itself, arms_though_woken, wakes_by_call, is_allowed_run}
 use Rattle.board_def.specs.Runs.{is_told_one, is_allowed_answer, answers_wake, fits_wakes, threaded, with_thread}
 use Rattle.board_def.specs.Seen.{BoardSeen}
 use Rattle.board_def.specs.declared.rows.LineRow.{LineRow}

@@ -3,7 +3,6 @@ use Rattle.std.specs.Prelude.{◌==◌, Bool, true, false, not, ◌&&◌, if◌t
 use Rattle.std.specs.Prelude.{List, map}
 use Rattle.std.specs.List.{list_any}
 use Rattle.irq_base.specs.declared.calls.Call.{Call}
-use Rattle.irq_base.specs.declared.calls.Call.TheVariants as calls
 use Rattle.irq_base.specs.declared.devices.DeviceDef.{DeviceDef}
 use Rattle.irq_base.specs.declared.devices.Kind.{Kind}
 use Rattle.irq_base.specs.declared.devices.Kind.TheVariants as kinds

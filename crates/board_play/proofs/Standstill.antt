@@ -98,13 +98,17 @@ no_line_due (y ∷ ys) c none i x at = by_test (is_some (next_past y.def y.past 
         (the_same y x at) (none_is_due (next_past y.def y.past (actors.Cpu c)) test)
     by_test false test none (suc i) at deeper = deeper none i at
 
-module _ (board : BoardSeen) (is : IsBoard board) (valid : AreValid board) (lines : List BoardLine)
-    (k : AreKept board lines) (rest : (a : Actor) → due_move board lines a ≡ None) where
-  calm : (i : ℕ) (x : BoardLine) → slice_get lines i ≡ Some x → HasCalmRuns x.def
-  calm i x at = calm_defs board is i x.def (def_at board lines k i x at)
+-- ---- once no thread and no processor of the board can move
 
-  threads_rest : (i : ℕ) (x : BoardLine) → slice_get lines i ≡ Some x → (d : DevNo) → next_past x.def x.past (actors.Thread d) ≡ None
-  threads_rest i x at d = by_device (has_device x.def d) refl
+pub calm_line : (board : BoardSeen) → IsBoard board → (lines : List BoardLine) → AreKept board lines → (i : ℕ) (x : BoardLine)
+    → slice_get lines i ≡ Some x → HasCalmRuns x.def
+calm_line board is lines k i x at = calm_defs board is i x.def (def_at board lines k i x at)
+
+module _ (board : BoardSeen) (is : IsBoard board) (lines : List BoardLine) (k : AreKept board lines) where
+  -- none of them has an entry due on any line
+  pub threads_rest : ((d : DevNo) → due_move board lines (actors.Thread d) ≡ None) → (i : ℕ) (x : BoardLine)
+      → slice_get lines i ≡ Some x → (d : DevNo) → next_past x.def x.past (actors.Thread d) ≡ None
+  threads_rest rest i x at d = by_device (has_device x.def d) refl
     where
       here : has_device x.def d ≡ true → next_past x.def x.past (actors.Thread d) ≡ None
       here named =
@@ -112,37 +116,48 @@ module _ (board : BoardSeen) (is : IsBoard board) (valid : AreValid board) (line
           rests_on board lines (actors.Thread d) x
           (ap (λ (o : Option DeviceDef). device_line lines o) f.found
           ∙ (ap (λ (l : LineNo). find_line lines l) f.on_line ∙ find_there lines (apart_kept board is lines k) i x at))
-          (rest (actors.Thread d))
+          (rest d)
 
       by_device : (b : Bool) → has_device x.def d ≡ b → next_past x.def x.past (actors.Thread d) ≡ None
       by_device true named = here named
       by_device false other = ap (λ (b : Bool). cond b (next_of_thread x.def d x.past) None) other
 
-  cpus_rest : (i : ℕ) (x : BoardLine) → slice_get lines i ≡ Some x → (c : CpuNo) → next_past x.def x.past (actors.Cpu c) ≡ None
-  cpus_rest i x at c = by_flow (flow_line lines c) refl
+  pub cpus_rest : ((c : CpuNo) → due_move board lines (actors.Cpu c) ≡ None) → (i : ℕ) (x : BoardLine)
+      → slice_get lines i ≡ Some x → (c : CpuNo) → next_past x.def x.past (actors.Cpu c) ≡ None
+  cpus_rest rest i x at c = by_flow (flow_line lines c) refl
     where
       by_due : (o : Option BoardLine) → flow_line lines c ≡ None → due_line lines c ≡ o → next_past x.def x.past (actors.Cpu c) ≡ None
       by_due None no_flow none = no_line_due lines c none i x at
       by_due (Some y) no_flow its =
           let on : line_for board lines (actors.Cpu c) ≡ Some y = ap (λ (o : Option BoardLine). or_line o (due_line lines c)) no_flow ∙ its in
-          absurd (not_some (next_past y.def y.past (actors.Cpu c)) (line_due lines c y its) (rests_on board lines (actors.Cpu c) y on (rest (actors.Cpu c))))
+          absurd (not_some (next_past y.def y.past (actors.Cpu c)) (line_due lines c y its) (rests_on board lines (actors.Cpu c) y on (rest c)))
 
       by_flow : (o : Option BoardLine) → flow_line lines c ≡ o → next_past x.def x.past (actors.Cpu c) ≡ None
       by_flow None none = by_due (due_line lines c) none refl
       by_flow (Some y) its =
           let on : line_for board lines (actors.Cpu c) ≡ Some y = ap (λ (o : Option BoardLine). or_line o (due_line lines c)) its in
           let s = line_stands board lines (actors.Cpu c) y on in
-          let r = calm s.place y s.at in
+          let r = calm_line board is lines k s.place y s.at in
           absurd (not_some (next_past y.def y.past (actors.Cpu c)) (flow_goes_on y.def y.past r.runs r.waits c (has_the_flow lines c y its))
-          (rests_on board lines (actors.Cpu c) y on (rest (actors.Cpu c))))
+          (rests_on board lines (actors.Cpu c) y on (rest c)))
+
+-- ---- once nobody can
+
+module _ (board : BoardSeen) (is : IsBoard board) (valid : AreValid board) (lines : List BoardLine)
+    (k : AreKept board lines) (rest : (a : Actor) → due_move board lines a ≡ None) where
+  threads_still : (i : ℕ) (x : BoardLine) → slice_get lines i ≡ Some x → (d : DevNo) → next_past x.def x.past (actors.Thread d) ≡ None
+  threads_still = threads_rest board is lines k (λ d. rest (actors.Thread d))
+
+  cpus_still : (i : ℕ) (x : BoardLine) → slice_get lines i ≡ Some x → (c : CpuNo) → next_past x.def x.past (actors.Cpu c) ≡ None
+  cpus_still = cpus_rest board is lines k (λ c. rest (actors.Cpu c))
 
   no_flow : (i : ℕ) (x : BoardLine) → slice_get lines i ≡ Some x → has_flow x.def x.past ≡ false
-  no_flow i x at = let r = calm i x at in no_flow_left x.def x.past r.runs r.waits (cpus_rest i x at)
+  no_flow i x at = let r = calm_line board is lines k i x at in no_flow_left x.def x.past r.runs r.waits (cpus_still i x at)
 
   no_thread : (i : ℕ) (x : BoardLine) → slice_get lines i ≡ Some x → (d : DevNo) → (is_woken x.past d || is_running x.past d) ≡ false
   no_thread i x at =
-      let r = calm i x at in
-      no_thread_left x.def x.past (valid i x.def (def_at board lines k i x at)) r.runs r.waits (k.legal i x at) (no_flow i x at) (threads_rest i x at)
+      let r = calm_line board is lines k i x at in
+      no_thread_left x.def x.past (valid i x.def (def_at board lines k i x at)) r.runs r.waits (k.legal i x at) (no_flow i x at) (threads_still i x at)
 
   driver_rests : (r : DriverNo) (x : BoardLine) → current_line board.calls lines r ≡ Some x → next_past x.def x.past (actors.Driver r) ≡ None
   driver_rests r x its = rests_on board lines (actors.Driver r) x its (rest (actors.Driver r))
@@ -217,13 +232,13 @@ module _ (board : BoardSeen) (is : IsBoard board) (valid : AreValid board) (line
           omega (arith, all, fits, less))
 
   still : (i : ℕ) (x : BoardLine) → slice_get lines i ≡ Some x → (a : Actor) → next_past x.def x.past a ≡ None
-  still i x at (actors.Thread d) = threads_rest i x at d
-  still i x at (actors.Cpu c) = cpus_rest i x at c
+  still i x at (actors.Thread d) = threads_still i x at d
+  still i x at (actors.Cpu c) = cpus_still i x at c
   still i x at (actors.Driver r) = ap (λ (o : Option (Call × ℕ)). next_of_driver x.def r x.past o) (calls_end i x at r)
 
   pub lines_rest : (i : ℕ) (x : BoardLine) → slice_get lines i ≡ Some x → IsAtRest x.def (reverse x.past)
   lines_rest i x at =
-      let r = calm i x at in
+      let r = calm_line board is lines k i x at in
       unwaiting_rests x.def (reverse x.past) (valid i x.def (def_at board lines k i x at)) r.runs r.waits
       (subst (λ (p : List Entry). IsLegalPast x.def p) (sym (reverse-reverse x.past)) (k.legal i x at))
       (λ a own. subst (λ (p : List Entry). next_past x.def p a ≡ None) (sym (reverse-reverse x.past)) (still i x at a))

@@ -14,6 +14,7 @@ use Rattle.irq_model.specs.Legal.{IsLegal}
 use Rattle.irq_model.specs.Next.{next}
 use Rattle.irq_model.specs.Owed.{IsCovered, IsDelivered}
 use Rattle.irq_model.specs.Reason.{HasReason}
+use Rattle.irq_model.specs.RunLaws.{FollowsRunScripts, EnablesWhatItDisables, IsLeftEnabled}
 use Rattle.irq_model.specs.Scripts.{FollowsScripts}
 use Rattle.irq_model.specs.Settled.{IsSettled}
 use Rattle.irq_laws.specs.Quiet.{IsQuiet}
@@ -55,6 +56,9 @@ pub record KeepsLaws (def : LineDef) (h : List Entry) : Type 0 where
   pub synchronised : IsSynchronised def h
   -- a driver's entries are the entries of its calls, in the order of its script, each once
   pub scripts : FollowsScripts def h
+  -- the calls of handlers and threads stand within their runs, in the order of their scripts, each
+  -- once, and all of them in a run that has returned
+  pub run_scripts : FollowsRunScripts def h
   -- at each moment of the history
   pub always : (before after : List Entry) → h ≡ before ++ after → HoldsAt def before
 
@@ -64,10 +68,13 @@ pub record LineHeadline (def : LineDef) (h : List Entry) : Type 0 where
   -- nothing is due any more, and the drivers' calls are complete
   pub settled : IsSettled def h
   -- if the line isn't left disabled, no edge is owed to a linked device, and on a level line each
-  -- linked device that works has all its asks served
+  -- linked device that works and isn't quiet has all its asks served
   pub delivered : IsDelivered def h
   -- nothing is at work: each handler that was called has returned
   pub quiet : IsQuiet def h
+  -- where each run that disables the line has its thread enable it, and each driver enables as often
+  -- as it disables, a line with something linked is enabled, unless an end killed it
+  pub left_enabled : EnablesWhatItDisables def → IsLeftEnabled def h
 
 -- ---- all lines of a board
 

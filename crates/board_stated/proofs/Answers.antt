@@ -1,18 +1,16 @@
 -- More answers of a told device keep the rules of boards.
-use Rattle.std.proofs.Common.{◌≡◌, ℕ, ◌+◌, ◌≤◌, Bool, true, false, not, ◌&&◌, ◌||◌, nat_lt, Option, Some, None, List, [], ◌∷◌, ◌++◌}
-use Rattle.std.proofs.Common.{length, replicate, refl, sym, ap, ◌∙◌, subst, arith}
+use Rattle.std.proofs.Common.{◌≡◌, ◌+◌, ◌≤◌, true, false, ◌&&◌, nat_lt, Option, Some, None, List, [], ◌∷◌}
+use Rattle.std.proofs.Common.{length, refl, sym, ap, ◌∙◌, subst, arith}
 use Rattle.std.specs.List.{All, flat_map}
 use Rattle.std.proofs.Math.ListN.{length-append, length-replicate}
 use Rattle.std.proofs.lemmas.Bool.{ltb-false, not-false, or_parts, eq-eqb}
 use Rattle.std.proofs.lemmas.List.Elements.{All-nil, All-append, All-replicate, All-head, All-tail}
-use Rattle.irq_base.specs.Handlers.{has_thread}
 use Rattle.irq_base.specs.declared.devices.DeviceDef.{DeviceDef}
 use Rattle.irq_base.specs.declared.devices.Kind.{Kind}
 use Rattle.irq_base.specs.declared.devices.Kind.TheVariants as kinds
 use Rattle.irq_base.specs.declared.devices.Part.{Part}
 use Rattle.irq_base.specs.declared.devices.Part.TheVariants as parts
 use Rattle.irq_base.specs.declared.devices.ToldAnswer.{ToldAnswer}
-use Rattle.irq_base.specs.declared.devices.ToldAnswer.TheVariants as tolds
 use Rattle.irq_base.specs.declared.numbers.DevNo.{DevNo}
 use Rattle.irq_base.specs.declared.numbers.LineNo.{LineNo}
 use Rattle.irq_model.specs.Kinds.{same_dev}
@@ -26,7 +24,7 @@ use Rattle.board_def.proofs.Answering.{grows_answers}
 use Rattle.board_def.proofs.Grows.{all_from}
 use Rattle.board_words.specs.declared.statements.AnswerWord.{AnswerWord}
 use Rattle.board_words.specs.declared.statements.Statement.TheVariants as statements
-use Rattle.board_stated.specs.FaultsAfter.{has_no_part, cannot_answer, count_of_answers, has_no_room_for, is_not_there, has_bad_run, is_one_too_many}
+use Rattle.board_stated.specs.FaultsAfter.{has_no_part, cannot_answer, count_of_answers, is_not_there, has_bad_run, is_one_too_many}
 use Rattle.board_stated.specs.Sound.{IsWellFormed}
 use Rattle.board_stated.specs.Stated.{line_or_none, line_of_device, answers_told, told_rows, with_statement}
 use Rattle.board_stated.specs.declared.writers.Writer.{Writer}
@@ -103,13 +101,13 @@ rows_may o dev part answers told there =
 
 -- ---- more
 
-pub answers_kept : (writer : Writer) (b : BoardSeen) (dev : DevNo) (part : Part) (answers : List AnswerWord) → IsBoard b
+pub answers_kept : (whose : Writer) (b : BoardSeen) (dev : DevNo) (part : Part) (answers : List AnswerWord) → IsBoard b
     → IsWellFormed (statements.Answers dev part answers)
     → is_not_there b (statements.Answers dev part answers) ≡ false
-    → has_bad_run writer b (statements.Answers dev part answers) ≡ false
-    → is_one_too_many writer b (statements.Answers dev part answers) ≡ false
-    → IsBoard (with_statement writer (statements.Answers dev part answers) b)
-answers_kept writer b dev part answers board formed there run room =
+    → has_bad_run whose b (statements.Answers dev part answers) ≡ false
+    → is_one_too_many whose b (statements.Answers dev part answers) ≡ false
+    → IsBoard (with_statement whose (statements.Answers dev part answers) b)
+answers_kept whose b dev part answers board formed there run room =
     let rows = told_rows b dev part answers in
     let line = line_of_device b.devices dev in
     let told = not-false (is_told_one (find_device b.devices dev)) run in

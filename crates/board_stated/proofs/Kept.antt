@@ -65,12 +65,12 @@ first_draft = record {
 }
 
 -- a call, by whose script is written
-call_kept : (past : List Statement) (c : CallWords) (writer : Writer) → writer_of past ≡ writer → IsBoard (draft_of past)
-    → is_nobody writer ≡ false → names_nothing (board_of past) c ≡ false
-    → has_bad_owner writer (board_of past) (statements.Call c) ≡ false
-    → has_bad_run writer (board_of past) (statements.Call c) ≡ false
-    → is_one_too_many writer (board_of past) (statements.Call c) ≡ false
-    → IsBoard (record (with_call writer c (board_of past)) { log = 1 })
+call_kept : (past : List Statement) (c : CallWords) (whose : Writer) → writer_of past ≡ whose → IsBoard (draft_of past)
+    → is_nobody whose ≡ false → names_nothing (board_of past) c ≡ false
+    → has_bad_owner whose (board_of past) (statements.Call c) ≡ false
+    → has_bad_run whose (board_of past) (statements.Call c) ≡ false
+    → is_one_too_many whose (board_of past) (statements.Call c) ≡ false
+    → IsBoard (record (with_call whose c (board_of past)) { log = 1 })
 call_kept past c writers.Nobody is board some there owner run room = absurd cc
 call_kept past c writers.Driver is board some there owner run room =
     let b = draft_of past in

@@ -70,25 +70,25 @@ abbrev pub NoRows : BoardSeen → Type 0
 NoRows b = (b.lines ≡ []) × (b.picks ≡ [])
 
 -- a call changes neither lines nor picks, nor the answers
-call_leaves : (writer : Writer) (c : CallWords) (b : BoardSeen)
-    → ((with_call writer c b).lines ≡ b.lines) × ((with_call writer c b).picks ≡ b.picks) × ((with_call writer c b).told ≡ b.told)
+call_leaves : (whose : Writer) (c : CallWords) (b : BoardSeen)
+    → ((with_call whose c b).lines ≡ b.lines) × ((with_call whose c b).picks ≡ b.picks) × ((with_call whose c b).told ≡ b.told)
 call_leaves writers.Nobody c b = (refl, refl, refl)
 call_leaves writers.Driver c b = (refl, refl, refl)
 call_leaves (writers.Runs dev part) c b = (refl, refl, refl)
 
-none_more : (reached : ℕ) (writer : Writer) (s : Statement) (b : BoardSeen) → section_in reached s < 2 → NoRows b → NoRows (with_statement writer s b)
-none_more reached writer (statements.Board version) b early none = none
-none_more reached writer (statements.Cpus cpus) b early none = none
-none_more reached writer (statements.Spurious window limit) b early none = none
-none_more reached writer (statements.Log log) b early none = none
-none_more reached writer (statements.Domain d) b early none = absurd (omega arith)
-none_more reached writer (statements.Line l) b early none = absurd (omega arith)
-none_more reached writer (statements.Device d) b early none = absurd (omega arith)
-none_more reached writer (statements.Answers dev part answers) b early none = absurd (omega arith)
-none_more reached writer (statements.Runs dev part) b early none = absurd (omega arith)
-none_more reached writer (statements.Driver driver) b early none = absurd (omega arith)
-none_more reached writer (statements.Call c) b early none = let same = call_leaves writer c b in (same.0 ∙ none.0, same.1 ∙ none.1)
-none_more reached writer (statements.Picks picks) b early none = absurd (omega arith)
+none_more : (reached : ℕ) (whose : Writer) (s : Statement) (b : BoardSeen) → section_in reached s < 2 → NoRows b → NoRows (with_statement whose s b)
+none_more reached whose (statements.Board version) b early none = none
+none_more reached whose (statements.Cpus cpus) b early none = none
+none_more reached whose (statements.Spurious window limit) b early none = none
+none_more reached whose (statements.Log log) b early none = none
+none_more reached whose (statements.Domain d) b early none = absurd (omega arith)
+none_more reached whose (statements.Line l) b early none = absurd (omega arith)
+none_more reached whose (statements.Device d) b early none = absurd (omega arith)
+none_more reached whose (statements.Answers dev part answers) b early none = absurd (omega arith)
+none_more reached whose (statements.Runs dev part) b early none = absurd (omega arith)
+none_more reached whose (statements.Driver driver) b early none = absurd (omega arith)
+none_more reached whose (statements.Call c) b early none = let same = call_leaves whose c b in (same.0 ∙ none.0, same.1 ∙ none.1)
+none_more reached whose (statements.Picks picks) b early none = absurd (omega arith)
 
 pub no_rows : (past : List Statement) → IsSound past → section_reached past < 2 → NoRows (board_of past)
 no_rows [] sound early = (refl, refl)
@@ -98,20 +98,20 @@ no_rows (s ∷ past) sound early =
 
 -- ---- before the statements on runs
 
-none_told : (reached : ℕ) (writer : Writer) (s : Statement) (b : BoardSeen) → section_in reached s < 5 → b.told ≡ []
-    → (with_statement writer s b).told ≡ []
-none_told reached writer (statements.Board version) b early none = none
-none_told reached writer (statements.Cpus cpus) b early none = none
-none_told reached writer (statements.Spurious window limit) b early none = none
-none_told reached writer (statements.Log log) b early none = none
-none_told reached writer (statements.Domain d) b early none = none
-none_told reached writer (statements.Line l) b early none = none
-none_told reached writer (statements.Device d) b early none = none
-none_told reached writer (statements.Answers dev part answers) b early none = absurd (omega arith)
-none_told reached writer (statements.Runs dev part) b early none = none
-none_told reached writer (statements.Driver driver) b early none = none
-none_told reached writer (statements.Call c) b early none = (call_leaves writer c b).2 ∙ none
-none_told reached writer (statements.Picks picks) b early none = none
+none_told : (reached : ℕ) (whose : Writer) (s : Statement) (b : BoardSeen) → section_in reached s < 5 → b.told ≡ []
+    → (with_statement whose s b).told ≡ []
+none_told reached whose (statements.Board version) b early none = none
+none_told reached whose (statements.Cpus cpus) b early none = none
+none_told reached whose (statements.Spurious window limit) b early none = none
+none_told reached whose (statements.Log log) b early none = none
+none_told reached whose (statements.Domain d) b early none = none
+none_told reached whose (statements.Line l) b early none = none
+none_told reached whose (statements.Device d) b early none = none
+none_told reached whose (statements.Answers dev part answers) b early none = absurd (omega arith)
+none_told reached whose (statements.Runs dev part) b early none = none
+none_told reached whose (statements.Driver driver) b early none = none
+none_told reached whose (statements.Call c) b early none = (call_leaves whose c b).2 ∙ none
+none_told reached whose (statements.Picks picks) b early none = none
 
 -- no answers stand
 pub no_answers : (past : List Statement) → IsSound past → section_reached past < 5 → (board_of past).told ≡ []
@@ -122,7 +122,7 @@ no_answers (s ∷ past) sound early =
 
 -- ---- where a driver's script is written
 
-drivers_stay : (writer : Writer) (c : CallWords) (b : BoardSeen) → (with_call writer c b).drivers ≡ b.drivers
+drivers_stay : (whose : Writer) (c : CallWords) (b : BoardSeen) → (with_call whose c b).drivers ≡ b.drivers
 drivers_stay writers.Nobody c b = refl
 drivers_stay writers.Driver c b = refl
 drivers_stay (writers.Runs dev part) c b = refl

@@ -85,25 +85,25 @@ version_kept b version board = counts_kept b version b.window b.limit b.log boar
 
 -- ---- the log limit
 
-log_of_call : (writer : Writer) (c : CallWords) (b : BoardSeen) → (with_call writer c b).log ≡ b.log
+log_of_call : (whose : Writer) (c : CallWords) (b : BoardSeen) → (with_call whose c b).log ≡ b.log
 log_of_call writers.Nobody c b = refl
 log_of_call writers.Driver c b = refl
 log_of_call (writers.Runs dev part) c b = refl
 
-log_more : (writer : Writer) (s : Statement) (b : BoardSeen) → IsWellFormed s → (1 ≤ b.log) × (b.log ≤ 1000000)
-    → (1 ≤ (with_statement writer s b).log) × ((with_statement writer s b).log ≤ 1000000)
-log_more writer (statements.Board version) b fits h = h
-log_more writer (statements.Cpus cpus) b fits h = h
-log_more writer (statements.Spurious window limit) b fits h = h
-log_more writer (statements.Log log) b fits h = fits
-log_more writer (statements.Domain d) b fits h = h
-log_more writer (statements.Line l) b fits h = h
-log_more writer (statements.Device d) b fits h = h
-log_more writer (statements.Answers dev part answers) b fits h = h
-log_more writer (statements.Runs dev part) b fits h = h
-log_more writer (statements.Driver driver) b fits h = h
-log_more writer (statements.Call c) b fits h = subst (λ n. (1 ≤ n) × (n ≤ 1000000)) (sym (log_of_call writer c b)) h
-log_more writer (statements.Picks picks) b fits h = h
+log_more : (whose : Writer) (s : Statement) (b : BoardSeen) → IsWellFormed s → (1 ≤ b.log) × (b.log ≤ 1000000)
+    → (1 ≤ (with_statement whose s b).log) × ((with_statement whose s b).log ≤ 1000000)
+log_more whose (statements.Board version) b fits h = h
+log_more whose (statements.Cpus cpus) b fits h = h
+log_more whose (statements.Spurious window limit) b fits h = h
+log_more whose (statements.Log log) b fits h = fits
+log_more whose (statements.Domain d) b fits h = h
+log_more whose (statements.Line l) b fits h = h
+log_more whose (statements.Device d) b fits h = h
+log_more whose (statements.Answers dev part answers) b fits h = h
+log_more whose (statements.Runs dev part) b fits h = h
+log_more whose (statements.Driver driver) b fits h = h
+log_more whose (statements.Call c) b fits h = subst (λ n. (1 ≤ n) × (n ≤ 1000000)) (sym (log_of_call whose c b)) h
+log_more whose (statements.Picks picks) b fits h = h
 
 pub log_range : (past : List Statement) → IsSound past → (1 ≤ (board_of past).log) × ((board_of past).log ≤ 1000000)
 log_range [] sound = (omega arith, omega arith)

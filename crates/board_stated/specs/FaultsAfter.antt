@@ -174,7 +174,7 @@ has_bad_mask b _ = false
 abbrev pub has_bad_owner : Writer → BoardSeen → Statement → Bool
 has_bad_owner writers.Driver b (statements.Call c) =
     is_bad_owner b.calls (driver_writing b.drivers) (call_of_words c)
-has_bad_owner writer b _ = false
+has_bad_owner whose b _ = false
 
 -- runs
 
@@ -195,12 +195,12 @@ may_not_call b r =
     not (is_allowed_run b.runs r (find_device b.devices r.dev)) || wakes_what_arms b r r.call
 
 abbrev pub has_bad_run : Writer → BoardSeen → Statement → Bool
-has_bad_run writer b (statements.Answers dev part answers) =
+has_bad_run whose b (statements.Answers dev part answers) =
     not (is_told_one (find_device b.devices dev))
-has_bad_run writer b (statements.Runs dev part) =
+has_bad_run whose b (statements.Runs dev part) =
     not (is_written part (find_device b.devices dev))
 has_bad_run (writers.Runs dev part) b (statements.Call c) = may_not_call b (run_call b dev part c)
-has_bad_run writer b _ = false
+has_bad_run whose b _ = false
 
 -- too many
 
@@ -221,19 +221,19 @@ has_no_room_for b dev more = nat_lt 65536 (length b.told + more)
 abbrev pub has_no_room_to_call : Writer → BoardSeen → Bool
 has_no_room_to_call (writers.Runs dev part) b = nat_le 256 (length b.runs)
     || nat_le 16 (count_of (is_call_of dev part) b.runs)
-has_no_room_to_call writer b = nat_le 16384 (length b.calls)
+has_no_room_to_call whose b = nat_le 16384 (length b.calls)
 
 abbrev pub is_one_too_many : Writer → BoardSeen → Statement → Bool
-is_one_too_many writer b (statements.Domain d) = nat_le 32 (length b.domains)
-is_one_too_many writer b (statements.Line l) = nat_le 64 (length b.lines)
-is_one_too_many writer b (statements.Device d) = nat_le 256 (length b.devices)
-is_one_too_many writer b (statements.Answers dev part answers) =
+is_one_too_many whose b (statements.Domain d) = nat_le 32 (length b.domains)
+is_one_too_many whose b (statements.Line l) = nat_le 64 (length b.lines)
+is_one_too_many whose b (statements.Device d) = nat_le 256 (length b.devices)
+is_one_too_many whose b (statements.Answers dev part answers) =
     has_no_room_for b dev (count_of_answers answers)
-is_one_too_many writer b (statements.Driver driver) = nat_le 64 (length b.drivers)
-is_one_too_many writer b (statements.Call c) = has_no_room_to_call writer b
-is_one_too_many writer b (statements.Picks picks) =
+is_one_too_many whose b (statements.Driver driver) = nat_le 64 (length b.drivers)
+is_one_too_many whose b (statements.Call c) = has_no_room_to_call whose b
+is_one_too_many whose b (statements.Picks picks) =
     nat_lt 65536 (length b.picks + count_of_picks picks)
-is_one_too_many writer b _ = false
+is_one_too_many whose b _ = false
 
 -- the first of these faults that the statement has
 abbrev pub fault_after : List Statement → Statement → Option FaultKind

@@ -29,10 +29,10 @@ section_reached (s ∷ past) = section_in (section_reached past) s
 
 -- whose script the calls after the statement belong to
 abbrev pub writer_after : Writer → Statement → Writer
-writer_after writer (statements.Runs dev part) = writers.Runs dev part
-writer_after writer (statements.Driver driver) = writers.Driver
-writer_after writer (statements.Call call) = writer
-writer_after writer _ = writers.Nobody
+writer_after whose (statements.Runs dev part) = writers.Runs dev part
+writer_after whose (statements.Driver driver) = writers.Driver
+writer_after whose (statements.Call call) = whose
+writer_after whose _ = writers.Nobody
 
 abbrev pub writer_of : List Statement → Writer
 writer_of [] = writers.Nobody

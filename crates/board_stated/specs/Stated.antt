@@ -173,23 +173,23 @@ with_call _ c b = record b { calls = b.calls ++ script_call b c ∷ [] }
 
 -- what a statement adds to the board
 abbrev pub with_statement : Writer → Statement → BoardSeen → BoardSeen
-with_statement writer (statements.Board version) b = record b { version = version }
-with_statement writer (statements.Cpus cpus) b = record b { cpus = cpus }
-with_statement writer (statements.Spurious window limit) b =
+with_statement whose (statements.Board version) b = record b { version = version }
+with_statement whose (statements.Cpus cpus) b = record b { cpus = cpus }
+with_statement whose (statements.Spurious window limit) b =
     record b { window = window; limit = limit }
-with_statement writer (statements.Log log) b = record b { log = log }
-with_statement writer (statements.Domain d) b =
+with_statement whose (statements.Log log) b = record b { log = log }
+with_statement whose (statements.Domain d) b =
     record b { domains = b.domains ++ domain_row b.domains d ∷ [] }
-with_statement writer (statements.Line l) b = record b { lines = b.lines ++ line_row b l ∷ [] }
-with_statement writer (statements.Device d) b =
+with_statement whose (statements.Line l) b = record b { lines = b.lines ++ line_row b l ∷ [] }
+with_statement whose (statements.Device d) b =
     record b { devices = b.devices ++ device_of_words d ∷ [] }
-with_statement writer (statements.Answers dev part answers) b =
+with_statement whose (statements.Answers dev part answers) b =
     with_answers dev (told_rows b dev part answers) b
-with_statement writer (statements.Runs dev part) b = b
-with_statement writer (statements.Driver driver) b =
+with_statement whose (statements.Runs dev part) b = b
+with_statement whose (statements.Driver driver) b =
     record b { drivers = b.drivers ++ driver ∷ [] }
-with_statement writer (statements.Call c) b = with_call writer c b
-with_statement writer (statements.Picks picks) b =
+with_statement whose (statements.Call c) b = with_call whose c b
+with_statement whose (statements.Picks picks) b =
     record b { picks = b.picks ++ flat_map actors_picked picks }
 
 -- the board that the statements state

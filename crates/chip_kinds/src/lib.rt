@@ -7,7 +7,6 @@
 //! | `PlainChip` | edges | no | no | no | no |
 //! | `LevelChip` | a level | no | no | no | no |
 //! | `EoiChip` | a level | no | no | no | yes |
-//! | `PinChip` | edges | yes | yes | no | no |
 //! | `LpiChip` | edges | yes | yes | yes | no |
 //! | `VectorChip`, which can't mask | edges | no | no | yes | no |
 //!

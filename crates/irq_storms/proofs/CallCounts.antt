@@ -21,105 +21,30 @@ use Rattle.irq_model.specs.Due.{calls_by, entries_by, entries_of_call, begins_no
 use Rattle.irq_model.specs.Bounds.{is_ask_call, ask_calls, other_calls}
 use Rattle.irq_model.specs.Scripts.{MakesSteps, MakesAll, AreMadeBy, steps_in, FollowsScriptsPast}
 use Rattle.irq_model.specs.Legal.{IsLegalPast}
+use Rattle.irq_laws.proofs.Lists.{both_ways}
 use Rattle.irq_laws.proofs.ScriptLaws.{is_shared, shared_all, few_steps, all_count, follows_past}
 use Rattle.irq_storms.specs.Judged.{one_if}
 use Rattle.irq_storms.specs.Tests.{total, is_by_any_driver, is_renewal}
-use Rattle.irq_storms.proofs.Counting.{mark_most, count_more, count_imply, count_total, total_ext, total_at, totals_by_key}
-
--- ---- counts of joined, reversed and filtered lists
-
-module _ {A : Type 0} (p : A → Bool) where
-  count_join : (xs ys : List A) → count_of p (xs ++ ys) ≡ count_of p xs + count_of p ys
-  count_join [] ys = omega arith
-  count_join (x ∷ xs) ys = let a = count_more p x (xs ++ ys) in let b = count_more p x xs in let r = count_join xs ys in omega (arith, a, b, r)
-
-  count_back : (xs : List A) → count_of p (reverse xs) ≡ count_of p xs
-  count_back [] = refl
-  count_back (x ∷ xs) =
-      let turned : count_of p (reverse (x ∷ xs)) ≡ count_of p (reverse xs ++ x ∷ []) = ap (λ (l : List A). count_of p l) (reverse_onto xs x []) in
-      let a = count_join (reverse xs) (x ∷ []) in
-      let b = count_more p x [] in
-      let c = count_more p x xs in
-      let r = count_back xs in
-      omega (arith, turned, a, b, c, r)
-
-  count_kept : (q : A → Bool) (xs : List A) → count_of p (filter q xs) ≡ count_of (λ x. p x && q x) xs
-  count_kept q [] = refl
-  count_kept q (x ∷ xs) = by_test (p x) (q x) refl (count_kept q xs)
-    where
-      by_test : (a b : Bool) → p x ≡ a → count_of p (filter q xs) ≡ count_of (λ x. p x && q x) xs
-          → count_of p (cond b (x ∷ filter q xs) (filter q xs)) ≡ cond (a && b) (count_of (λ x. p x && q x) xs + 1) (count_of (λ x. p x && q x) xs)
-      by_test true true i h = rw (i, h) refl
-      by_test false true i h = rw (i, h) refl
-      by_test true false i h = h
-      by_test false false i h = h
-
--- ---- one driver
-
-abbrev driver_key : Entry → ℕ
-driver_key (by.Driver driver e) = driver.0
-driver_key (by.DriverCall driver call) = driver.0
-driver_key _ = 0
+use Rattle.irq_storms.proofs.Counting.{mark_most, count_more, count_imply, count_total}
+use Rattle.irq_storms.proofs.Weights.{of_drivers as weighed}
 
 -- a test of drivers' entries, and how often a call meets it at most
 module _ (p : Entry → Bool) (w : Call → ℕ) (by_driver : (e : Entry) → p e ≡ true → is_by_any_driver e ≡ true)
     (most : (c : Call) (es : List Entry) → MakesAll c es → count_of p es ≤ w c) where
-  made_count : (cs : List Call) (es : List Entry) → AreMadeBy cs es → count_of p es ≤ total w cs
-  made_count [] es h = let n : count_of p es ≡ 0 = ap (λ (l : List Entry). count_of p l) h in omega (arith, n)
-  made_count (c ∷ cs) es (inl made) =
-      let j = count_join p es made.0 in
-      let m = most c (es ++ made.0) made.1 in
-      omega (arith, j, m)
-  made_count (c ∷ cs) es (inr made) =
-      let s : count_of p es ≡ count_of p (made.0 ++ made.1) = ap (λ (l : List Entry). count_of p l) made.2 in
-      let j = count_join p made.0 made.1 in
-      let m = most c made.0 made.3 in
-      let r = made_count cs made.1 made.4 in
-      omega (arith, s, j, m, r)
+  marks_most : (c : Call) (es : List Entry) → MakesAll c es → total (λ e. one_if (p e)) es ≤ w c
+  marks_most c es h = let m = most c es h in let t = count_total p es in omega (arith, m, t)
 
-  weights_by : (r : DriverNo) (cs : List (DriverNo × Call)) → total w (calls_by r cs) ≡ total_at (λ c. c.0.0) (λ c. w c.1) r.0 cs
-  weights_by r [] = refl
-  weights_by r (c ∷ cs) = by_test (same_driver r c.0) (weights_by r cs)
+  drivers_alone : (e : Entry) → is_by_any_driver e ≡ false → one_if (p e) ≡ 0
+  drivers_alone e other = by_test (p e) (λ h. by_driver e h)
     where
-      by_test : (b : Bool) → total w (calls_by r cs) ≡ total_at (λ c. c.0.0) (λ c. w c.1) r.0 cs
-          → total w (cond b (c.1 ∷ calls_by r cs) (calls_by r cs))
-          ≡ cond b (w c.1) 0 + total_at (λ c. c.0.0) (λ c. w c.1) r.0 cs
-      by_test true h = omega (arith, h)
-      by_test false h = omega (arith, h)
+      by_test : (b : Bool) → (b ≡ true → is_by_any_driver e ≡ true) → one_if b ≡ 0
+      by_test true h = both_ways (is_by_any_driver e) (h refl) other
+      by_test false h = refl
 
-  no_driver : (a b c : Bool) → (a ≡ true → false ≡ true) → one_if (a && b) ≡ cond c (one_if a) 0
-  no_driver true b c h = let n = h refl in cc
-  no_driver false b true h = refl
-  no_driver false b false h = refl
-
-  one_driver : (a c : Bool) → one_if (a && c) ≡ cond c (one_if a) 0
-  one_driver true true = refl
-  one_driver true false = refl
-  one_driver false true = refl
-  one_driver false false = refl
-
-  at_driver : (k : ℕ) (e : Entry) → one_if (p e && is_by_driver (record { 0 = k }) e) ≡ cond (k == driver_key e) (one_if (p e)) 0
-  at_driver k (by.Driver driver e) = one_driver (p (by.Driver driver e)) (k == driver.0)
-  at_driver k (by.DriverCall driver call) = one_driver (p (by.DriverCall driver call)) (k == driver.0)
-  at_driver k e = no_driver _ _ _ (by_driver e)
-
-  of_driver : (def : LineDef) (past : List Entry) → FollowsScriptsPast def past → (k : ℕ)
-      → total_at driver_key (λ e. one_if (p e)) k past ≤ total_at (λ c. c.0.0) (λ c. w c.1) k def.calls
-  of_driver def past follows k =
-      let r : DriverNo = record { 0 = k } in
-      let made : count_of p (entries_by r past) ≤ total w (calls_by r def.calls) = made_count (calls_by r def.calls) (entries_by r past) (follows r) in
-      let back : count_of p (entries_by r past) ≡ count_of p (filter (is_by_driver r) past) = count_back p (filter (is_by_driver r) past) in
-      let kept = count_kept p (is_by_driver r) past in
-      let sum = count_total (λ e. p e && is_by_driver r e) past in
-      let same : total (λ e. one_if (p e && is_by_driver r e)) past ≡ total_at driver_key (λ e. one_if (p e)) k past = total_ext _ _ past (at_driver k) in
-      let weights = weights_by r def.calls in
-      omega (arith, made, back, kept, sum, same, weights)
-
-  -- all drivers
   pub of_drivers : (def : LineDef) (past : List Entry) → FollowsScriptsPast def past → count_of p past ≤ total (λ c. w c.1) def.calls
   of_drivers def past follows =
       let sum = count_total p past in
-      let all = totals_by_key driver_key (λ e. one_if (p e)) past (λ c. c.0.0) (λ c. w c.1) def.calls (of_driver def past follows) in
+      let all = weighed (λ e. one_if (p e)) w marks_most drivers_alone def past follows in
       omega (arith, sum, all)
 
 -- ---- the three tests
@@ -199,7 +124,7 @@ one_start (calls.Arm d) (called.Arm edge dev ∷ []) h = omega arith
 one_start (calls.Serve d) (called.Serve dev served ∷ []) h = omega arith
 one_start c cs h = absurd h
 
-abbrev Renews : Call → List Entry → Type 0
+abbrev pub Renews : Call → List Entry → Type 0
 Renews c es = (count_of is_any_ask es ≤ one_if (is_ask_call c)) × (count_of is_renewal es ≤ one_if (not (is_ask_call c)))
 
 shared_renews : (c : Call) → is_shared c ≡ true → (es : List Entry) → MakesAll c es → Renews c es
@@ -221,7 +146,7 @@ shared_renews c is es h =
     no_ask_call (calls.Ask d) h = cc
     no_ask_call c h = refl
 
-renews : (c : Call) (es : List Entry) → MakesAll c es → Renews c es
+pub renews : (c : Call) (es : List Entry) → MakesAll c es → Renews c es
 renews (calls.Ask d) (by.Driver r (drivers.Ask edge dev) ∷ []) h = (omega arith, omega arith)
 renews (calls.Request d flags) (by.Driver r (drivers.Request given answer opened dev) ∷ []) h =
     (omega arith, at_most_one (is_renewal (by.Driver r (drivers.Request given answer opened dev))))

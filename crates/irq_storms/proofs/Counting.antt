@@ -52,15 +52,15 @@ module _ {A : Type 0} where
   total_ext v w [] h = refl
   total_ext v w (x ∷ xs) h = let a = h x in let r = total_ext v w xs h in omega (arith, a, r)
 
-  total_le : (v w : A → ℕ) (xs : List A) → ((x : A) → v x ≤ w x) → total v xs ≤ total w xs
+  pub total_le : (v w : A → ℕ) (xs : List A) → ((x : A) → v x ≤ w x) → total v xs ≤ total w xs
   total_le v w [] h = omega arith
   total_le v w (x ∷ xs) h = let a = h x in let r = total_le v w xs h in omega (arith, a, r)
 
-  total_sum : (u v w : A → ℕ) (xs : List A) → ((x : A) → u x ≡ v x + w x) → total u xs ≡ total v xs + total w xs
+  pub total_sum : (u v w : A → ℕ) (xs : List A) → ((x : A) → u x ≡ v x + w x) → total u xs ≡ total v xs + total w xs
   total_sum u v w [] h = refl
   total_sum u v w (x ∷ xs) h = let a = h x in let r = total_sum u v w xs h in omega (arith, a, r)
 
-  total_none : (w : A → ℕ) (xs : List A) → ((x : A) → w x ≡ 0) → total w xs ≡ 0
+  pub total_none : (w : A → ℕ) (xs : List A) → ((x : A) → w x ≡ 0) → total w xs ≡ 0
   total_none w [] h = refl
   total_none w (x ∷ xs) h = let a = h x in let r = total_none w xs h in omega (arith, a, r)
 

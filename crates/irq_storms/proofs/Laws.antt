@@ -4,9 +4,11 @@ use Rattle.irq_base.specs.declared.lines.LineDef.{LineDef}
 use Rattle.irq_base.specs.declared.entries.Entry.{Entry}
 use Rattle.irq_model.specs.Legal.{IsLegal}
 use Rattle.irq_model.specs.Valid.{IsValid}
-use Rattle.irq_storms.specs.Storms.{RunsAreCounted, CallsAreCounted}
+use Rattle.irq_storms.specs.Storms.{RunsAreCounted, CallsAreCounted, AsksAreCounted}
 use Rattle.irq_storms.proofs.RunCounts.{begins_past, returns_past, rounds_past}
 use Rattle.irq_storms.proofs.ThreadCounts.{begins_of, returns_of, finishes_of, dones_of}
+use Rattle.irq_storms.proofs.ServedCounts.{served_exactly, served_of}
+use Rattle.irq_storms.proofs.DeviceSums.{served_of_all, served_past}
 use Rattle.irq_storms.proofs.CallCounts.{driver_entries, asks_of_drivers, renewals_of_drivers}
 
 below : (t m n : ℕ) → t + m ≤ n → t ≤ n
@@ -34,4 +36,12 @@ calls_are_counted def h legal = record {
   asks
       = asks_of_drivers def (reverse h) legal;
   renewals = renewals_of_drivers def (reverse h) legal;
+}
+
+pub asks_are_counted : (def : LineDef) (h : List Entry) → IsValid def → IsLegal def h → AsksAreCounted def h
+asks_are_counted def h valid legal = record {
+  exact = λ d. served_exactly def d (reverse h) legal;
+  runs = λ d. served_of def d (reverse h) legal;
+  all = served_of_all def (reverse h) valid legal;
+  all_runs = served_past def (reverse h) legal;
 }

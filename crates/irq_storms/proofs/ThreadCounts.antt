@@ -8,6 +8,8 @@ use Rattle.irq_base.specs.declared.entries.Entry.TheVariants as by
 use Rattle.irq_base.specs.declared.entries.CpuEntry.TheVariants as cpus
 use Rattle.irq_base.specs.declared.entries.ThreadEntry.TheVariants as threads
 use Rattle.irq_base.specs.declared.entries.DriverEntry.TheVariants as drivers
+use Rattle.irq_base.specs.declared.entries.CallEntry.{CallEntry}
+use Rattle.irq_base.specs.declared.entries.CallEntry.TheVariants as called
 use Rattle.irq_model.specs.Places.{since, count_of}
 use Rattle.irq_model.specs.Kinds.{wakes, is_thread_begin, is_thread_return, is_finish, is_done}
 use Rattle.irq_model.specs.Threads.{is_woken, is_running}
@@ -103,7 +105,7 @@ any_since : (p : Entry → Bool) (b : Bool) (e : Entry) (xs : List Entry) → li
 any_since p true e xs = refl
 any_since p false e xs = refl
 
-returned_since : (d : DevNo) (e : Entry) (past : List Entry)
+pub returned_since : (d : DevNo) (e : Entry) (past : List Entry)
     → has_returned (e ∷ past) d ≡ cond (is_thread_begin d e) false (is_thread_return d e || has_returned past d)
 returned_since d e past = any_since (is_thread_return d) (is_thread_begin d e) e (since (is_thread_begin d) past)
 
@@ -168,8 +170,17 @@ dones_of def d = runs_below def (is_done d) (is_thread_begin d) (λ past. one_if
 
 -- ---- the counts of all devices
 
--- the number of the device that an entry of a run names
+-- the number of the device that an entry names
+abbrev pub call_key : CallEntry → ℕ
+call_key (called.Wake woken dev) = dev.0
+call_key (called.Arm makes dev) = dev.0
+call_key (called.Serve dev served) = dev.0
+call_key _ = 0
+
 abbrev pub dev_key : Entry → ℕ
+dev_key (by.CpuCall cpu call) = call_key call
+dev_key (by.ThreadCall dev call) = call_key call
+dev_key (by.DriverCall driver call) = call_key call
 dev_key (by.Driver driver (drivers.Ask makes dev)) = dev.0
 dev_key (by.Cpu cpu (cpus.Begin dev)) = dev.0
 dev_key (by.Cpu cpu (cpus.Return answer dev served)) = dev.0

@@ -45,8 +45,8 @@ pub record CallsAreCounted (def : LineDef) (h : List Entry) : Type 0 where
   pub renewals : count_of (λ e. is_by_any_driver e && is_renewal e) (reverse h)
       ≤ other_calls def
 
--- asks are counted: each ask of a device is either served or unserved, and each run that served
--- something has an ask of its own
+-- asks are counted: each ask of a device is either served or unserved, and each run or call that
+-- served something has an ask of its own
 pub record AsksAreCounted (def : LineDef) (h : List Entry) : Type 0 where
   pub exact : (d : DevNo)
       → total (asks_served d) (reverse h) + unserved_asks def d (reverse h)

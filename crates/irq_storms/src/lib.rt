@@ -10,7 +10,8 @@ ghost use Rattle.irq_base.specs.declared.entries.Entry.{Entry};
 ghost use Rattle.irq_model.specs.Legal.{IsLegal};
 ghost use Rattle.irq_model.specs.RunBounds.{RoundsAreCountedPast};
 ghost use Rattle.irq_model.specs.Valid.{IsValid};
-ghost use Rattle.irq_storms.specs.Storms.{RunsAreCounted, CallsAreCounted, EdgeIsCounted};
+ghost use Rattle.irq_storms.specs.Storms.{RunsAreCounted, CallsAreCounted, AsksAreCounted};
+ghost use Rattle.irq_storms.specs.Storms.{EdgeIsCounted};
 
 /// Runs are counted: a round calls each device's handler once at most, and has one end at most; a
 /// thread runs no more often than it was woken.
@@ -23,6 +24,13 @@ pub fn runs_are_counted()
 /// these starts the line, links a device or hands in a moment.
 pub fn calls_are_counted()
     ensures law { (def : LineDef) (h : List Entry) → IsLegal def h → CallsAreCounted def h }
+{}
+
+/// Asks are counted: each ask of a device is either served or unserved, and each run or call that
+/// served something has an ask of its own.
+pub fn asks_are_counted()
+    ensures law { (def : LineDef) (h : List Entry) → IsValid def → IsLegal def h
+        → AsksAreCounted def h }
 {}
 
 /// The rounds of an edge line are counted: with the places where an interrupt waits for one, they

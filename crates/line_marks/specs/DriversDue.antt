@@ -1,5 +1,6 @@
 -- The entry that is due of a driver, read off its due call and the state of the line.
-use Rattle.std.specs.Prelude.{ℕ, not, if◌then◌else◌, is_some, Option, Some, None, option_map}
+use Rattle.std.specs.Prelude.{ℕ, Bool, true, not, if◌then◌else◌, is_some, Option, Some, None}
+use Rattle.std.specs.Prelude.{option_map}
 use Rattle.irq_base.specs.declared.calls.Call.{Call}
 use Rattle.irq_base.specs.declared.calls.Call.TheVariants as calls
 use Rattle.irq_base.specs.declared.calls.Flags.{Flags}
@@ -14,6 +15,7 @@ use Rattle.irq_base.specs.declared.lines.LineDef.{LineDef}
 use Rattle.irq_base.specs.declared.numbers.DevNo.{DevNo}
 use Rattle.irq_base.specs.declared.numbers.DriverNo.{DriverNo}
 use Rattle.irq_model.specs.Kinds.{opened_by_enable}
+use Rattle.irq_model.specs.Lines.{has_device}
 use Rattle.act_list.specs.Actions.{is_bare, answer_by}
 use Rattle.affinity.specs.Seen.{set_answer}
 use Rattle.desc_state.specs.Desc.{resend_by, enable_by}
@@ -49,3 +51,8 @@ driver_due def s r (Some (calls.Affinity mask, n)) =
     Some (by.Driver r (drivers.Affinity (set_answer s.aim mask) mask))
 driver_due def s r (Some (calls.Moment at, n)) = Some (by.Driver r (drivers.Moment at))
 driver_due def s r (Some due) = option_map (by.DriverCall r) (step_by def s due)
+
+-- a call that asks asks a device of the line
+abbrev pub asks_own : LineDef → Option (Call × ℕ) → Bool
+asks_own def (Some (calls.Ask d, n)) = has_device def d
+asks_own def _ = true

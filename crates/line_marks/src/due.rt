@@ -1,6 +1,6 @@
 //! What is due of each actor is read off the state and the drivers' places. And an entry that is
 //! due meets what the functions of the state expect of it.
-ghost use Rattle.std.specs.Prelude.{◌≡◌, ℕ, ◌≤◌, Bool, List, Option, length};
+ghost use Rattle.std.specs.Prelude.{◌≡◌, ℕ, ◌≤◌, Bool, true, List, Option, length};
 ghost use Rattle.irq_base.specs.declared.calls.Call.{Call};
 ghost use Rattle.irq_base.specs.declared.calls.Flags.{Flags};
 ghost use Rattle.irq_base.specs.declared.entries.Actor.{Actor};
@@ -29,7 +29,7 @@ ghost use Rattle.line_marks.specs.Acts.{arrived, moved, entered, handling_from, 
 ghost use Rattle.line_marks.specs.Acts.{killed_by, killed_if, left_by, left_at, gone_on};
 ghost use Rattle.line_marks.specs.Acts.{linked_at, activated_if, opened_to};
 ghost use Rattle.line_marks.specs.CpuDue.{cpu_due, is_held, note_by, end_with};
-ghost use Rattle.line_marks.specs.DriversDue.{driver_due, opened_by};
+ghost use Rattle.line_marks.specs.DriversDue.{asks_own, driver_due, opened_by};
 ghost use Rattle.line_marks.specs.Due.{thread_due};
 ghost use Rattle.line_marks.specs.Expected.{IsExpected};
 ghost use Rattle.line_marks.specs.Line.{IsLine};
@@ -47,7 +47,8 @@ pub fn thread_due_is_told()
 {}
 
 /// What is due of a processor: in its flow the next call of the handler at work or its return, the
-/// next handler's begin, or the end by the line's flow; else the take of what is presented or resent.
+/// next handler's begin, or the end by the line's flow; else the take of what is presented or
+/// resent.
 #[tactic(auto, using(crate::proofs::CpuDueIs::cpu_due_is))]
 pub fn cpu_due_is_told()
     ensures law { (def : LineDef) (past : List Entry) (c : CpuNo) → IsValid def
@@ -55,11 +56,12 @@ pub fn cpu_due_is_told()
         → next_past def past (actors.Cpu c) ≡ cpu_due def (state_of def past) c }
 {}
 
-/// What is due of a driver, by its due call and how many entries the call has made: all calls.
+/// What is due of a driver, by its due call and how many entries the call has made: all calls, but
+/// for an ask of a device that the line lacks, which is due of nobody.
 #[tactic(auto, using(crate::proofs::DriversDueIs::driver_due_is, crate::proofs::DriversDueIs::driver_is))]
 pub fn driver_due_is_told()
     ensures calls { (def : LineDef) (past : List Entry) (r : DriverNo) (o : Option (Call × ℕ))
-        → IsValid def → IsLegalPast def past
+        → IsValid def → IsLegalPast def past → asks_own def o ≡ true
         → next_of_driver def r past o ≡ driver_due def (state_of def past) r o }
     ensures law { (def : LineDef) (past : List Entry) (r : DriverNo) → IsValid def
         → IsLegalPast def past

@@ -10,7 +10,7 @@ ghost use Rattle.irq_base.specs.declared.numbers.DriverNo.{DriverNo};
 ghost use Rattle.irq_model.specs.Due.{due_call, holds_mutex};
 ghost use Rattle.irq_model.specs.Kinds.{is_by_driver};
 ghost use Rattle.irq_model.specs.Legal.{IsLegalPast};
-ghost use Rattle.irq_model.specs.Links.{is_none_linked, is_oneshot};
+ghost use Rattle.irq_model.specs.Links.{depth, is_none_linked, is_oneshot};
 ghost use Rattle.irq_model.specs.Next.{next_past};
 ghost use Rattle.irq_model.specs.Rounds.{at_work};
 ghost use Rattle.irq_model.specs.Up.{is_up};
@@ -122,6 +122,15 @@ pub fn active_follows()
 pub fn up_is()
     ensures law { (def : LineDef) (past : List Entry) → IsValid def → IsLegalPast def past
         → is_up past ≡ up_by (is_none_linked past) (freeing past) }
+{}
+
+/// A line that isn't disabled is active: something is linked, and what is linked was activated.
+#[tactic(auto, using(crate::proofs::UpFollow::enabled_is_up, crate::proofs::UpFollow::linked_is_up))]
+pub fn enabled_is_active()
+    ensures law { (def : LineDef) (past : List Entry) → IsValid def → IsLegalPast def past
+        → depth past ≡ 0 → is_up past ≡ true }
+    ensures linked { (def : LineDef) (past : List Entry) → IsValid def → IsLegalPast def past
+        → is_none_linked past ≡ false → is_up past ≡ true }
 {}
 
 /// The round: the handler at work, whether some handler woke a thread or handled, and the greatest

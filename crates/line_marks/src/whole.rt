@@ -67,7 +67,8 @@ pub fn cell_is_open()
         → IsOpen def (state_of def past) }
 {}
 
-/// The level of a level line is high exactly while some device that isn't quiet has an unserved ask.
+/// The level of a level line is high exactly while some device that isn't quiet has an unserved
+/// ask.
 #[tactic(auto, using(crate::proofs::CellFollows::high_is))]
 pub fn levels_are_told()
     ensures law { (def : LineDef) (past : List Entry)

@@ -2,3 +2,4 @@ pub mod Digits
 pub mod LastLaws
 pub mod Passing
 pub mod RowWords
+pub mod WordKinds

@@ -41,15 +41,15 @@ served_of (kinds.Return served) = served
 served_of (kinds.ThreadReturn served) = served
 served_of _ = 0
 
--- the counts with one entry more
-abbrev pub counts_with : Counts → EntryKind → Counts
-counts_with c k =
+-- the counts with one entry more, of this kind; a call has served so many asks
+abbrev pub counts_with : Counts → EntryKind → ℕ → Counts
+counts_with c k called =
     record {
       asks = c.asks + asks_of k;
       takes = c.takes + takes_of k;
       runs = c.runs + runs_of k;
       threads = c.threads + thread_runs_of k;
-      served = c.served + served_of k;
+      served = c.served + (served_of k + called);
     }
 
 -- the counts as words of a row, each behind its name

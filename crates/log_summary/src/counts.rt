@@ -15,7 +15,7 @@ pub(crate) struct Counts {
     pub(crate) runs: u64,
     /// Runs of threads.
     pub(crate) threads: u64,
-    /// Asks that all these runs served.
+    /// Asks that all these runs, and calls, served.
     pub(crate) served: u64,
 }
 
@@ -33,14 +33,15 @@ impl Counts {
         }
     }
 
-    /// Counts one more entry of this kind.
-    pub(crate) fn add(&mut self, kind: EntryKind)
+    /// Counts one more entry of this kind. `called`: how many asks a call has served.
+    pub(crate) fn add(&mut self, kind: EntryKind, called: u32)
         requires runs { (self.old.runs < 2 ^ 32) × (self.old.threads < 2 ^ 32) }
         requires others { (self.old.asks < 2 ^ 32) × (self.old.takes < 2 ^ 32) }
         requires served { self.old.served < 2 ^ 63 }
-        ensures with { self.new ≡ counts_with self.old kind }
-        ensures few { self.new.served < self.old.served + 2 ^ 32 }
+        ensures with { self.new ≡ counts_with self.old kind called }
+        ensures few { self.new.served < self.old.served + 2 ^ 33 }
     {
+        self.served += u64::from(called);
         match kind {
             EntryKind::Ask => self.asks += 1,
             EntryKind::Take => self.takes += 1,

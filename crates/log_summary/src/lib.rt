@@ -8,6 +8,7 @@
 mod counts;
 mod lasts;
 mod pieces;
+mod serving;
 mod standing;
 mod summaries;
 

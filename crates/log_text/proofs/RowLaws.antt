@@ -1,5 +1,5 @@
 -- Different entries have different rows, and different histories different texts.
-use Rattle.std.proofs.Common.{◌≡◌, ℕ, ◌+◌, true, cond, eqb, List, [], ◌∷◌, ◌++◌}
+use Rattle.std.proofs.Common.{◌≡◌, ℕ, cond, eqb, List, [], ◌∷◌, ◌++◌}
 use Rattle.std.proofs.Common.{codes, decimal, drop, get_or, append_assoc, refl, ap, ◌∙◌, sym, arith, nat_lt}
 use Rattle.std.specs.List.{All, join_with_byte, AllByRecursion}
 use Rattle.std.proofs.lemmas.List.Elements.{recursion_from_All}

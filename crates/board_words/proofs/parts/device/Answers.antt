@@ -1,4 +1,4 @@
-use Rattle.std.proofs.Common.{◌≡◌, ◌||◌, Bool, true, false, cond, codes, refl, sym, ap, ◌∙◌, get_or, []}
+use Rattle.std.proofs.Common.{◌≡◌, ◌||◌, Bool, true, false, cond, codes, refl, sym, ap, ◌∙◌, []}
 use Rattle.board_words.specs.Forms as forms
 use Rattle.board_words.specs.Seen.{words_left}
 use Rattle.board_words.specs.Statements as said

@@ -1,12 +1,9 @@
-use Rattle.std.proofs.Common.{◌≡◌, None, refl, sym, ap, ◌∙◌, drop}
-use Rattle.irq_base.specs.declared.devices.Part.{Part}
+use Rattle.std.proofs.Common.{◌≡◌, None, refl, sym, ap, ◌∙◌}
 use Rattle.board_words.specs.Forms as forms
 use Rattle.board_words.specs.Seen.{words_left}
 use Rattle.board_words.specs.Statements as said
-use Rattle.board_words.specs.declared.statements.Statement.{Statement}
-use Rattle.board_words.specs.declared.statements.Statement.TheVariants as statements
 use Rattle.board_words.proofs.CallStatements.{outcome_is_ok, outcome_is_err}
-use Rattle.board_words.proofs.Order.{step, none_before, none_before_all, whole, left, next_number}
+use Rattle.board_words.proofs.Order.{step, none_before_all, whole, left, next_number}
 use Rattle.board_words.proofs.reading.read_answers.Goals as goal
 
 pub returns-in-Ok-give : goal.returns-in-Ok-give

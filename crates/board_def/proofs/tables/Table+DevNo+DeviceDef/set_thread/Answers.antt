@@ -1,6 +1,5 @@
 use Rattle.std.proofs.Common.{◌≡◌, ◌∙◌, ◌<◌, All, Some, None, List, ap, sym, subst}
 use Rattle.irq_base.specs.declared.devices.DeviceDef.{DeviceDef}
-use Rattle.irq_base.specs.declared.numbers.DevNo.{DevNo}
 use Rattle.irq_model.specs.Kinds.{same_dev}
 use Rattle.domain_rules.specs.Domains.{EachAfter}
 use Rattle.board_def.specs.Rules.{find_device}

@@ -10,14 +10,14 @@ use Rattle.line_core.proofs.Stepping.{line_of, IsDueStep, IsAdded, adds_due}
 use Rattle.line_core.specs.Room.{HasRoom}
 use Rattle.line_core.specs.Seen.{WiredSeen}
 use Rattle.line_scripts.specs.Rows.{call_of}
-use Rattle.line_state.specs.declared.due.CallStep.TheVariants as made
+use Rattle.line_state.specs.declared.due.DriverStep.TheVariants as made
 use Rattle.line_state.specs.declared.due.DueStep.TheVariants as steps
 use Rattle.line_core.proofs.line.Line.ask.Goals as goal
 
 pub put_ask-requires-clause-call : goal.put_ask-requires-clause-call
 put_ask-requires-clause-call g c =
     let line : LineSeen = line_of c.self.inside.def c.self.inside.history in
-    let b : Beside line.def line.entries = record { state = c.self.inside.state.state; scripts = c.self.inside.scripts; is = c.self.invariant } in
+    let b : Beside line.def line.entries = record { seen = c.self.inside.state; scripts = c.self.inside.scripts; is = c.self.invariant } in
     let there : call_of c.self.inside.scripts c.args.driver ≡ Some (calls.Ask c.args.dev)
     = call_there line.def line.entries b c.args.driver (calls.Ask c.args.dev)
     (subst (λ (w : WiredSeen). option_map (λ (x : Call × ℕ). x.0) (due_call w.line.def c.args.driver (reverse w.line.entries))
@@ -27,13 +27,13 @@ put_ask-requires-clause-call g c =
 pub returns-clause-adds : goal.returns-clause-adds
 returns-clause-adds g c =
     let line : LineSeen = line_of c.self.inside.def c.self.inside.history in
-    let b : Beside line.def line.entries = record { state = c.self.inside.state.state; scripts = c.self.inside.scripts; is = c.self.invariant } in
+    let b : Beside line.def line.entries = record { seen = c.self.inside.state; scripts = c.self.inside.scripts; is = c.self.invariant } in
     let there : call_of c.self.inside.scripts c.args.driver ≡ Some (calls.Ask c.args.dev)
     = call_there line.def line.entries b c.args.driver (calls.Ask c.args.dev)
     (subst (λ (w : WiredSeen). option_map (λ (x : Call × ℕ). x.0) (due_call w.line.def c.args.driver (reverse w.line.entries))
     ≡ Some (calls.Ask c.args.dev)) (sym c.self.view_is) c.requires.call) in
     let who = actors.Driver c.args.driver in
-    let step = steps.Call c.args.driver (made.Ask c.args.dev) in
+    let step = steps.Driver c.args.driver (made.Ask c.args.dev) in
     let due : IsDueStep line who step = ask_due line.def line.entries b c.args.driver c.args.dev there in
     let e = c.put_ask.result in
     let new : LineSeen = line_of c.self.inside.def c.put_ask.new.history in
