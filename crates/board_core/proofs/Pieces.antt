@@ -1,5 +1,5 @@
 -- The log's pieces.
-use Rattle.std.proofs.Common.{◌≡◌, ℕ, ◌+◌, ◌%◌, ◌≤◌, ◌<◌, List, [], length, sym, ap, subst, arith}
+use Rattle.std.proofs.Common.{◌≡◌, ℕ, ◌+◌, ◌%◌, ◌≤◌, ◌<◌, List, [], length, sym, subst, arith}
 use Rattle.board_core.specs.Pieces.{EndsPiece, piece_end, IsPieced}
 
 -- one more move fits

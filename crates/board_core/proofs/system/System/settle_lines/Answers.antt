@@ -1,4 +1,4 @@
-use Rattle.std.proofs.Common.{◌≡◌, ℕ, ◌<◌, Ok, sym, ap, ◌∙◌, subst}
+use Rattle.std.proofs.Common.{ℕ, ◌<◌, Ok, sym, ap, ◌∙◌, subst}
 use Rattle.board_core.proofs.Handing.{handed_on}
 use Rattle.board_core.proofs.LowestTurns.{lowest_turn, lowest_keeps_board, lowest_keeps_layout, room_falls}
 use Rattle.board_core.proofs.Room.{room_of, room_same}
