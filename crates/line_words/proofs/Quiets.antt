@@ -4,7 +4,7 @@ use Rattle.std.specs.List.{list_any}
 use Rattle.irq_base.specs.declared.calls.Call.{Call}
 use Rattle.irq_base.specs.declared.numbers.DriverNo.{DriverNo}
 use Rattle.irq_model.proofs.Lists.{next_item}
-use Rattle.line_words.specs.Words.{has_some, is_quiet_call}
+use Rattle.line_words.specs.Words.{is_quiet_call}
 
 abbrev pub any_from : List (DriverNo × Call) → ℕ → Bool
 any_from cs i = list_any (λ (c : DriverNo × Call). is_quiet_call c.1) (drop i cs)

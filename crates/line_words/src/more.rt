@@ -1,5 +1,5 @@
 //! What only some lines need: how far the runs are, and which devices are quiet.
-ghost use Rattle.std.specs.Prelude.{◌≡◌, ◌≤◌, ◌++◌, [], length, not, ◌==◌, OnOk};
+ghost use Rattle.std.specs.Prelude.{◌≡◌, ◌≤◌, ◌++◌, [], ◌∷◌, true, length, OnOk};
 ghost use Rattle.std.specs.List.{list_any};
 ghost use Rattle.ask_counts.specs.Rows.{turned_off};
 ghost use Rattle.device_table.specs.Rows.{change};
@@ -262,11 +262,7 @@ fn work_words(state: &LineState<Cell>) -> [u32; 2]
 }
 
 /// Writes how far the runs are, and which devices are quiet. The only error is `NoMemory`.
-fn write_all(
-    state: &LineState<Cell>,
-    def: &LineDef,
-    words: &mut Vec<u32>,
-) -> Result<(), NoMemory>
+fn write_all(state: &LineState<Cell>, def: &LineDef, words: &mut Vec<u32>) -> Result<(), NoMemory>
     ensures { OnOk result (words.new.items
         ≡ words.old.items ++ more_told true def.now (canon state.now.state) []) }
 {

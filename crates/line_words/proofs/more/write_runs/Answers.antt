@@ -1,4 +1,4 @@
-use Rattle.std.proofs.Common.{ℕ, List, Vec, Global, ◌++◌, refl, ap, sym, ◌∙◌, arith}
+use Rattle.std.proofs.Common.{ℕ, List, [], Vec, Global, ◌++◌, refl, ap, sym, ◌∙◌, arith}
 use Rattle.device_table.proofs.Steps.{none_left}
 use Rattle.line_futures.specs.Canon.{canon}
 use Rattle.line_words.proofs.Loops.{rows_next}
