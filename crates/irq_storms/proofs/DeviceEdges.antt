@@ -306,7 +306,7 @@ module _ (def : LineDef) (runs : HasValidRuns def) where
 
 -- ---- the arms of drivers
 
-abbrev driver_arms : Entry → ℕ
+abbrev pub driver_arms : Entry → ℕ
 driver_arms (by.DriverCall driver call) = one_if (arms_with_edge call)
 driver_arms _ = 0
 
@@ -337,7 +337,7 @@ arms_alone : (e : Entry) → is_by_any_driver e ≡ false → driver_arms e ≡ 
 arms_alone (by.DriverCall r call) other = cc
 arms_alone e other = refl
 
-arms_of_drivers : (def : LineDef) (past : List Entry) → IsLegalPast def past → total driver_arms past ≤ count_of (λ c. is_arm_call c.1) def.calls
+pub arms_of_drivers : (def : LineDef) (past : List Entry) → IsLegalPast def past → total driver_arms past ≤ count_of (λ c. is_arm_call c.1) def.calls
 arms_of_drivers def past legal =
     let all = of_drivers driver_arms (λ c. one_if (is_arm_call c))
     (runs_cost (λ call. one_if (arms_with_edge call)) (λ c. one_if (is_arm_call c)) arm_steps driver_arms arm_step)
@@ -358,7 +358,7 @@ edge_more (by.ThreadCall x call) = omega arith
 edge_more (by.DriverCall r call) = omega arith
 edge_more e = omega arith
 
-edges_past : (past : List Entry) → count_of is_device_edge past ≤ count_of is_any_ask past + total driver_arms past + total run_arms past
+pub edges_past : (past : List Entry) → count_of is_device_edge past ≤ count_of is_any_ask past + total driver_arms past + total run_arms past
 edges_past [] = omega arith
 edges_past (e ∷ past) =
     let r = edges_past past in
