@@ -162,7 +162,7 @@ module _ (def : LineDef) (runs : HasValidRuns def) where
 
   both_arms : (k : ℕ) (past : List Entry) → IsLegalPast def past
       → total_at dev_key run_arms k past ≤ sum_over (λ e past. handler_arms (record { 0 = k }) e) past + sum_over
-          (λ e past. thread_arms (record { 0 = k }) e) past
+      (λ e past. thread_arms (record { 0 = k }) e) past
   both_arms k past legal =
       let a = sum_alone (λ e. cond (k == dev_key e) (run_arms e) 0) past in
       let s = sum_below def (λ e past. cond (k == dev_key e) (run_arms e) 0)
@@ -293,7 +293,7 @@ module _ (def : LineDef) (runs : HasValidRuns def) where
   arms_of_runs past valid legal =
       let all = totals_by_key dev_key run_arms past number (λ x. edges_of x.dev) def.devices each in
       let same = total_kinds def.devices (λ x. edges_of x.dev) (λ x. edges_by_arms def x.dev x.kind)
-          (edges_are def.devices (own_kinds def.devices valid.distinct)) in
+      (edges_are def.devices (own_kinds def.devices valid.distinct)) in
       omega (arith, all, same)
     where
       each : (k : ℕ) → total_at dev_key run_arms k past ≤ total_at number (λ x. edges_of x.dev) k def.devices

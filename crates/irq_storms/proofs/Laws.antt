@@ -12,7 +12,7 @@ use Rattle.irq_model.specs.Masks.{is_masked}
 use Rattle.irq_model.specs.Rounds.{has_flow}
 use Rattle.irq_model.specs.Next.{next, next_past}
 use Rattle.irq_model.specs.Legal.{IsDue, IsLegal, IsLegalPast}
-use Rattle.irq_model.specs.Lines.{is_edge_line, is_level_line, is_level_flow, is_eoi_flow}
+use Rattle.irq_model.specs.Lines.{is_edge_line, is_level_flow, is_eoi_flow}
 use Rattle.irq_model.specs.RunBounds.{run_edge_bound, run_level_bound, EnablesOnlyItsOwn}
 use Rattle.irq_model.specs.Valid.{IsValid}
 use Rattle.irq_model.specs.ValidRuns.{HasValidRuns}

@@ -1,7 +1,7 @@
 -- The rounds of a line whose runs start it seldom after a kill, by its window; and the length of a
 -- level line's histories by its rounds.
-use Rattle.std.proofs.Common.{◌≡◌, ℕ, ◌+◌, ◌*◌, ◌≤◌, Bool, true, false, not, ◌||◌, ◌&&◌, cond, List, [], ◌∷◌, length, refl, sym, ap, ◌∙◌, arith}
-use Rattle.std.proofs.Math.Nat.{mul-add, add-mul, mul-le-mul_left, mul-le-mul_right, mul_assoc, mul_comm, mul-one}
+use Rattle.std.proofs.Common.{◌≡◌, ℕ, ◌+◌, ◌*◌, ◌≤◌, Bool, true, false, not, ◌||◌, ◌&&◌, List, [], ◌∷◌, length, refl, sym, ap, ◌∙◌, arith}
+use Rattle.std.proofs.Math.Nat.{add-mul, mul-le-mul_left, mul_assoc, mul_comm}
 use Rattle.irq_base.specs.declared.lines.LineDef.{LineDef}
 use Rattle.irq_base.specs.declared.entries.Entry.{Entry}
 use Rattle.irq_base.specs.declared.entries.Entry.TheVariants as by
@@ -9,10 +9,10 @@ use Rattle.irq_base.specs.declared.entries.CpuEntry.TheVariants as cpus
 use Rattle.irq_base.specs.declared.entries.TakeAnswer.TheVariants as takes
 use Rattle.irq_model.specs.Places.{stands, count_of}
 use Rattle.irq_model.specs.Kinds.{is_take, is_handle, is_busy, is_off, is_again, is_kill, is_start, is_linked_request}
-use Rattle.irq_model.specs.Lines.{is_edge_line, is_level_line, is_eoi_flow}
+use Rattle.irq_model.specs.Lines.{is_level_line, is_eoi_flow}
 use Rattle.irq_model.specs.Rounds.{begins_round, has_flow}
 use Rattle.irq_model.specs.Bounds.{ask_calls, other_calls}
-use Rattle.irq_model.specs.RunBounds.{round_weight, told_handled, run_level_bound}
+use Rattle.irq_model.specs.RunBounds.{told_handled}
 use Rattle.irq_model.specs.Spurious.{counts_of}
 use Rattle.irq_model.specs.Legal.{IsLegalPast}
 use Rattle.irq_model.specs.Valid.{IsValid}
@@ -30,7 +30,7 @@ use Rattle.irq_storms.proofs.EndCounts.{where_more, handled_past, deferred_past,
 use Rattle.irq_storms.proofs.HandledRuns.{handled_past as handled_runs}
 use Rattle.irq_storms.proofs.LongBound.{by_rounds}
 use Rattle.irq_storms.proofs.WakeCosts.{thread_weight}
-use Rattle.irq_storms.proofs.WeightSums.{all_handlers, round_pays, calls_paid}
+use Rattle.irq_storms.proofs.WeightSums.{all_handlers}
 
 -- ---- each end is judged one way
 

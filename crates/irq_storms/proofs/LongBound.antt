@@ -140,7 +140,7 @@ module _ (def : LineDef) where
       let s = sum_below def (λ e past. run_pays def h e) (λ e past. begin_pays def handler_weight e) (λ e past legal. pays_same e) past legal in
       let b = begins_paid def handler_weight past valid legal in
       let d = of_drivers (driver_cost h) (driver_weight h) (driver_call h) (drivers_cost_alone h) def past
-          (λ q. follows_past def past legal (actors.Driver q)) in
+      (λ q. follows_past def past legal (actors.Driver q)) in
       let e = rounds_past def past legal in
       omega (arith, n, a, t, r, s, b, d, e)
 
@@ -169,12 +169,14 @@ module _ (def : LineDef) where
 
   -- they are no more than what the rounds and the drivers' calls pay for
   pub run_calls_paid : (past : List Entry) → IsValid def → HasValidRuns def → IsLegalPast def past
-      → count_of is_run_call past ≤ total (λ x. handler_weight x.dev) def.devices * count_of (begins_round def) past + total (λ c. driver_weight h c.1) def.calls
+      → count_of is_run_call past ≤ total (λ x. handler_weight x.dev) def.devices * count_of (begins_round def) past +
+      total (λ c. driver_weight h c.1) def.calls
   run_calls_paid past valid runs legal =
       let a = run_calls_costs past runs legal in
       let t = threads_paid def past legal in
       let r = runs_paid def h past legal in
       let s = sum_below def (λ e past. run_pays def h e) (λ e past. begin_pays def handler_weight e) (λ e past legal. pays_same e) past legal in
       let b = begins_paid def handler_weight past valid legal in
-      let d = of_drivers (driver_cost h) (driver_weight h) (driver_call h) (drivers_cost_alone h) def past (λ q. follows_past def past legal (actors.Driver q)) in
+      let d = of_drivers (driver_cost h) (driver_weight h) (driver_call h) (drivers_cost_alone h) def past
+      (λ q. follows_past def past legal (actors.Driver q)) in
       omega (arith, a, t, r, s, b, d)

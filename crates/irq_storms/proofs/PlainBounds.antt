@@ -88,7 +88,7 @@ plain_edge def plain =
 plain_level : (def : LineDef) → HasPlainRuns def → is_edge_line def ≡ false → run_level_bound def ≡ level_bound def
 plain_level def plain level =
     ap (λ (b : Bool). round_weight def * (ask_calls def + other_calls def + told_handled def + 1) * (2 * def.window + 5)
-        * cond (b && is_eoi_flow def.flow) 2 1) level
+    * cond (b && is_eoi_flow def.flow) 2 1) level
     ∙ mul-one (round_weight def * (ask_calls def + other_calls def + told_handled def + 1) * (2 * def.window + 5))
     ∙ ap (λ (n : ℕ). n * (ask_calls def + other_calls def + told_handled def + 1) * (2 * def.window + 5)) (plain_round def plain)
     ∙ ap (λ (n : ℕ). (6 * length def.devices + 8) * n * (2 * def.window + 5)) (let t = plain_told def plain in omega (arith, t))

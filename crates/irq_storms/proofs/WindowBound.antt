@@ -7,7 +7,7 @@ use Rattle.irq_base.specs.declared.lines.LineDef.{LineDef}
 use Rattle.irq_base.specs.declared.entries.Entry.{Entry}
 use Rattle.irq_base.specs.declared.entries.Entry.TheVariants as by
 use Rattle.irq_model.specs.Places.{count_of}
-use Rattle.irq_model.specs.Kinds.{is_take, is_again, arms_with_edge}
+use Rattle.irq_model.specs.Kinds.{is_again, arms_with_edge}
 use Rattle.irq_model.specs.Lines.{is_edge_line, is_level_line, is_edge_flow, is_level_flow, is_eoi_flow}
 use Rattle.irq_model.specs.Rounds.{begins_round}
 use Rattle.irq_model.specs.Bounds.{ask_calls, other_calls}
@@ -17,7 +17,7 @@ use Rattle.irq_model.specs.Valid.{IsValid}
 use Rattle.irq_model.specs.ValidRuns.{HasValidRuns}
 use Rattle.irq_storms.specs.Judged.{one_if, count_where, starts_killed}
 use Rattle.irq_storms.specs.Tests.{is_end, total}
-use Rattle.irq_storms.proofs.Counting.{count_more, count_imply}
+use Rattle.irq_storms.proofs.Counting.{count_imply}
 use Rattle.irq_storms.proofs.RunCounts.{rounds_past}
 use Rattle.irq_storms.proofs.CallCosts.{driver_weight}
 use Rattle.irq_storms.proofs.CallCounts.{asks_of_drivers}
