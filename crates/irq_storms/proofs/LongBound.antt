@@ -1,10 +1,9 @@
 -- How long a history is: by its takes, by its rounds, and by the calls of drivers.
-use Rattle.std.proofs.Common.{◌≡◌, ℕ, ◌+◌, ◌*◌, ◌≤◌, Bool, true, false, cond, Option, Some, List, [], ◌∷◌, length, refl, sym, ap, ◌∙◌, subst, arith}
+use Rattle.std.proofs.Common.{◌≡◌, ℕ, ◌+◌, ◌*◌, ◌≤◌, Bool, true, false, cond, Option, Some, List, [], ◌∷◌, length, refl, ap, ◌∙◌, arith}
 use Rattle.irq_base.specs.declared.numbers.DevNo.{DevNo}
 use Rattle.irq_base.specs.declared.calls.Call.{Call}
 use Rattle.irq_base.specs.declared.calls.Call.TheVariants as calls
 use Rattle.irq_base.specs.declared.devices.Kind.{Kind}
-use Rattle.irq_base.specs.declared.devices.Answer.{Answer}
 use Rattle.irq_base.specs.declared.devices.Part.TheVariants as parts
 use Rattle.irq_base.specs.declared.lines.LineDef.{LineDef}
 use Rattle.irq_base.specs.declared.entries.Actor.TheVariants as actors
@@ -31,7 +30,7 @@ use Rattle.irq_storms.proofs.Counting.{count_more}
 use Rattle.irq_storms.proofs.RunCounts.{rounds_past}
 use Rattle.irq_storms.proofs.Weights.{of_drivers}
 use Rattle.irq_storms.proofs.Paying.{sum_over, sum_below}
-use Rattle.irq_storms.proofs.CallCosts.{starting_cost, step_cost, wake_cost, call_cost, driver_cost, driver_weight, driver_call, drivers_cost_alone}
+use Rattle.irq_storms.proofs.CallCosts.{starting_cost, wake_cost, driver_cost, driver_weight, driver_call, drivers_cost_alone}
 use Rattle.irq_storms.proofs.HandlerRuns.{script_cost, run_cost, run_pays, runs_paid}
 use Rattle.irq_storms.proofs.BeginCosts.{begin_pays, begins_paid}
 use Rattle.irq_storms.proofs.WakeCosts.{thread_weight, of_thread, wake_pays, threads_paid}
@@ -134,6 +133,7 @@ module _ (def : LineDef) where
       let r = runs_paid def h past legal in
       let s = sum_below def (λ e past. run_pays def h e) (λ e past. begin_pays def handler_weight e) (λ e past legal. pays_same e) past legal in
       let b = begins_paid def handler_weight past valid legal in
-      let d = of_drivers (driver_cost h) (driver_weight h) (driver_call h) (drivers_cost_alone h) def past (λ q. follows_past def past legal (actors.Driver q)) in
+      let d = of_drivers (driver_cost h) (driver_weight h) (driver_call h) (drivers_cost_alone h) def past
+          (λ q. follows_past def past legal (actors.Driver q)) in
       let e = rounds_past def past legal in
       omega (arith, n, a, t, r, s, b, d, e)
