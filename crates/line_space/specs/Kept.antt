@@ -8,5 +8,8 @@ use Rattle.line_space.specs.declared.space.LineSpace.TheInside.{Inside}
 -- the definition is valid, the drivers are those of its calls, and states of the line can be read
 pub record IsSpace (s : Inside) : Type 0 where
   pub valid : IsValid s.def
+  pub valid_runs : HasValidRuns s.def
+  pub waits : NeverWaits s.def
+  pub more : s.more ≡ has_more s.def
   pub drivers : s.drivers.items ≡ drivers_in s.def.calls
   pub scratch : IsKept s.def s.scratch

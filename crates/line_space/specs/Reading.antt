@@ -17,6 +17,7 @@ use Rattle.line_space.specs.declared.scratch.Scratch.{Scratch}
 -- numbers of the line can be read into it
 pub record IsKept (def : LineDef) (s : Scratch) : Type 0 where
   pub tables : HasTables def s.state.state
+  pub runs : AreRunsOf def (runs_seen s.state)
   pub scripts : AreScripts def s.scripts
 
 -- these numbers were read: for each past that has them it is the canonical state, and the drivers
@@ -25,5 +26,6 @@ pub record IsRead (def : LineDef) (ws : List ℕ) (s : Scratch) : Type 0 where
   pub kept : IsKept def s
   pub state : (past : List Entry) → IsLegalPast def past → ws ≡ node def past
       → unbitted s.state.state ≡ canon (state_of def past)
+  pub active : s.state.state.active ≡ true
   pub places : (past : List Entry) → IsLegalPast def past → ws ≡ node def past → (r : DriverNo)
       → IsAt def past r (place_of s.scripts r) (within_of s.scripts r)

@@ -22,12 +22,16 @@ use state_search::Found;
 pub(crate) fn add_due(
     scratch: &mut Scratch,
     def: &LineDef,
+    more: bool,
     drivers: &[DriverNo],
     words: &[u32],
     actor: Actor,
     found: &mut Found<Entry>,
 ) -> Result<(), NoMemory>
     requires valid { IsValid def.now }
+    requires runs { HasValidRuns def.now }
+    requires waits { NeverWaits def.now }
+    requires more { more ≡ has_more def.now }
     requires drivers { drivers.now ≡ drivers_in def.now.calls }
     requires reached { IsReached def.now words.now }
     requires read { IsRead def.now words.now scratch.old }
@@ -42,7 +46,7 @@ pub(crate) fn add_due(
     };
     let entry = scratch.state.make(def, step);
     advance(&mut scratch.scripts, actor, &entry);
-    scratch.add(def, drivers, entry, found)
+    scratch.add(def, more, drivers, entry, found)
 }
 
 /// Adds the entries that are due of these actors in the state with these numbers, which were read.
@@ -50,12 +54,16 @@ pub(crate) fn add_due(
 pub(crate) fn add_all(
     scratch: &mut Scratch,
     def: &LineDef,
+    more: bool,
     drivers: &[DriverNo],
     words: &[u32],
     actors: &[Actor],
     found: &mut Found<Entry>,
 ) -> Result<(), NoMemory>
     requires valid { IsValid def.now }
+    requires runs { HasValidRuns def.now }
+    requires waits { NeverWaits def.now }
+    requires more { more ≡ has_more def.now }
     requires drivers { drivers.now ≡ drivers_in def.now.calls }
     requires reached { IsReached def.now words.now }
     requires read { IsRead def.now words.now scratch.old }
@@ -68,10 +76,10 @@ pub(crate) fn add_all(
     let [first, others @ ..] = actors else {
         return Ok(());
     };
-    add_due(scratch, def, drivers, words, *first, found)?;
+    add_due(scratch, def, more, drivers, words, *first, found)?;
     for actor in others {
-        scratch.read(def, drivers, words)?;
-        add_due(scratch, def, drivers, words, *actor, found)?;
+        scratch.read(def, more, drivers, words)?;
+        add_due(scratch, def, more, drivers, words, *actor, found)?;
     }
     Ok(())
 }
