@@ -25,4 +25,4 @@ returns-clause-work g c =
     let line : LineSeen = line_of c.self.inside.def c.self.inside.history in
     let b : Beside line.def line.entries = record { seen = c.self.inside.state; scripts = c.self.inside.scripts; is = c.self.invariant } in
     subst (λ (w : WiredSeen). IfSome c.due_of_cpu.result (IsOfWork (reverse w.line.entries))) c.self.view_is
-    (some_of_work line.def line.entries b c.due_of_cpu.result c.due_of_cpu.ensures.calls)
+    (some_of_work line.def line.entries b c.due_of_cpu.result c.due_of_cpu.ensures.about)
