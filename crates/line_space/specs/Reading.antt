@@ -1,5 +1,5 @@
 -- A state into which numbers were read.
-use Rattle.std.specs.Prelude.{◌≡◌, ℕ, List}
+use Rattle.std.specs.Prelude.{◌≡◌, ℕ, true, List}
 use Rattle.irq_base.specs.declared.entries.Entry.{Entry}
 use Rattle.irq_base.specs.declared.lines.LineDef.{LineDef}
 use Rattle.irq_base.specs.declared.numbers.DriverNo.{DriverNo}
@@ -7,7 +7,9 @@ use Rattle.irq_model.specs.Legal.{IsLegalPast}
 use Rattle.line_futures.specs.Canon.{canon}
 use Rattle.line_marks.specs.Scripts.{IsAt}
 use Rattle.line_marks.specs.State.{state_of}
+use Rattle.run_scripts.specs.Runs.{AreRunsOf}
 use Rattle.line_scripts.specs.Rows.{place_of, within_of}
+use Rattle.line_state.specs.Seen.{runs_seen}
 use Rattle.line_words.specs.Again.{unbitted}
 use Rattle.line_words.specs.Node.{node}
 use Rattle.line_words.specs.Scripts.{AreScripts}

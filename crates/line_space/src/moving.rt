@@ -4,11 +4,13 @@ ghost use Rattle.std.specs.List.{filter};
 ghost use Rattle.irq_base.specs.declared.entries.Entry.{Entry};
 ghost use Rattle.irq_model.specs.Legal.{IsLegalPast};
 ghost use Rattle.irq_model.specs.Valid.{IsValid};
+ghost use Rattle.irq_model.specs.ValidRuns.{HasValidRuns, NeverWaits};
 ghost use Rattle.line_space.specs.Reading.{IsKept, IsRead};
 ghost use Rattle.line_space.specs.Stepping.{IsReached, steps_of, all_steps, actors_by, is_due_in};
 ghost use Rattle.line_space.specs.Stepping.{threads_in, cpus_in, drivers_of};
-ghost use Rattle.line_state.specs.Seen.{taker_of};
+ghost use Rattle.line_state.specs.Seen.{IsScripted, taker_of};
 ghost use Rattle.line_words.specs.Node.{node, drivers_in};
+ghost use Rattle.line_words.specs.Words.{has_more};
 
 use crate::scratch::Scratch;
 use irq_base::{Actor, CpuNo, DriverNo, Entry, LineDef, NoMemory};
@@ -92,7 +94,8 @@ pub(crate) fn push_due(
     scratch: &Scratch,
     asked: &[Actor],
 ) -> Result<(), NoMemory>
-    requires { due.old.items ≡ [] }
+    requires empty { due.old.items ≡ [] }
+    requires scripted { IsScripted def.now scratch.now.state }
     ensures { OnOk result (due.new.items
         ≡ filter (is_due_in def.now scratch.now.state.state scratch.now.scripts) asked.now) }
 {

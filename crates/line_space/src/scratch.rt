@@ -2,12 +2,14 @@
 ghost use Rattle.std.specs.Prelude.{◌≡◌, ◌++◌, ◌∷◌, [], ◌<◌, ◌≤◌, ◌^◌, IfOk, OnOk};
 ghost use Rattle.irq_base.specs.declared.numbers.DriverNo.{DriverNo};
 ghost use Rattle.irq_model.specs.Valid.{IsValid};
+ghost use Rattle.irq_model.specs.ValidRuns.{HasValidRuns};
 ghost use Rattle.line_futures.specs.Canon.{canon};
 ghost use Rattle.line_scripts.specs.Rows.{place_of};
 ghost use Rattle.line_space.specs.Reading.{IsKept, IsRead};
 ghost use Rattle.line_space.specs.Stepping.{IsReached};
 ghost use Rattle.line_words.specs.Node.{drivers_in};
 ghost use Rattle.line_words.specs.Told.{places_told, state_told};
+ghost use Rattle.line_words.specs.Words.{has_more};
 
 use irq_base::{DriverNo, Entry, LineDef, NoMemory};
 use line_cell::Cell;
