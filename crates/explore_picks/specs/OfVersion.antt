@@ -1,6 +1,5 @@
 -- A board has what texts of its version have.
-use Rattle.std.specs.Prelude.{◌≡◌, Bool, true, false, All, List, []}
-use Rattle.std.specs.List.{list_any}
+use Rattle.std.specs.Prelude.{◌≡◌, Bool, true, false, All, []}
 use Rattle.irq_base.specs.declared.calls.Call.{Call}
 use Rattle.irq_base.specs.declared.calls.Call.TheVariants as calls
 use Rattle.irq_base.specs.declared.devices.Kind.{Kind}
@@ -10,13 +9,13 @@ use Rattle.board_def.specs.LineOf.{line_defs_of}
 use Rattle.board_def.specs.Seen.{BoardSeen}
 use Rattle.board_words.specs.Versions.{has_runs}
 
--- a call whose row only logs of version 3 have
-abbrev pub has_new_row : Call → Bool
-has_new_row (calls.Wake dev) = true
-has_new_row (calls.Quiet dev) = true
-has_new_row (calls.Arm dev) = true
-has_new_row (calls.Serve dev) = true
-has_new_row _ = false
+-- a call whose row logs of earlier versions have, too
+abbrev pub has_old_row : Call → Bool
+has_old_row (calls.Wake dev) = false
+has_old_row (calls.Quiet dev) = false
+has_old_row (calls.Arm dev) = false
+has_old_row (calls.Serve dev) = false
+has_old_row _ = true
 
 abbrev pub is_told_kind : Kind → Bool
 is_told_kind (kinds.Told threaded) = true
@@ -27,7 +26,7 @@ is_told_kind _ = false
 pub record HasOldRows (def : LineDef) : Type 0 where
   pub runs : def.runs ≡ []
   pub told : def.told ≡ []
-  pub calls : list_any (λ c. has_new_row c.1) def.calls ≡ false
+  pub calls : All (λ c. has_old_row c.1 ≡ true) def.calls
   pub kinds : All (λ x. is_told_kind x.kind ≡ false) def.devices
   pub held : All (λ x. x.held ≡ false) def.devices
 
