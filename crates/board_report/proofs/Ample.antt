@@ -48,9 +48,8 @@ module _ (b : BoardSeen) (board : IsBoard b) (lines : List BoardLine) (k : AreKe
   nothing_due laid ample =
       let there = takes_part b f.place f.row f.at laid in
       none_due (next def entries f.actor) due
-      (let fits = ample there.place def there.at in
-      never_full def entries f.actor (valid_row b f.place f.row board f.at) (valid_runs b board f.row)
-      fits.0 (legal_row b board lines k f.place f.row f.at laid) fits.1 long)
+      (never_full def entries f.actor (valid_row b f.place f.row board f.at) (valid_runs b board f.row) (ample there.place def there.at).0
+      (legal_row b board lines k f.place f.row f.at laid) (ample there.place def there.at).1 long)
 
   pub not_full : IsAmple b → ⊥
   not_full ample = by_place (is_mapped_at (slice_get (layout_of b) f.place)) refl
