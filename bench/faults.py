@@ -399,8 +399,6 @@ def is_as_said(program, said, data):
     if program[0] not in ("play", "check", "run", "chained", "hotplug", "sleep"):
         return None
     text, cut = board_part(data) if program[0] == "check" else (data, True)
-    if b"board 3" in text and b"bad number" in said.encode():
-        return None  # the tables know two versions
     found = re.search(r"board: line (\d+): (.*)", said)
     if said[0] == "2" or found and (found[2] in ("no log", "too long") or found[2].startswith("not for")) or not cut:
         return None

@@ -50,9 +50,10 @@ def device_state(line, past, dev, working):
 
 
 def runs_begun(line, past, dev, part):
-    """How many of its answers a told device has given."""
+    """How many runs of the part have begun: of a told device as many as it has answers and one, since the last may answer nothing."""
     begins = by("t" + dev, "begin") if part == "thread" else lambda e: is_begin(e) and e[2] == dev
-    return min(sum(map(begins, past)), len(line.board.answers.get((part, dev), ())))
+    answers = line.board.answers.get((part, dev))
+    return min(sum(map(begins, past)), len(answers) + 1) if answers else 0
 
 
 def places_in_runs(line, past, flow):

@@ -21,8 +21,8 @@ use Rattle.board_text.specs.declared.reader.Reader.{Reader}
 
 -- one more statement
 
-call_drafted : (writer : Writer) (c : CallWords) (b : BoardSeen)
-    → record (with_call writer c b) { log = 1 } ≡ record (with_call writer c (record b { log = 1 })) { log = 1 }
+call_drafted : (whose : Writer) (c : CallWords) (b : BoardSeen)
+    → record (with_call whose c b) { log = 1 } ≡ record (with_call whose c (record b { log = 1 })) { log = 1 }
 call_drafted writers.Nobody c b = refl
 call_drafted writers.Driver c b = refl
 call_drafted (writers.Runs dev part) c b = refl
@@ -41,7 +41,7 @@ draft_more past (statements.Driver driver) = refl
 draft_more past (statements.Call c) = call_drafted (writer_of past) c (board_of past)
 draft_more past (statements.Picks picks) = refl
 
-calls_drafted : (writer : Writer) (c : CallWords) (b : BoardSeen) → (with_call writer c b).calls ≡ (with_call writer c (record b { log = 1 })).calls
+calls_drafted : (whose : Writer) (c : CallWords) (b : BoardSeen) → (with_call whose c b).calls ≡ (with_call whose c (record b { log = 1 })).calls
 calls_drafted writers.Nobody c b = refl
 calls_drafted writers.Driver c b = refl
 calls_drafted (writers.Runs dev part) c b = refl
@@ -60,7 +60,7 @@ calls_more past (statements.Driver driver) = refl
 calls_more past (statements.Call c) = calls_drafted (writer_of past) c (board_of past)
 calls_more past (statements.Picks picks) = refl
 
-log_of_call : (writer : Writer) (c : CallWords) (b : BoardSeen) → (with_call writer c b).log ≡ b.log
+log_of_call : (whose : Writer) (c : CallWords) (b : BoardSeen) → (with_call whose c b).log ≡ b.log
 log_of_call writers.Nobody c b = refl
 log_of_call writers.Driver c b = refl
 log_of_call (writers.Runs dev part) c b = refl
@@ -140,25 +140,25 @@ mask_same : (past : List Statement) (s : Statement) → has_bad_mask (draft_of p
 mask_same past (statements.Line l) = refl
 mask_same past _ = refl
 
-run_same : (past : List Statement) (writer : Writer) (s : Statement) → has_bad_run writer (draft_of past) s ≡ has_bad_run writer (board_of past) s
-run_same past writer (statements.Answers dev part answers) = refl
-run_same past writer (statements.Runs dev part) = refl
+run_same : (past : List Statement) (whose : Writer) (s : Statement) → has_bad_run whose (draft_of past) s ≡ has_bad_run whose (board_of past) s
+run_same past whose (statements.Answers dev part answers) = refl
+run_same past whose (statements.Runs dev part) = refl
 run_same past (writers.Runs dev part) (statements.Call c) = refl
 run_same past writers.Nobody (statements.Call c) = refl
 run_same past writers.Driver (statements.Call c) = refl
-run_same past writer _ = refl
+run_same past whose _ = refl
 
-room_same : (past : List Statement) (writer : Writer) (s : Statement) → is_one_too_many writer (draft_of past) s ≡ is_one_too_many writer (board_of past) s
-room_same past writer (statements.Domain d) = refl
-room_same past writer (statements.Line l) = refl
-room_same past writer (statements.Device d) = refl
-room_same past writer (statements.Answers dev part answers) = refl
-room_same past writer (statements.Driver driver) = refl
+room_same : (past : List Statement) (whose : Writer) (s : Statement) → is_one_too_many whose (draft_of past) s ≡ is_one_too_many whose (board_of past) s
+room_same past whose (statements.Domain d) = refl
+room_same past whose (statements.Line l) = refl
+room_same past whose (statements.Device d) = refl
+room_same past whose (statements.Answers dev part answers) = refl
+room_same past whose (statements.Driver driver) = refl
 room_same past writers.Nobody (statements.Call c) = refl
 room_same past writers.Driver (statements.Call c) = refl
 room_same past (writers.Runs dev part) (statements.Call c) = refl
-room_same past writer (statements.Picks picks) = refl
-room_same past writer _ = refl
+room_same past whose (statements.Picks picks) = refl
+room_same past whose _ = refl
 
 -- and on the reader's board
 

@@ -29,28 +29,28 @@ use Rattle.board_text.proofs.OneMore.{next_is_board, agrees_more, owns_read}
 
 -- the fault of a call, by whether it is late, whose script it is of, and whether it names nothing
 abbrev fault_by : Bool → Writer → Bool → BoardSeen → CallWords → Option FaultKind
-fault_by late writer nothing b c =
-    cond (late || (false || is_nobody writer)) (Some faults.OutOfOrder)
+fault_by late whose nothing b c =
+    cond (late || (false || is_nobody whose)) (Some faults.OutOfOrder)
     (cond (has_flag_twice c) (Some faults.Twice)
     (cond nothing (Some faults.NotThere)
-    (cond (has_bad_owner writer b (statements.Call c)) (Some faults.BadOwner)
-    (cond (has_bad_run writer b (statements.Call c)) (Some faults.BadRun)
-    (cond (has_no_room_to_call writer b) (Some faults.TooMany) None)))))
+    (cond (has_bad_owner whose b (statements.Call c)) (Some faults.BadOwner)
+    (cond (has_bad_run whose b (statements.Call c)) (Some faults.BadRun)
+    (cond (has_no_room_to_call whose b) (Some faults.TooMany) None)))))
 
 less_itself : (n : ℕ) → nat_lt n n ≡ false
 less_itself n = grind (arith, nat_tests)
 
 -- it is found in the reader
-fault_in : (past : List Statement) (r : Reader) (c : CallWords) (writer : Writer) → Agrees past r → r.writer ≡ writer
-    → fault_after past (statements.Call c) ≡ fault_by false writer (names_nothing r.board c) r.board c
-fault_in past r c writer h is =
+fault_in : (past : List Statement) (r : Reader) (c : CallWords) (whose : Writer) → Agrees past r → r.writer ≡ whose
+    → fault_after past (statements.Call c) ≡ fault_by false whose (names_nothing r.board c) r.board c
+fault_in past r c whose h is =
     ap (λ t. fault_by t (writer_of past) (names_nothing (board_of past) c) (board_of past) c) (less_itself (section_reached past))
     ∙ (ap (λ w. fault_by false w (names_nothing (board_of past) c) (board_of past) c) (sym h.writer ∙ is)
-    ∙ (ap (λ t. fault_by false writer t (board_of past) c) (sym (names_same past c))
-    ∙ (drafted_same writer ∙ ap (λ (b : BoardSeen). fault_by false writer (names_nothing b c) b c) (sym h.board))))
+    ∙ (ap (λ t. fault_by false whose t (board_of past) c) (sym (names_same past c))
+    ∙ (drafted_same whose ∙ ap (λ (b : BoardSeen). fault_by false whose (names_nothing b c) b c) (sym h.board))))
   where
-    drafted_same : (writer : Writer) → fault_by false writer (names_nothing (draft_of past) c) (board_of past) c
-        ≡ fault_by false writer (names_nothing (draft_of past) c) (draft_of past) c
+    drafted_same : (whose : Writer) → fault_by false whose (names_nothing (draft_of past) c) (board_of past) c
+        ≡ fault_by false whose (names_nothing (draft_of past) c) (draft_of past) c
     drafted_same writers.Nobody = refl
     drafted_same writers.Driver = refl
     drafted_same (writers.Runs dev part) = refl
@@ -90,30 +90,30 @@ next_of past r words h none = record { past = past; agrees = h.agrees; sound = (
 
 pub made_is_board : (past : List Statement) (r : Reader) (words : CallWords) (call : ScriptCall) → Keeps past r → r.writer ≡ writers.Driver
     → fault_after past (statements.Call words) ≡ None → call ≡ script_call (board_of past) words → IsBoard (with_driver_call call r.board)
-made_is_board past r words call h writer none is =
+made_is_board past r words call h whose none is =
     subst (λ c. IsBoard (with_driver_call c r.board)) (made_read past r words h.agrees ∙ sym is)
-    (subst (λ w. IsBoard (drafted w (statements.Call words) r.board)) writer
+    (subst (λ w. IsBoard (drafted w (statements.Call words) r.board)) whose
     (next_is_board r (statements.Call words) (next_of past r words h none)))
 
 pub run_is_board : (past : List Statement) (r : Reader) (dev : DevNo) (part : Part) (words : CallWords) (call : RunCall) → Keeps past r
     → r.writer ≡ writers.Runs dev part → fault_after past (statements.Call words) ≡ None
     → call ≡ run_call (board_of past) dev part words → IsBoard (with_run_call call r.board)
-run_is_board past r dev part words call h writer none is =
+run_is_board past r dev part words call h whose none is =
     subst (λ c. IsBoard (with_run_call c r.board)) (run_made_read past r dev part words h.agrees ∙ sym is)
-    (subst (λ w. IsBoard (drafted w (statements.Call words) r.board)) writer
+    (subst (λ w. IsBoard (drafted w (statements.Call words) r.board)) whose
     (next_is_board r (statements.Call words) (next_of past r words h none)))
 
 -- no other statement breaks the rule of ownership
-pub no_owner : (writer : Writer) (b : BoardSeen) (s : Statement) → IsNoCall s → has_bad_owner writer b s ≡ false
+pub no_owner : (whose : Writer) (b : BoardSeen) (s : Statement) → IsNoCall s → has_bad_owner whose b s ≡ false
 no_owner writers.Nobody b s other = refl
 no_owner (writers.Runs dev part) b s other = refl
 no_owner writers.Driver b (statements.Call c) other = absurd (other c refl)
 no_owner writers.Driver b _ other = refl
 
 -- nor does it change the calls
-pub calls_stay : (writer : Writer) (b : BoardSeen) (s : Statement) → IsNoCall s → b.calls ≡ (with_statement writer s b).calls
-calls_stay writer b (statements.Call c) other = absurd (other c refl)
-calls_stay writer b _ other = refl
+pub calls_stay : (whose : Writer) (b : BoardSeen) (s : Statement) → IsNoCall s → b.calls ≡ (with_statement whose s b).calls
+calls_stay whose b (statements.Call c) other = absurd (other c refl)
+calls_stay whose b _ other = refl
 
 -- and its turn is all that counts
 pub turn_of : (past : List Statement) (s : Statement) → IsNoCall s → is_out_of_turn past s ≡ nat_lt (turn_after (turn_reached past) s) (turn_reached past)
@@ -132,22 +132,22 @@ pub call_agrees : (past : List Statement) (r q : Reader) (words : CallWords) (ca
     → call ≡ script_call (board_of past) words → q.board ≡ with_driver_call call r.board → q.log ≡ r.log → q.section ≡ r.section
     → q.writer ≡ r.writer → q.turn ≡ r.turn → q.stood ≡ record r.stood { begun = true } → Owns q.owners (r.board.calls ++ call ∷ [])
     → Agrees (statements.Call words ∷ past) q
-call_agrees past r q words call h writer is board log section same turn stood owners =
+call_agrees past r q words call h whose is board log section same turn stood owners =
     let own : call ≡ script_call r.board words = is ∙ sym (made_read past r words h) in
     agrees_more past r q (statements.Call words) h
-    (board ∙ (ap (λ c. with_driver_call c r.board) own ∙ ap (λ w. drafted w (statements.Call words) r.board) (sym writer)))
+    (board ∙ (ap (λ c. with_driver_call c r.board) own ∙ ap (λ w. drafted w (statements.Call words) r.board) (sym whose)))
     log (ap place_of section) same turn (stood ∙ stood_called past words r.stood h.stood)
-    (subst (λ w. Owns q.owners (with_statement w (statements.Call words) r.board).calls) (sym writer)
+    (subst (λ w. Owns q.owners (with_statement w (statements.Call words) r.board).calls) (sym whose)
     (subst (λ c. Owns q.owners (r.board.calls ++ c ∷ [])) own owners))
 
 pub run_agrees : (past : List Statement) (r q : Reader) (dev : DevNo) (part : Part) (words : CallWords) (call : RunCall) → Agrees past r
     → r.writer ≡ writers.Runs dev part → call ≡ run_call (board_of past) dev part words → q.board ≡ with_run_call call r.board
     → q.log ≡ r.log → q.section ≡ r.section → q.writer ≡ r.writer → q.turn ≡ r.turn → q.stood ≡ record r.stood { begun = true }
     → q.owners ≡ r.owners → Agrees (statements.Call words ∷ past) q
-run_agrees past r q dev part words call h writer is board log section same turn stood owners =
+run_agrees past r q dev part words call h whose is board log section same turn stood owners =
     let own : call ≡ run_call r.board dev part words = is ∙ sym (run_made_read past r dev part words h) in
     agrees_more past r q (statements.Call words) h
-    (board ∙ (ap (λ c. with_run_call c r.board) own ∙ ap (λ w. drafted w (statements.Call words) r.board) (sym writer)))
+    (board ∙ (ap (λ c. with_run_call c r.board) own ∙ ap (λ w. drafted w (statements.Call words) r.board) (sym whose)))
     log (ap place_of section) same turn (stood ∙ stood_called past words r.stood h.stood)
-    (subst (λ w. Owns q.owners (with_statement w (statements.Call words) r.board).calls) (sym writer)
+    (subst (λ w. Owns q.owners (with_statement w (statements.Call words) r.board).calls) (sym whose)
     (subst (λ (o : List (DevNo × Owner)). Owns o r.board.calls) (sym owners) (owns_read past r h)))

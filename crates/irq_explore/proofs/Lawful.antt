@@ -85,12 +85,16 @@ module _ (line : LineNo) (number : IsSmall line.0) where
   abbrev said_of : List Entry → List LineEntry
   said_of es = map (λ (e : Entry). (line, e)) es
 
-  rows_on : (lines : List LineRow) → has_line lines line ≡ true → (es : List Entry) → All IsWritable es
-      → AllZip (IsRowOn lines) (map (entry_text line) es) (said_of es)
-  rows_on lines there [] w = tt
-  rows_on lines there (e ∷ es) w = (
-    record { formed = record { text = refl; number = number; writable = All-head IsWritable e es w }; declared = there },
-    rows_on lines there es (All-tail IsWritable e es w),
+  rows_on : (b : BoardSeen) → has_line b.lines line ≡ true → (es : List Entry) → All IsWritable es → All (λ e. may_have b.version e ≡ true) es
+      → AllZip (IsRowOn b) (map (entry_text line) es) (said_of es)
+  rows_on b there [] w v = tt
+  rows_on b there (e ∷ es) w v = (
+    record {
+      formed = record { text = refl; number = number; writable = All-head IsWritable e es w };
+      allowed = All-head (λ e. may_have b.version e ≡ true) e es v;
+      declared = there;
+    },
+    rows_on b there es (All-tail IsWritable e es w) (All-tail (λ e. may_have b.version e ≡ true) e es v),
   )
 
   -- the entries that they say of a line
@@ -141,18 +145,19 @@ on_none b row (placements.Mapped virq path) = tt
 on_none b row (placements.Refused why) = refl
 
 module _ (states : ℕ) (b : BoardSeen) (line : LineNo) (wanted : Wanted) (answer : Answer) (answered : Answered states b line wanted answer)
-    (es : List Entry) (found : IsFound answer es) (there : has_line b.lines line ≡ true) (number : IsSmall line.0) (writable : All IsWritable es) where
+    (es : List Entry) (found : IsFound answer es) (there : has_line b.lines line ≡ true) (number : IsSmall line.0) (writable : All IsWritable es)
+    (allowed : All (λ e. may_have b.version e ≡ true) es) where
   abbrev said : List LineEntry
   said = said_of line number es
 
   abbrev log_of : LineRow → HistorySeen
   log_of row = record { entries = entries_on said row.line; spare = 0 }
 
-  tells : Tell b.lines (rows_of (history_text line es)) (entries_of (logs_of b.lines said))
+  tells : Tell b (rows_of (history_text line es)) (entries_of (logs_of b.lines said))
   tells = record {
     said = said;
-    each = subst (λ rows. AllZip (IsRowOn b.lines) rows said)
-        (sym (ap saying (text_rows line number es writable) ∙ all_say line number es writable)) (rows_on line number b.lines there es writable);
+    each = subst (λ rows. AllZip (IsRowOn b) rows said)
+        (sym (ap saying (text_rows line number es writable) ∙ all_say line number es writable)) (rows_on line number b there es writable allowed);
     are = entries_are b.lines said;
   }
 

@@ -37,7 +37,8 @@ use Rattle.irq_steps.specs.Laid.{with_count}
 use Rattle.irq_steps.proofs.Same.{same_self_driver, driver_from_same}
 use Rattle.line_scripts.specs.Endings.{completes}
 use Rattle.line_scripts.specs.Rows.{RowSeen, calls_of, call_of, place_of, within_of}
-use Rattle.device_table.proofs.Tables.{at_none}
+use Rattle.act_list.specs.Actions.{has}
+use Rattle.device_table.proofs.Tables.{at_device, at_none}
 use Rattle.device_table.specs.Rows.{at}
 use Rattle.act_thread.specs.declared.rows.ThreadRow.{ThreadRow}
 use Rattle.run_scripts.specs.Groups.{group_of}
@@ -46,6 +47,8 @@ use Rattle.run_scripts.specs.Runs.{RunsSeen, AreRunsOf, script_of}
 use Rattle.line_marks.proofs.ActionsFollow.{bare_is}
 use Rattle.line_marks.proofs.Bounds.{has_space}
 use Rattle.line_marks.proofs.DueIs.{call_is, due_on}
+use Rattle.line_marks.proofs.Known.{linked_known}
+use Rattle.line_marks.specs.Actions.{actions_of}
 use Rattle.line_marks.proofs.RunsAre.{handler_due_is, thread_due_is}
 use Rattle.line_marks.proofs.UpFollow.{enabled_is_up, linked_is_up}
 use Rattle.line_marks.specs.Calls.{ask_edge_by}
@@ -66,14 +69,14 @@ use Rattle.line_marks.specs.Scripts.{IsAt, place_after, within_after}
 use Rattle.line_marks.specs.State.{StateSeen, IsOf, first_state, state_of, state_after}
 use Rattle.line_state.proofs.Asked.{can_make}
 use Rattle.line_state.specs.Entries.{entry_by, cpu_entry, thread_entry, call_made, CanMake, IsActivated}
-use Rattle.line_state.specs.Running.{HasCpuCall, HasThreadCall}
+use Rattle.line_state.specs.Running.{IsAboutCpu, IsAboutThread, MayCall}
 use Rattle.line_state.specs.declared.due.CpuStep.{CpuStep}
 use Rattle.line_state.specs.declared.due.CpuStep.TheVariants as cpus
 use Rattle.line_state.specs.declared.due.ThreadStep.{ThreadStep}
 use Rattle.line_state.specs.declared.due.ThreadStep.TheVariants as thread_steps
 use Rattle.line_state.specs.declared.due.DueStep.{DueStep}
 use Rattle.line_core.specs.Moves.{IsMoved, Moves, CanMove, ends_call}
-use Rattle.line_core.specs.Running.{IsOfLine, IsOfWork}
+use Rattle.line_core.specs.Running.{IsOfWork}
 
 pub newest : (h : List Entry) (e : Entry) → reverse (h ++ e ∷ []) ≡ e ∷ reverse h
 newest h e = reverse-append h (e ∷ [])
@@ -248,7 +251,12 @@ module _ (def : LineDef) (h : List Entry) (b : Beside def h) where
     linked = λ some. linked_is_up def (reverse h) b.is.valid b.is.legal (sym (bare_is def (reverse h) b.is.valid b.is.legal) ∙ some);
   })
 
-  -- handlers at work and threads are of devices of the line
+  -- what is linked, handlers at work and threads are of devices of the line
+  linked_there : (d : DevNo) → has d (actions_of (reverse h)) ≡ true → has_device def d ≡ true
+  linked_there d is =
+      there_named def (reverse h) (kept def (reverse h) b.is.valid b.is.legal) d
+      (ap (λ x. x || is_being_freed (reverse h) d) (linked_known def (reverse h) d b.is.valid b.is.legal ∙ is))
+
   working_there : (d : DevNo) → at_work (reverse h) ≡ Some d → has_device def d ≡ true
   working_there d is =
       let k = kept def (reverse h) b.is.valid b.is.legal in
@@ -264,6 +272,7 @@ module _ (def : LineDef) (h : List Entry) (b : Beside def h) where
   pub line_scripted : IsScripted def b.seen
   line_scripted = record {
     runs = b.is.scripted;
+    linked = λ d is. linked_there d (sym (ap (λ (x : StateSeen). has d x.list.actions) b.is.state) ∙ is);
     working = λ d is. working_there d (sym (ap (λ (x : StateSeen). x.round.working) b.is.state) ∙ is);
     threads = λ d r is. thread_there d r (ap (λ (x : StateSeen). at x.threads d) (sym b.is.state) ∙ is);
     within = λ d part. subst (λ (x : StateSeen). (place_at x.places d part).within + 1 < 2 ^ 32) (sym b.is.state)
@@ -294,47 +303,47 @@ module _ (def : LineDef) (h : List Entry) (b : Beside def h) where
       (if_makes (makes_calls_at def (state_of def (reverse h)) part d) _ due is) in
       ap is_some (sym own) ∙ some
 
-  pub line_has_cpu_call : (c : CpuNo) (step : CpuStep) → IsOfWork (reverse h) step
-      → next def h (actors.Cpu c) ≡ Some (cpu_entry def b.seen.state c step) → HasCpuCall b.seen step
-  line_has_cpu_call c (cpus.Call d step) work due =
+  pub line_about_cpu : (c : CpuNo) (step : CpuStep) → IsOfWork (reverse h) step
+      → next def h (actors.Cpu c) ≡ Some (cpu_entry def b.seen.state c step) → IsAboutCpu b.seen step
+  line_about_cpu c (cpus.Call d step) work due =
       let u = handler_call_due def c (call_made def b.seen.state step) (reverse h) due in
       let same : d ≡ u.dev = same_Some d u.dev (sym work ∙ u.is_at_work) in
       let there = working_there d work in
       let is : due_in_run_at def (state_of def (reverse h)) parts.Primary d ≡ Some u.due =
       handler_due_is def (reverse h) d there work ∙ (ap (λ (x : DevNo). due_in_run def parts.Primary x (reverse h)) same ∙ u.is_due) in
       (ap (λ (x : StateSeen). x.round.working) b.is.state ∙ work, call_left d parts.Primary u.due there is)
-  line_has_cpu_call c step work due = tt
+  line_about_cpu c (cpus.Begin d) work due =
+      ap (λ (x : StateSeen). has d x.list.actions) b.is.state
+      ∙ (sym (linked_known def (reverse h) d b.is.valid b.is.legal)
+      ∙ (begun_is_linked def (reverse h) d (begin_due def c d (reverse h) due).first).0)
+  line_about_cpu c (cpus.Return d) work due =
+      ap (λ (x : StateSeen). x.round.working) b.is.state ∙ (return_due def c d _ _ (reverse h) due).is_at_work
+  line_about_cpu c step work due = tt
 
-  pub line_has_thread_call : (d : DevNo) (step : ThreadStep)
-      → next def h (actors.Thread d) ≡ Some (thread_entry def b.seen.state d step) → HasThreadCall b.seen d step
-  line_has_thread_call d (thread_steps.Call step) due =
+  may_call : (d : DevNo) (step : ThreadStep)
+      → next def h (actors.Thread d) ≡ Some (thread_entry def b.seen.state d step) → MayCall b.seen d step
+  may_call d (thread_steps.Call step) due =
       let u = thread_call_due def d (call_made def b.seen.state step) (reverse h) due in
       let there = device_there def d (reverse h) _ due in
       call_left d parts.Thread u.due there (thread_due_is def (reverse h) d there u.not_returned ∙ u.is_due)
-  line_has_thread_call d step due = tt
+  may_call d step due = tt
+
+  pub line_about_thread : (d : DevNo) (step : ThreadStep)
+      → next def h (actors.Thread d) ≡ Some (thread_entry def b.seen.state d step) → IsAboutThread b.seen d step
+  line_about_thread d step due = (
+    ap (λ (x : StateSeen). is_some (at x.threads d)) b.is.state
+        ∙ ap is_some (at_device (thread_of (reverse h)) def.devices d (device_there def d (reverse h) _ due)),
+    may_call d step due,
+  )
 
   -- who is at work, by the state
-  line_of_work : (step : CpuStep) → HasCpuCall b.seen step → IsOfWork (reverse h) step
-  line_of_work (cpus.Call d step) has = sym (ap (λ (x : StateSeen). x.round.working) b.is.state) ∙ has.0
-  line_of_work step has = tt
+  line_of_work : (step : CpuStep) → IsAboutCpu b.seen step → IsOfWork (reverse h) step
+  line_of_work (cpus.Call d step) about = sym (ap (λ (x : StateSeen). x.round.working) b.is.state) ∙ about.0
+  line_of_work step about = tt
 
-  pub some_of_work : (o : Option CpuStep) → IfSome o (HasCpuCall b.seen) → IfSome o (IsOfWork (reverse h))
-  some_of_work None has = has
-  some_of_work (Some step) has = line_of_work step has
-
-  -- a thread with an entry due is one of the line
-  pub line_thread_there : (d : DevNo) (e : Entry) → next def h (actors.Thread d) ≡ Some e → has_device def d ≡ true
-  line_thread_there d e due = device_there def d (reverse h) e due
-
-  -- the handler that is called, or returns, is one of the line's
-  pub line_of_line : (c : CpuNo) (step : CpuStep) → next def h (actors.Cpu c) ≡ Some (cpu_entry def b.seen.state c step) → IsOfLine def step
-  line_of_line c (cpus.Begin d) due =
-      let u = begin_due def c d (reverse h) due in
-      let k = kept def (reverse h) b.is.valid b.is.legal in
-      there_named def (reverse h) k d (ap (λ x. x || is_being_freed (reverse h) d) (begun_is_linked def (reverse h) d u.first).0)
-  line_of_line c (cpus.Return d) due =
-      working_there d (return_due def c d _ _ (reverse h) due).is_at_work
-  line_of_line c step due = tt
+  pub some_of_work : (o : Option CpuStep) → IfSome o (IsAboutCpu b.seen) → IfSome o (IsOfWork (reverse h))
+  some_of_work None about = about
+  some_of_work (Some step) about = line_of_work step about
 
   -- the driver's due call, by the history and by the driver's place
   pub due_call_is : (r : DriverNo) → due_call def r (reverse h) ≡ due_call_in b.scripts r

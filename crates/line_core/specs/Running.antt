@@ -1,10 +1,9 @@
 -- The run that a step ends, and the run that makes a step's call, read off the state.
-use Rattle.std.specs.Prelude.{◌≡◌, true, Option, Some, None, List}
+use Rattle.std.specs.Prelude.{◌≡◌, Option, Some, None, List}
 use Rattle.irq_base.specs.declared.devices.Part.TheVariants as parts
 use Rattle.irq_base.specs.declared.devices.Run.{Run}
 use Rattle.irq_base.specs.declared.entries.Entry.{Entry}
 use Rattle.irq_base.specs.declared.lines.LineDef.{LineDef}
-use Rattle.irq_model.specs.Lines.{has_device}
 use Rattle.irq_model.specs.Rounds.{at_work}
 use Rattle.line_marks.specs.State.{StateSeen}
 use Rattle.line_state.specs.Ended.{run_there}
@@ -24,9 +23,3 @@ run_by def s _ = None
 abbrev pub IsOfWork : List Entry → CpuStep → Type 0
 IsOfWork past (cpus.Call dev step) = at_work past ≡ Some dev
 IsOfWork past _ = Unit {0}
-
--- the handler of a step is one of a device of the line
-abbrev pub IsOfLine : LineDef → CpuStep → Type 0
-IsOfLine def (cpus.Begin dev) = has_device def dev ≡ true
-IsOfLine def (cpus.Return dev) = has_device def dev ≡ true
-IsOfLine def _ = Unit {0}

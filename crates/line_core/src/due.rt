@@ -5,7 +5,7 @@ ghost use Rattle.irq_base.specs.declared.lines.LineDef.{LineDef};
 ghost use Rattle.line_marks.specs.DriversDue.{driver_due};
 ghost use Rattle.line_marks.specs.Next.{due_by, due_call_in};
 ghost use Rattle.line_state.specs.Entries.{entry_by, driver_entry};
-ghost use Rattle.line_state.specs.Running.{HasRunCall};
+ghost use Rattle.line_state.specs.Running.{IsAbout};
 ghost use Rattle.line_state.specs.Seen.{IsScripted};
 
 use irq_base::{Actor, Chip, DriverNo};
@@ -18,7 +18,7 @@ pub fn due_by<C: Chip>(state: &LineState<C>, scripts: &Scripts, actor: Actor) ->
     ensures due { (def : LineDef) → IsScripted def state.now
         → option_map (entry_by def state.now.state) result
         ≡ due_by def state.now.state scripts.now actor }
-    ensures calls { IfSome result (HasRunCall state.now) }
+    ensures about { IfSome result (IsAbout state.now) }
 {
     match actor {
         Actor::Thread(dev) => {

@@ -10,12 +10,12 @@ ghost use Rattle.line_scripts.specs.Rows.{RowSeen};
 ghost use Rattle.line_marks.specs.Line.{IsLine};
 ghost use Rattle.line_marks.specs.State.{state_after, IsOf};
 ghost use Rattle.line_state.specs.Entries.{CanMakeOfCpu, IsActivated, cpu_entry};
-ghost use Rattle.line_state.specs.Running.{HasCpuCall};
+ghost use Rattle.line_state.specs.Running.{IsAboutCpu};
 ghost use Rattle.line_state.specs.Seen.{IsScripted, runs_seen};
 ghost use Rattle.line_state.specs.declared.due.DueStep.TheVariants as steps;
 ghost use Rattle.line_core.specs.Entries.{entry_at};
 ghost use Rattle.line_core.specs.Room.{HasRoom};
-ghost use Rattle.line_core.specs.Running.{IsOfLine, IsOfWork, run_by};
+ghost use Rattle.line_core.specs.Running.{IsOfWork, run_by};
 ghost use Rattle.line_core.specs.Steps.{Acts, IsStep, LacksAnswer};
 
 use crate::line::Line;
@@ -132,8 +132,7 @@ fn act<C: Chip, E: Hears>(
     requires scripted { IsScripted def.now state.old }
     requires activated { IsActivated state.old.state }
     requires can { CanMakeOfCpu def.now step state.old.state }
-    requires calls { HasCpuCall state.old step }
-    requires there { IsOfLine def.now step }
+    requires about { IsAboutCpu state.old step }
     ensures entry { IfOk result (λ e. e ≡ cpu_entry def.now state.old.state cpu step) }
     ensures state { IfOk result
         (λ e. state.new.state ≡ state_after def.now e state.old.state) }

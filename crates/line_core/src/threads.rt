@@ -1,16 +1,15 @@
 //! What a device's thread does, from its wake to the end of its run.
 ghost use Rattle.std.specs.Prelude.{◌≡◌, ◌<◌, ◌≤◌, IfErr, IfOk, List, Ok, OnErr, Some, length};
-ghost use Rattle.std.specs.Prelude.{option_map, true};
+ghost use Rattle.std.specs.Prelude.{option_map};
 ghost use Rattle.irq_base.specs.declared.entries.Actor.TheVariants as actors;
 ghost use Rattle.irq_base.specs.declared.numbers.DriverNo.{DriverNo};
-ghost use Rattle.irq_model.specs.Lines.{has_device};
 ghost use Rattle.irq_model.specs.Next.{next};
 ghost use Rattle.callbacks.specs.Heard.{Heard, one_run};
 ghost use Rattle.line_scripts.specs.Rows.{RowSeen};
 ghost use Rattle.line_marks.specs.Line.{IsLine};
 ghost use Rattle.line_marks.specs.State.{state_after, IsOf};
 ghost use Rattle.line_state.specs.Entries.{CanMakeOfThread, IsActivated, thread_entry};
-ghost use Rattle.line_state.specs.Running.{HasThreadCall};
+ghost use Rattle.line_state.specs.Running.{IsAboutThread};
 ghost use Rattle.line_state.specs.Seen.{IsScripted, runs_seen};
 ghost use Rattle.line_state.specs.declared.due.DueStep.TheVariants as steps;
 ghost use Rattle.line_core.specs.Entries.{entry_at};
@@ -132,10 +131,9 @@ fn act<C: Chip, E: Hears>(
 ) -> Result<Entry, E::Lack>
     requires is_of { IsOf def.now state.old.state }
     requires scripted { IsScripted def.now state.old }
-    requires there { has_device def.now dev ≡ true }
     requires activated { IsActivated state.old.state }
     requires can { CanMakeOfThread step state.old.state }
-    requires calls { HasThreadCall state.old dev step }
+    requires about { IsAboutThread state.old dev step }
     ensures entry { IfOk result (λ e. e ≡ thread_entry def.now state.old.state dev step) }
     ensures state { IfOk result
         (λ e. state.new.state ≡ state_after def.now e state.old.state) }

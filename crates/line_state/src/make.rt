@@ -105,7 +105,7 @@ impl<C: Chip> LineState<C> {
 
     /// The handler at work of this device makes a step of a call.
     #[inline(always)]
-    fn call_of_cpu(&mut self, def: &LineDef, cpu: CpuNo, dev: DevNo, step: CallStep) -> Entry
+    pub fn call_of_cpu(&mut self, def: &LineDef, cpu: CpuNo, dev: DevNo, step: CallStep) -> Entry
         requires is_of { IsOf def.now self.old.state }
         requires scripted { IsScripted def.now self.old }
         requires activated { IsActivated self.old.state }
@@ -178,7 +178,7 @@ impl<C: Chip> LineState<C> {
 
     /// The thread's handler makes a step of a call.
     #[inline(always)]
-    fn call_of_thread(&mut self, def: &LineDef, dev: DevNo, step: CallStep) -> Entry
+    pub fn call_of_thread(&mut self, def: &LineDef, dev: DevNo, step: CallStep) -> Entry
         requires is_of { IsOf def.now self.old.state }
         requires scripted { IsScripted def.now self.old }
         requires there { has_device def.now dev ≡ true }

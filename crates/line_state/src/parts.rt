@@ -11,7 +11,7 @@ use crate::state::LineState;
 use act_list::ActList;
 use act_thread::{ThreadRow, Threads};
 use affinity::Aim;
-use ask_counts::{AskRow, Asks};
+use ask_counts::{AskRow, Asks, FactTable};
 use desc_state::Desc;
 use irq_base::{Actor, Chip, DevNo, Flags, NoMemory};
 use run_scripts::{RunPlace, RunRow, RunScripts};
@@ -51,6 +51,13 @@ impl<C: Chip> LineState<C> {
         ensures { result.now ≡ self.now.state.asks }
     {
         &self.asks
+    }
+
+    /// What is fixed of the devices.
+    pub fn facts(&self) -> &FactTable
+        ensures { result.now ≡ self.now.state.facts }
+    {
+        &self.facts
     }
 
     /// The scripts of the runs, and how far they are.

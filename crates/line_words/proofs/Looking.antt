@@ -3,7 +3,6 @@ use Rattle.std.proofs.Common.{◌≡◌, Bool, true, false, ◌&&◌, cond, Opti
 use Rattle.std.specs.Prelude.{unwrap_or}
 use Rattle.irq_base.specs.declared.numbers.DevNo.{DevNo}
 use Rattle.irq_model.specs.Kinds.{same_dev}
-use Rattle.irq_steps.proofs.Same.{dev_from_same}
 use Rattle.device_table.specs.Rows.{at}
 use Rattle.act_list.specs.Lists.{begun_at, cleared}
 use Rattle.ask_counts.specs.declared.rows.AskRow.{AskRow}
@@ -51,6 +50,23 @@ module _ (s : StateSeen) (d : DevNo) where
       sym (ap (λ (o : Option AskRow). unwrap_or o no_asks)
       (asks_at (serves_at s) (is_working s.round.working) (is_thread_working s.threads) s.asks d
       ∙ ap (λ (o : Option AskRow). option_map (canon_row (serves_at s d) (is_working s.round.working d) (is_thread_working s.threads d)) o) none))
+
+  -- a device is as quiet as its row says
+  pub quiet_there : (row : AskRow) → at s.asks d ≡ Some row
+      → row.quiet ≡ (unwrap_or (at (canon_asks (serves_at s) (is_working s.round.working) (is_thread_working s.threads) s.asks) d) no_asks).quiet
+  quiet_there row there =
+      let low : AskRow → AskRow = canon_row (serves_at s d) (is_working s.round.working d) (is_thread_working s.threads d) in
+      sym (ap (λ (o : Option AskRow). (unwrap_or o no_asks).quiet)
+      (asks_at (serves_at s) (is_working s.round.working) (is_thread_working s.threads) s.asks d
+      ∙ ap (λ (o : Option AskRow). option_map low o) there))
+
+  pub quiet_lacks : at s.asks d ≡ None
+      → (unwrap_or (at (canon_asks (serves_at s) (is_working s.round.working) (is_thread_working s.threads) s.asks) d) no_asks).quiet ≡ false
+  quiet_lacks none =
+      let low : AskRow → AskRow = canon_row (serves_at s d) (is_working s.round.working d) (is_thread_working s.threads d) in
+      ap (λ (o : Option AskRow). (unwrap_or o no_asks).quiet)
+      (asks_at (serves_at s) (is_working s.round.working) (is_thread_working s.threads) s.asks d
+      ∙ ap (λ (o : Option AskRow). option_map low o) none)
 
   -- a device's runs are the canonical ones of its row
   pub run_there : (row new : RunRow) (h t : Bool) → row ≡ row_at s.places.rows d → new ≡ canon_run h t row

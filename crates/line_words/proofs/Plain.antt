@@ -1,6 +1,6 @@
 -- Of a line whose runs make no calls and are told nothing, and whose drivers turn no device's own
 -- interrupt off, no device is ever quiet, and there is nothing to say of the runs.
-use Rattle.std.proofs.Common.{◌≡◌, ℕ, ◌+◌, ◌==◌, min, Bool, true, false, not, ◌||◌, ◌&&◌, cond, ltb, Option, Some, None, List, [], ◌∷◌, drop, length, refl, sym, ap, ◌∙◌, arith}
+use Rattle.std.proofs.Common.{◌≡◌, ℕ, min, Bool, true, false, not, ◌||◌, ◌&&◌, cond, ltb, Option, Some, None, List, [], ◌∷◌, drop, length, refl, sym, ap, ◌∙◌, arith}
 use Rattle.std.specs.List.{list_any}
 use Rattle.irq_base.specs.declared.calls.Call.{Call}
 use Rattle.irq_base.specs.declared.calls.Call.TheVariants as calls
@@ -24,21 +24,19 @@ use Rattle.irq_model.specs.Due.{calls_by, due_of, entries_of_call}
 use Rattle.irq_model.specs.Kinds.{same_dev, same_driver, made_by, turns_off, turns_on, quiets}
 use Rattle.irq_model.specs.Legal.{IsDue, IsLegalPast}
 use Rattle.irq_model.specs.Lines.{run_script, script_in, told_answers, told_in}
-use Rattle.irq_model.specs.Next.{next_step}
-use Rattle.irq_model.specs.Places.{stands}
 use Rattle.irq_model.specs.Rounds.{at_work, flow, is_cpu}
 use Rattle.irq_model.specs.RunLaws.{is_in_run}
 use Rattle.irq_model.specs.Runs.{entries_of_run, makes_calls}
 use Rattle.irq_laws.proofs.ImpliesCall.{Row, step_row, unlink, free_clear, freed, disable, disable_clear, disable_synced, nosync, enable, sync_clear, synced}
 use Rattle.irq_laws.proofs.ImpliesCall.{hard, hard_disable, hard_disable_clear, wake, quiet, arm, serve}
-use Rattle.irq_laws.proofs.ImpliesDriver.{IsCallDue, call_due}
+use Rattle.irq_laws.proofs.ImpliesDriver.{call_due}
 use Rattle.irq_laws.specs.Actors.{calls_at_work, calls_of, entries_of}
-use Rattle.device_table.specs.Rows.{all_with, at, change, put, table_by}
+use Rattle.device_table.specs.Rows.{all_with, at, change, table_by}
 use Rattle.run_scripts.specs.Places.{PlacesSeen, first_place, first_row, first_turn, handler_begun, thread_begun, placed}
 use Rattle.run_scripts.specs.declared.rows.RunPlace.{RunPlace}
 use Rattle.run_scripts.specs.declared.rows.RunRow.{RunRow}
 use Rattle.run_scripts.specs.declared.rows.Turn.{Turn}
-use Rattle.line_marks.specs.Places.{answer_count, laid_at, places_after, places_of, run_row, thread_calls, turn_of, work_of, work_with}
+use Rattle.line_marks.specs.Places.{answer_count, laid_at, places_after, places_of, run_row, thread_calls, turn_of, work_with}
 use Rattle.line_futures.proofs.EachRow.{walk, walk_is}
 use Rattle.line_words.specs.Tables.{first_places}
 use Rattle.line_words.specs.Words.{has_more, has_some, is_quiet_call}

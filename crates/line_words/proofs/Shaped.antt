@@ -29,11 +29,11 @@ use Rattle.line_futures.specs.Canon.{without_bits}
 use Rattle.line_words.proofs.Putting.{bit_is, cpu_is, dev_is, mask_is, freeing_is, thread_is, ask_is, run_is, linked_is, loud}
 use Rattle.line_words.proofs.Putting.{behind_table, put_is, marks_are, quiet_are, loud_are, rows_are, cleared_is}
 use Rattle.line_words.specs.Again.{unbitted}
-use Rattle.line_words.specs.Reading.{with_fixed, with_rows, with_runs, with_more, with_tables, with_linked, linked_from, linked_in, link_all}
+use Rattle.line_words.specs.Reading.{with_fixed, with_rows, with_more, with_tables, with_linked, linked_from, linked_in, link_all}
 use Rattle.line_words.specs.Reading.{marks_from, threads_from, asks_from, more_from, runs_in, behind_more, places_from}
 use Rattle.line_words.specs.Reading.{desc_in, cell_in, aim_in, round_in, counts_in, mark_rows, put_rows, thread_in, ask_in, run_in, place_in}
 use Rattle.line_words.specs.Tables.{HasTables, bare, first_places}
-use Rattle.line_words.specs.Words.{has_more, state_words, more_words, place_words, table_words, begun_words, thread_words, ask_words, quiet_words, run_words, linked_words}
+use Rattle.line_words.specs.Words.{has_more, state_words, more_words, table_words, begun_words, thread_words, ask_words, quiet_words, run_words, linked_words}
 
 -- the state is a canonical one of the line: these are its tables, and these devices are linked
 pub record IsShaped (def : LineDef) (f : DevNo → Bool) (g : DevNo → ThreadRow) (h : DevNo → AskRow) (k : DevNo → RunRow) (fl : List (DevNo × Flags))

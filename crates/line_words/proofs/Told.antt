@@ -210,9 +210,11 @@ quiet_told (e ∷ es) [] a b same h = absurd same
 quiet_told (e ∷ es) (f ∷ fs) a b same h =
     let q : one_if e.1.quiet ≡ one_if f.1.quiet = cc h in
     let left : table_words quiet_words es a ≡ table_words quiet_words fs b = cc h in
-    let rest = quiet_told es fs a b same.2 left in
-    (ap (λ (x : DevNo × AskRow). x ∷ es) (row_by e f same.0 (ask_by e.1 f.1 same.1 (one_told e.1.quiet f.1.quiet q)))
-    ∙ ap (λ (x : List (DevNo × AskRow)). f ∷ x) rest.0, rest.1)
+    let rest = quiet_told es fs a b same.2 left in (
+      ap (λ (x : DevNo × AskRow). x ∷ es) (row_by e f same.0 (ask_by e.1 f.1 same.1 (one_told e.1.quiet f.1.quiet q)))
+          ∙ ap (λ (x : List (DevNo × AskRow)). f ∷ x) rest.0,
+      rest.1,
+    )
 
 -- where no device is quiet the counts are all
 abbrev pub AreLoud : List (DevNo × AskRow) → Type 0

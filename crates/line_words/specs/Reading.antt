@@ -108,12 +108,13 @@ freeing_in ws =
 abbrev pub fixed : ℕ
 fixed = 28
 
--- the state with these parts in place of its own; the chip is neither active nor aimed
+-- the state with these parts in place of its own; the chip isn't aimed, and it is active, as a step
+-- that opens it needs it
 abbrev pub with_fixed : LineDef → List ℕ → StateSeen → StateSeen
 with_fixed def ws s = record s {
   desc = desc_in def ws;
   cell = cell_in def ws;
-  active = false;
+  active = true;
   aimed = 0;
   aim = aim_in def ws;
   round = round_in ws;

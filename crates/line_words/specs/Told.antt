@@ -41,7 +41,7 @@ abbrev pub more_told : Bool → LineDef → StateSeen → List ℕ → List ℕ
 more_told more def s rest =
     if more
     then place_words s.places.work
-        (rows_words (quiet_told s) def.devices (rows_words (run_told s) def.devices rest))
+    (rows_words (quiet_told s) def.devices (rows_words (run_told s) def.devices rest))
     else rest
 
 -- how many calls of each driver are complete, and how many entries its next one has made

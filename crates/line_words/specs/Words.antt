@@ -135,7 +135,7 @@ abbrev pub more_words : Bool → StateSeen → List ℕ → List ℕ
 more_words more s rest =
     if more
     then place_words s.places.work
-        (table_words quiet_words s.asks (table_words run_words s.places.rows rest))
+    (table_words quiet_words s.asks (table_words run_words s.places.rows rest))
     else rest
 
 -- ---- all

@@ -1,7 +1,7 @@
 use Rattle.std.proofs.Common.{Some, refl, sym, ap, subst, ◌∙◌}
 use Rattle.irq_base.specs.declared.entries.Actor.TheVariants as actors
 use Rattle.line_marks.specs.Line.{IsLine}
-use Rattle.line_core.proofs.More.{line_is_of, line_can, line_after, line_activated, line_scripted, line_has_thread_call, line_thread_there}
+use Rattle.line_core.proofs.More.{line_is_of, line_can, line_after, line_activated, line_scripted, line_about_thread}
 use Rattle.line_state.specs.Seen.{LineStateSeen, runs_seen}
 use Rattle.line_state.specs.declared.due.DueStep.TheVariants as steps
 use Rattle.line_core.proofs.threads.put.Goals as goal
@@ -23,13 +23,9 @@ act-requires-clause-can g c = line_can c.args.def.now c.args.history.now.entries
     (record { seen = c.args.state.now; scripts = c.requires.line.0; is = c.requires.line.1 })
     (actors.Thread c.args.dev) (steps.Thread c.args.dev c.args.step) c.requires.due
 
-pub act-requires-clause-calls : goal.act-requires-clause-calls
-act-requires-clause-calls g c = line_has_thread_call c.args.def.now c.args.history.now.entries
+pub act-requires-clause-about : goal.act-requires-clause-about
+act-requires-clause-about g c = line_about_thread c.args.def.now c.args.history.now.entries
     (record { seen = c.args.state.now; scripts = c.requires.line.0; is = c.requires.line.1 }) c.args.dev c.args.step c.requires.due
-
-pub act-requires-clause-there : goal.act-requires-clause-there
-act-requires-clause-there g c = line_thread_there c.args.def.now c.args.history.now.entries
-    (record { seen = c.args.state.now; scripts = c.requires.line.0; is = c.requires.line.1 }) c.args.dev _ c.requires.due
 
 pub returns-in-Ok-clause-line : goal.returns-in-Ok-clause-line
 returns-in-Ok-clause-line g c scripts is =

@@ -1,4 +1,4 @@
-use Rattle.std.proofs.Common.{sym, ◌∙◌, subst}
+use Rattle.std.proofs.Common.{subst}
 use Rattle.board_text.specs.Given.{ReadsLine}
 use Rattle.board_text.proofs.Asks.{ask_taken, ask_left}
 use Rattle.board_text.proofs.reader.Reader.read_line.Goals as goal

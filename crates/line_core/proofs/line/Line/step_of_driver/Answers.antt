@@ -5,7 +5,7 @@ use Rattle.irq_line.specs.Seen.{LineSeen}
 use Rattle.irq_model.specs.Due.{due_call}
 use Rattle.irq_model.specs.Next.{next}
 use Rattle.line_core.proofs.More.{Beside, due_call_is}
-use Rattle.line_core.proofs.Stepping.{line_of, no_driver_told}
+use Rattle.line_core.proofs.Stepping.{line_of, no_call_told}
 use Rattle.line_core.proofs.Steps.{adds_alone, rests_alone}
 use Rattle.line_core.specs.Seen.{WiredSeen}
 use Rattle.line_core.proofs.line.Line.step_of_driver.Goals.{in-Ask+else-has_room, in_default-call}
@@ -16,7 +16,7 @@ returns-in_default-clause-step g c =
     let line : LineSeen = line_of c.self.inside.def c.self.inside.history in
     let b : Beside line.def line.entries = record { seen = c.self.inside.state; scripts = c.self.inside.scripts; is = c.self.invariant } in
     let who = actors.Driver c.args.driver in
-    let none : next line.def line.entries who ≡ None = no_driver_told line b c.args.driver (sym c.due.ensures ∙ c.in_default.is) in
+    let none : next line.def line.entries who ≡ None = no_call_told line b c.args.driver (sym c.due.ensures ∙ c.in_default.is) in
     rests_alone who c.args.self.now.line (subst (λ (w : WiredSeen). next w.line.def w.line.entries who ≡ None) c.self.view_is none)
 
 pub ask-requires-clause-call : goal.ask-requires-clause-call
