@@ -64,20 +64,21 @@ impl Asks {
         self.waiting > 0
     }
 
-    /// The device asks for service.
-    pub fn asked(&mut self, dev: DevNo)
+    /// The device asks for service. Answers the row as it was.
+    #[inline(always)]
+    pub fn asked(&mut self, dev: DevNo) -> Option<AskRow>
         requires { HasRoom (at self.old dev) }
-        ensures { self.new ≡ change asked self.old dev }
+        ensures was { result ≡ at self.old dev }
+        ensures rows { self.new ≡ change asked self.old dev }
     {
-        let Some(row) = self.rows.get(dev) else {
-            return;
-        };
+        let row = self.rows.get(dev)?;
         let new = AskRow {
             unserved: row.unserved + 1,
             fresh: row.fresh + 1,
             ..row
         };
         self.replace(dev, row, new);
+        Some(row)
     }
 
     /// The device's handler is called. `serves`: this is its serving run.
@@ -111,8 +112,8 @@ impl Asks {
     }
 
     /// A run of the device returns. `serves`: it was its serving run, and has served; then only the
-    /// asks that came since it began stay unserved. Answers the row as it was, so that what the run met needs no
-    /// second look.
+    /// asks that came since it began stay unserved. Answers the row as it was, so that what the run
+    /// met needs no second look.
     #[tactic(auto, using(crate::proofs::Serving::served_stands))]
     pub fn served(&mut self, dev: DevNo, serves: bool) -> Option<AskRow>
         ensures met { result ≡ at self.old dev }
@@ -196,6 +197,7 @@ impl Asks {
     }
 
     /// Puts another row in the place of the device's, and keeps the count.
+    #[inline(always)]
     fn replace(&mut self, dev: DevNo, old: AskRow, new: AskRow)
         requires { at self.old dev ≡ Some old }
         ensures { self.new ≡ put self.old dev new }

@@ -1,5 +1,5 @@
 -- If no run of a board moves a line or waits, none of a line of it does.
-use Rattle.std.proofs.Common.{◌≡◌, ℕ, Bool, true, false, not, ◌||◌, ◌==◌, cond, Some, List, [], ◌∷◌, map, filter, slice_get, refl, ap, subst}
+use Rattle.std.proofs.Common.{◌≡◌, ℕ, Bool, true, false, not, ◌==◌, cond, Some, List, [], ◌∷◌, map, filter, slice_get, refl, ap, subst}
 use Rattle.std.specs.List.{list_any}
 use Rattle.std.proofs.lemmas.Bool.{or_parts, or_from}
 use Rattle.irq_base.specs.declared.lines.LineDef.{LineDef}

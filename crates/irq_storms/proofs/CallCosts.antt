@@ -1,25 +1,21 @@
 -- What the step of a call costs: one entry, two more if it starts the line, and a run of the thread
 -- that it wakes. A call costs no more than its weight.
-use Rattle.std.proofs.Common.{◌≡◌, ℕ, ◌+◌, ◌*◌, ◌≤◌, Bool, true, false, cond, List, [], ◌∷◌, length, refl, ap, ◌∙◌, arith}
+use Rattle.std.proofs.Common.{◌≡◌, ℕ, ◌+◌, ◌*◌, ◌≤◌, Bool, true, false, cond, List, [], ◌∷◌, length, refl, ap, arith}
 use Rattle.irq_base.specs.declared.numbers.DevNo.{DevNo}
 use Rattle.irq_base.specs.declared.calls.Call.{Call}
 use Rattle.irq_base.specs.declared.calls.Call.TheVariants as calls
-use Rattle.irq_base.specs.declared.lines.LineDef.{LineDef}
 use Rattle.irq_base.specs.declared.entries.Entry.{Entry}
 use Rattle.irq_base.specs.declared.entries.Entry.TheVariants as by
-use Rattle.irq_base.specs.declared.entries.DriverEntry.{DriverEntry}
 use Rattle.irq_base.specs.declared.entries.DriverEntry.TheVariants as drivers
 use Rattle.irq_base.specs.declared.entries.CallEntry.{CallEntry}
 use Rattle.irq_base.specs.declared.entries.CallEntry.TheVariants as called
 use Rattle.irq_base.specs.declared.entries.UnlinkAnswer.TheVariants as unlinks
-use Rattle.irq_model.specs.Places.{count_of}
 use Rattle.irq_model.specs.Kinds.{same_dev, is_started_opened, opened_by_call, is_start}
 use Rattle.irq_model.specs.Scripts.{MakesSteps, MakesAll, steps_in, step_in}
 use Rattle.irq_model.specs.RunBounds.{weight_of}
 use Rattle.irq_laws.proofs.ScriptLaws.{is_shared, shared_all, few_steps}
 use Rattle.irq_storms.specs.Judged.{one_if}
 use Rattle.irq_storms.specs.Tests.{total, is_by_any_driver}
-use Rattle.irq_storms.proofs.Counting.{mark_most}
 
 abbrev pub starting_cost : Bool → ℕ
 starting_cost b = 1 + 2 * one_if b

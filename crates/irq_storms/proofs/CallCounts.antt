@@ -1,9 +1,8 @@
 -- What drivers add to a history: each driver adds the entries of its calls, so all drivers together
 -- add no more entries than the calls of the line make.
-use Rattle.std.proofs.Common.{◌≡◌, ℕ, ◌+◌, ◌*◌, ◌≤◌, ◌==◌, inl, inr, Bool, true, false, not, ◌||◌, ◌&&◌, cond, List, []}
-use Rattle.std.proofs.Common.{◌∷◌, ◌++◌, filter, reverse, length, refl, ap, arith}
+use Rattle.std.proofs.Common.{◌≡◌, ℕ, ◌+◌, ◌*◌, ◌≤◌, Bool, true, false, not, ◌||◌, ◌&&◌, cond, List, []}
+use Rattle.std.proofs.Common.{◌∷◌, length, refl, arith}
 use Rattle.std.proofs.lemmas.Bool.{and_parts}
-use Rattle.std.proofs.lemmas.Grind.{reverse_onto}
 use Rattle.irq_base.specs.declared.numbers.DriverNo.{DriverNo}
 use Rattle.irq_base.specs.declared.calls.Call.{Call}
 use Rattle.irq_base.specs.declared.calls.Call.TheVariants as calls
@@ -16,10 +15,10 @@ use Rattle.irq_base.specs.declared.entries.CallEntry.{CallEntry}
 use Rattle.irq_base.specs.declared.entries.CallEntry.TheVariants as called
 use Rattle.irq_base.specs.declared.entries.UnlinkAnswer.TheVariants as unlinks
 use Rattle.irq_model.specs.Places.{count_of}
-use Rattle.irq_model.specs.Kinds.{same_driver, is_by_driver, is_any_ask, is_started_opened, opened_by_call}
-use Rattle.irq_model.specs.Due.{calls_by, entries_by, entries_of_call, begins_not_there}
+use Rattle.irq_model.specs.Kinds.{is_any_ask, is_started_opened, opened_by_call}
+use Rattle.irq_model.specs.Due.{entries_of_call, begins_not_there}
 use Rattle.irq_model.specs.Bounds.{is_ask_call, ask_calls, other_calls}
-use Rattle.irq_model.specs.Scripts.{MakesSteps, MakesAll, AreMadeBy, steps_in, FollowsScriptsPast}
+use Rattle.irq_model.specs.Scripts.{MakesSteps, MakesAll, steps_in, FollowsScriptsPast}
 use Rattle.irq_model.specs.Legal.{IsLegalPast}
 use Rattle.irq_laws.proofs.Lists.{both_ways}
 use Rattle.irq_laws.proofs.ScriptLaws.{is_shared, shared_all, few_steps, all_count, follows_past}

@@ -1,8 +1,8 @@
 -- The edges that devices make, by the asks and by what turns their interrupts on: at most those that
 -- the line's definition counts, and one for each arm of a driver.
-use Rattle.std.proofs.Common.{◌≡◌, ℕ, ◌+◌, ◌*◌, ◌≤◌, ◌==◌, Bool, true, false, not, ◌||◌, ◌&&◌, cond, Option, Some, List, [], ◌∷◌, All, refl, sym, ap, ◌∙◌, subst, arith}
-use Rattle.std.proofs.Math.Nat.{mul-add, mul-le-mul_left, mul_comm, mul_assoc}
-use Rattle.std.proofs.lemmas.Bool.{and_parts, or_parts, false_from_ne_true}
+use Rattle.std.proofs.Common.{◌≡◌, ℕ, ◌+◌, ◌*◌, ◌≤◌, ◌==◌, Bool, true, false, ◌&&◌, cond, Some, List, [], ◌∷◌, refl, sym, ap, ◌∙◌, subst, arith}
+use Rattle.std.proofs.Math.Nat.{mul-le-mul_left, mul_comm, mul_assoc}
+use Rattle.std.proofs.lemmas.Bool.{or_parts}
 use Rattle.std.proofs.lemmas.List.Elements.{recursion_from_All}
 use Rattle.std.specs.List.{list_any, AllByRecursion}
 use Rattle.irq_base.specs.declared.numbers.DevNo.{DevNo}
@@ -24,14 +24,14 @@ use Rattle.irq_base.specs.declared.entries.CallEntry.TheVariants as called
 use Rattle.irq_base.specs.declared.entries.UnlinkAnswer.TheVariants as unlinks
 use Rattle.irq_base.specs.Handlers.{has_thread}
 use Rattle.irq_model.specs.Places.{count_of}
-use Rattle.irq_model.specs.Kinds.{same_dev, is_any_ask, is_ask, is_device_edge, arms_with_edge, is_thread_begin, wakes}
+use Rattle.irq_model.specs.Kinds.{same_dev, is_any_ask, is_ask, is_device_edge, arms_with_edge, is_thread_begin}
 use Rattle.irq_model.specs.Lines.{is_device, kind_in, kind_of, same_part, script_in, run_script}
-use Rattle.irq_model.specs.Bounds.{is_ask_call, ask_calls}
+use Rattle.irq_model.specs.Bounds.{is_ask_call}
 use Rattle.irq_model.specs.Scripts.{MakesSteps, MakesAll, step_in}
 use Rattle.irq_model.specs.RunBounds.{asks_this, arms_this, asks_of, arms_of, told_wakes, wakes_by_handler, edges_by_arms, device_edges}
 use Rattle.irq_model.specs.Legal.{IsDue, IsLegalPast}
 use Rattle.irq_model.specs.Valid.{IsValid, HasDistinctDevices}
-use Rattle.irq_model.specs.ValidRuns.{HasValidRuns, has_script, may_stand, is_told}
+use Rattle.irq_model.specs.ValidRuns.{HasValidRuns, has_script, is_told}
 use Rattle.irq_steps.proofs.Same.{same_self, same_both, dev_from_same}
 use Rattle.irq_laws.proofs.Lists.{both_ways}
 use Rattle.irq_laws.proofs.ScriptLaws.{follows_past}
@@ -40,14 +40,14 @@ use Rattle.irq_laws.proofs.ImpliesThread.{thread_call_due}
 use Rattle.irq_laws.proofs.Standstill.{run_stands}
 use Rattle.irq_storms.specs.Judged.{one_if}
 use Rattle.irq_storms.specs.Tests.{total, is_by_any_driver}
-use Rattle.irq_storms.proofs.Counting.{count_more, count_imply, count_total, total_at, total_ext, totals_by_key}
+use Rattle.irq_storms.proofs.Counting.{count_more, count_imply, count_total, total_at, totals_by_key}
 use Rattle.irq_storms.proofs.Weights.{of_drivers}
 use Rattle.irq_storms.proofs.CallCounts.{renews, asks_of_drivers}
 use Rattle.irq_storms.proofs.CallCosts.{runs_cost}
 use Rattle.irq_storms.proofs.ThreadCounts.{dev_key, call_key, begins_of}
-use Rattle.irq_storms.proofs.DeviceSums.{number, present, absent}
+use Rattle.irq_storms.proofs.DeviceSums.{number, present}
 use Rattle.irq_storms.proofs.Meeting.{AlwaysServes, check_serves, null_serves}
-use Rattle.irq_storms.proofs.ArmCosts.{edge_arm, arm_cost, handler_arms, thread_arms, arm_call}
+use Rattle.irq_storms.proofs.ArmCosts.{arm_cost, handler_arms, thread_arms, arm_call}
 use Rattle.irq_storms.proofs.HandlerArms.{direct_arms, other_arms}
 use Rattle.irq_storms.proofs.ThreadArms.{serving_arms, any_arms}
 use Rattle.irq_storms.proofs.ToldWakes.{told_wakes_counted}
@@ -161,7 +161,8 @@ module _ (def : LineDef) (runs : HasValidRuns def) where
   at_device k e past legal = let n = no_weight (k == dev_key e) in omega (arith, n)
 
   both_arms : (k : ℕ) (past : List Entry) → IsLegalPast def past
-      → total_at dev_key run_arms k past ≤ sum_over (λ e past. handler_arms (record { 0 = k }) e) past + sum_over (λ e past. thread_arms (record { 0 = k }) e) past
+      → total_at dev_key run_arms k past ≤ sum_over (λ e past. handler_arms (record { 0 = k }) e) past + sum_over
+      (λ e past. thread_arms (record { 0 = k }) e) past
   both_arms k past legal =
       let a = sum_alone (λ e. cond (k == dev_key e) (run_arms e) 0) past in
       let s = sum_below def (λ e past. cond (k == dev_key e) (run_arms e) 0)
@@ -215,7 +216,8 @@ module _ (def : LineDef) (runs : HasValidRuns def) where
       less : (b m w : ℕ) → b + m ≤ w → b ≤ w
       less b m w h = omega (arith, h)
 
-      by_wakes : (b : Bool) → list_any (wakes_by_handler d) def.runs ≡ b → sum_over (λ e past. thread_arms d e) past ≤ arms_of def parts.Thread d * told_wakes def d
+      by_wakes : (b : Bool) → list_any (wakes_by_handler d) def.runs ≡ b
+          → sum_over (λ e past. thread_arms d e) past ≤ arms_of def parts.Thread d * told_wakes def d
       by_wakes true woken =
           let none = any_none (run_script def d parts.Thread) (runs.told_arms d (ap is_told is) woken) in
           let a = any_arms def d past legal in
@@ -290,7 +292,8 @@ module _ (def : LineDef) (runs : HasValidRuns def) where
   arms_of_runs : (past : List Entry) → IsValid def → IsLegalPast def past → total run_arms past ≤ total (λ x. edges_by_arms def x.dev x.kind) def.devices
   arms_of_runs past valid legal =
       let all = totals_by_key dev_key run_arms past number (λ x. edges_of x.dev) def.devices each in
-      let same = total_kinds def.devices (λ x. edges_of x.dev) (λ x. edges_by_arms def x.dev x.kind) (edges_are def.devices (own_kinds def.devices valid.distinct)) in
+      let same = total_kinds def.devices (λ x. edges_of x.dev) (λ x. edges_by_arms def x.dev x.kind)
+      (edges_are def.devices (own_kinds def.devices valid.distinct)) in
       omega (arith, all, same)
     where
       each : (k : ℕ) → total_at dev_key run_arms k past ≤ total_at number (λ x. edges_of x.dev) k def.devices
@@ -303,7 +306,7 @@ module _ (def : LineDef) (runs : HasValidRuns def) where
 
 -- ---- the arms of drivers
 
-abbrev driver_arms : Entry → ℕ
+abbrev pub driver_arms : Entry → ℕ
 driver_arms (by.DriverCall driver call) = one_if (arms_with_edge call)
 driver_arms _ = 0
 
@@ -334,7 +337,7 @@ arms_alone : (e : Entry) → is_by_any_driver e ≡ false → driver_arms e ≡ 
 arms_alone (by.DriverCall r call) other = cc
 arms_alone e other = refl
 
-arms_of_drivers : (def : LineDef) (past : List Entry) → IsLegalPast def past → total driver_arms past ≤ count_of (λ c. is_arm_call c.1) def.calls
+pub arms_of_drivers : (def : LineDef) (past : List Entry) → IsLegalPast def past → total driver_arms past ≤ count_of (λ c. is_arm_call c.1) def.calls
 arms_of_drivers def past legal =
     let all = of_drivers driver_arms (λ c. one_if (is_arm_call c))
     (runs_cost (λ call. one_if (arms_with_edge call)) (λ c. one_if (is_arm_call c)) arm_steps driver_arms arm_step)
@@ -355,7 +358,7 @@ edge_more (by.ThreadCall x call) = omega arith
 edge_more (by.DriverCall r call) = omega arith
 edge_more e = omega arith
 
-edges_past : (past : List Entry) → count_of is_device_edge past ≤ count_of is_any_ask past + total driver_arms past + total run_arms past
+pub edges_past : (past : List Entry) → count_of is_device_edge past ≤ count_of is_any_ask past + total driver_arms past + total run_arms past
 edges_past [] = omega arith
 edges_past (e ∷ past) =
     let r = edges_past past in

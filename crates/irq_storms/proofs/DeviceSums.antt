@@ -26,7 +26,8 @@ use Rattle.irq_laws.proofs.Lists.{both_ways}
 use Rattle.irq_laws.proofs.Requested.{due_passes}
 use Rattle.irq_storms.specs.Tests.{asks_served, all_served, served_to, served_by_call, is_any_serving, total}
 use Rattle.irq_storms.specs.Judged.{one_if}
-use Rattle.irq_storms.proofs.Counting.{count_more, count_ext, count_total, total_ext, total_at, total_below, below_zero, below_more, below_all, at_key, totals_by_key}
+use Rattle.irq_storms.proofs.Counting.{count_more, count_ext, count_total, total_ext, total_at, total_below, below_zero}
+use Rattle.irq_storms.proofs.Counting.{below_more, below_all, at_key, totals_by_key}
 use Rattle.irq_storms.proofs.ThreadCounts.{dev_key, call_key}
 use Rattle.irq_storms.proofs.ServedCounts.{served_exactly, key_ask, some_if}
 

@@ -29,7 +29,7 @@ use Rattle.irq_storms.proofs.RoundCounts.{again_pends, rounds_of_edges}
 
 -- ---- takes by their ways
 
-takes_by_way : (past : List Entry) → count_of is_take past ≡ count_of is_line_take past + count_of is_resend_take past
+pub takes_by_way : (past : List Entry) → count_of is_take past ≡ count_of is_line_take past + count_of is_resend_take past
 takes_by_way [] = refl
 takes_by_way (by.Cpu c (cpus.Take ways.Line answer) ∷ past) = let r = takes_by_way past in omega (arith, r)
 takes_by_way (by.Cpu c (cpus.Take ways.Resend answer) ∷ past) = let r = takes_by_way past in omega (arith, r)
@@ -43,7 +43,7 @@ resend_marks (opens.Started resends.No) = omega arith
 resend_marks (opens.Started resends.Chip) = omega arith
 resend_marks (opens.Started resends.Soft) = omega arith
 
-resends_past : (past : List Entry) → count_of is_chip_start past + count_of is_soft_start past ≤ count_of is_start past
+pub resends_past : (past : List Entry) → count_of is_chip_start past + count_of is_soft_start past ≤ count_of is_start past
 resends_past [] = omega arith
 resends_past (e ∷ past) =
     summed _ _ _ _ _ _ _ _ _ (count_more is_chip_start e past) (count_more is_soft_start e past)

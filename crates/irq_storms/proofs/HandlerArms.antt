@@ -1,6 +1,7 @@
 -- The edges that handlers make as they turn a device's interrupt on: of direct devices alone, and in
 -- runs that met something unserved.
-use Rattle.std.proofs.Common.{◌≡◌, ℕ, ◌+◌, ◌-◌, ◌*◌, ◌≤◌, Bool, true, false, not, ◌||◌, ◌&&◌, cond, nat_lt, Option, Some, None, List, [], ◌∷◌, refl, sym, ap, ◌∙◌, subst, arith}
+use Rattle.std.proofs.Common.{◌≡◌, ℕ, ◌+◌, ◌-◌, ◌*◌, ◌≤◌, Bool, true, false, not, ◌||◌, ◌&&◌, cond, nat_lt, Option}
+use Rattle.std.proofs.Common.{Some, None, List, [], ◌∷◌, refl, sym, ap, ◌∙◌, subst, arith}
 use Rattle.std.proofs.Math.Nat.{mul-add, mul-one, mul-le-mul_left}
 use Rattle.std.proofs.lemmas.Bool.{and_parts}
 use Rattle.irq_base.specs.declared.numbers.CpuNo.{CpuNo}
@@ -26,11 +27,11 @@ use Rattle.irq_model.specs.Lines.{kind_of, run_script}
 use Rattle.irq_model.specs.Asks.{begins_run, unserved_asks}
 use Rattle.irq_model.specs.Rounds.{at_work}
 use Rattle.irq_model.specs.Reason.{is_called}
-use Rattle.irq_model.specs.Runs.{met_by, told_of, is_recognised, makes_calls, answer_of_run_now, entries_of_run}
+use Rattle.irq_model.specs.Runs.{met_by, told_of, is_recognised, makes_calls, entries_of_run}
 use Rattle.irq_model.specs.Due.{due_of}
 use Rattle.irq_model.specs.RunBounds.{arms_this, arms_of}
-use Rattle.irq_model.specs.ValidRuns.{HasValidRuns, is_direct, may_stand}
-use Rattle.irq_model.specs.Legal.{IsDue, IsLegalPast}
+use Rattle.irq_model.specs.ValidRuns.{HasValidRuns, is_direct}
+use Rattle.irq_model.specs.Legal.{IsLegalPast}
 use Rattle.irq_steps.proofs.Same.{same_self, dev_from_same}
 use Rattle.irq_laws.proofs.Chosen.{the_same}
 use Rattle.irq_laws.proofs.ScriptLaws.{runs_past}
@@ -42,7 +43,7 @@ use Rattle.irq_storms.specs.Judged.{one_if}
 use Rattle.irq_storms.specs.Tests.{total}
 use Rattle.irq_storms.proofs.Counting.{count_total}
 use Rattle.irq_storms.proofs.HandlerRuns.{made_most}
-use Rattle.irq_storms.proofs.Meeting.{meets, meetings, direct_serves}
+use Rattle.irq_storms.proofs.Meeting.{meetings, direct_serves}
 use Rattle.irq_storms.proofs.ArmCosts.{edge_arm, arm_cost, arm_weight, handler_arms, handler_made, handlers_alone, arm_call}
 use Rattle.irq_storms.proofs.Paying.{sum_over, StaysPaid, is_paid, sum_below}
 
@@ -79,9 +80,11 @@ arms_own def c edge x d past runs same u =
     let own : u.dev ≡ d = dev_from_same u.dev x parts_are.0 ∙ sym (dev_from_same d x same) in
     let kind : kind_of def u.dev ≡ kinds.Direct = direct_kind (kind_of def u.dev) parts_are.1 in
     let makes : makes_calls def parts.Primary u.dev past ≡ true =
-    some_due (makes_calls def parts.Primary u.dev past) (due_of (run_script def u.dev parts.Primary) (entries_of_run parts.Primary u.dev past)) u.due u.is_due in
+    some_due (makes_calls def parts.Primary u.dev past)
+    (due_of (run_script def u.dev parts.Primary) (entries_of_run parts.Primary u.dev past)) u.due u.is_due in
     let known : is_recognised (answer_of kinds.Direct parts.Primary (met_by def parts.Primary u.dev past) (told_of def parts.Primary u.dev past)) ≡ true =
-    ap (λ (k : Kind). is_recognised (answer_of k parts.Primary (met_by def parts.Primary u.dev past) (told_of def parts.Primary u.dev past))) (sym kind) ∙ makes in
+    ap (λ (k : Kind). is_recognised (answer_of k parts.Primary (met_by def parts.Primary u.dev past)
+    (told_of def parts.Primary u.dev past))) (sym kind) ∙ makes in
     subst (λ (y : DevNo). Arms def past y) own
     (record { is_at_work = u.is_at_work; direct = kind; met = recognises (met_by def parts.Primary u.dev past) (told_of def parts.Primary u.dev past) known })
 
@@ -172,16 +175,19 @@ module _ (def : LineDef) (runs : HasValidRuns def) (d : DevNo) where
   at_call c call past legal = by_test (edge_arm d call) refl
     where
       by_test : (b : Bool) → edge_arm d call ≡ b → Paid (by.CpuCall c call) past
-      by_test false is = let s = same_rest (active past) (made past) (made (by.CpuCall c call ∷ past)) (let z : arm_cost d call ≡ 0 = ap one_if is in omega (arith, z)) in
+      by_test false is = let s = same_rest (active past) (made past) (made (by.CpuCall c call ∷ past))
+          (let z : arm_cost d call ≡ 0 = ap one_if is in omega (arith, z)) in
           let z : arm_cost d call ≡ 0 = ap one_if is in omega (arith, s, z)
       by_test true is =
           let u = who_arms def c call d past runs is (handler_call_due def c call past legal.0) in
           let most : made (by.CpuCall c call ∷ past) ≤ all =
           made_most (handler_arms d) (arm_weight d) (handler_made d) (handlers_alone d) def (by.CpuCall c call ∷ past) legal d u.is_at_work in
           let called_now : is_called past d ≡ true = ((runs_past def past legal.1).working d u.is_at_work).0 in
-          let was : rest past ≡ all - made past = ap (λ (b : Bool). cond b (all - made past) 0) (both (is_called past d) (nat_lt 0 (met_by def parts.Primary d past)) called_now u.met) in
+          let was : rest past ≡ all - made past = ap (λ (b : Bool). cond b (all - made past) 0)
+          (both (is_called past d) (nat_lt 0 (met_by def parts.Primary d past)) called_now u.met) in
           let is_now : rest (by.CpuCall c call ∷ past) ≡ all - made (by.CpuCall c call ∷ past) =
-          ap (λ (b : Bool). cond b (all - made (by.CpuCall c call ∷ past)) 0) (both (is_called past d) (nat_lt 0 (met_by def parts.Primary d past)) called_now u.met) in
+          ap (λ (b : Bool). cond b (all - made (by.CpuCall c call ∷ past)) 0)
+          (both (is_called past d) (nat_lt 0 (met_by def parts.Primary d past)) called_now u.met) in
           omega (arith, most, was, is_now)
         where
           both : (a b : Bool) → a ≡ true → b ≡ true → (a && b) ≡ true

@@ -1,5 +1,6 @@
 -- What the runs of handlers cost, with the threads that they wake, is paid as they begin.
-use Rattle.std.proofs.Common.{◌≡◌, ℕ, ◌+◌, ◌-◌, ◌≤◌, Bool, true, false, cond, Option, Some, None, is_some, List, [], ◌∷◌, filter, reverse, refl, sym, ap, ap₂, ◌∙◌, subst, arith}
+use Rattle.std.proofs.Common.{◌≡◌, ℕ, ◌+◌, ◌-◌, ◌≤◌, Bool, true, false, cond, Option, Some, None, is_some, List, []}
+use Rattle.std.proofs.Common.{◌∷◌, filter, refl, sym, ap, ap₂, ◌∙◌, subst, arith}
 use Rattle.irq_base.specs.declared.numbers.CpuNo.{CpuNo}
 use Rattle.irq_base.specs.declared.numbers.DevNo.{DevNo}
 use Rattle.irq_base.specs.declared.calls.Call.{Call}
@@ -16,7 +17,7 @@ use Rattle.irq_model.specs.Rounds.{flow, is_cpu, at_work}
 use Rattle.irq_model.specs.Runs.{makes_calls, entries_of_run}
 use Rattle.irq_model.specs.RunLaws.{calls_of_run}
 use Rattle.irq_model.specs.Scripts.{AreMadeBy, MakesAll}
-use Rattle.irq_model.specs.Legal.{IsDue, IsLegalPast}
+use Rattle.irq_model.specs.Legal.{IsLegalPast}
 use Rattle.irq_steps.proofs.Same.{same_self_cpu}
 use Rattle.irq_laws.specs.Actors.{calls_of, entries_of, calls_at_work, entries_at_work}
 use Rattle.irq_laws.proofs.ScriptLaws.{runs_past, follows_past}

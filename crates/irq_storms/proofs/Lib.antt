@@ -26,3 +26,14 @@ pub mod WeightSums
 pub mod ToldWakes
 pub mod DeviceEdges
 pub mod RunEdgeBound
+pub mod WindowRule
+pub mod KillCounts
+pub mod EndCounts
+pub mod HandledRuns
+pub mod LevelBound
+pub mod OwedEnables
+pub mod KilledStarts
+pub mod PlainBounds
+pub mod StormRows
+pub mod EdgeTakes
+pub mod WindowBound

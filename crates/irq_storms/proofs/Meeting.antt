@@ -2,10 +2,9 @@
 -- some, by returning or by a call, so they are at most the asks.
 use Rattle.std.proofs.Common.{◌≡◌, ℕ, ◌+◌, ◌≤◌, ◌==◌, ◌⊎◌, inl, inr, Bool, true, false, not, ◌||◌, ◌&&◌, cond, nat_lt}
 use Rattle.std.proofs.Common.{Option, Some, None, List, [], ◌∷◌, ◌++◌, reverse, refl, sym, ap, ◌∙◌, subst, arith, eqb-true}
-use Rattle.std.proofs.lemmas.Bool.{and_parts, or_parts, or_cases, or_left, or_right, ltb-true, ltb-false}
+use Rattle.std.proofs.lemmas.Bool.{and_parts, or_cases, or_left, or_right, ltb-true, ltb-false}
 use Rattle.std.proofs.lemmas.List.{reverse-reverse}
 use Rattle.std.specs.List.{list_any}
-use Rattle.irq_base.specs.declared.numbers.CpuNo.{CpuNo}
 use Rattle.irq_base.specs.declared.numbers.DevNo.{DevNo}
 use Rattle.irq_base.specs.declared.calls.Call.{Call}
 use Rattle.irq_base.specs.declared.calls.Call.TheVariants as calls
@@ -23,13 +22,12 @@ use Rattle.irq_base.specs.declared.entries.ThreadEntry.TheVariants as threads
 use Rattle.irq_base.specs.declared.entries.CallEntry.{CallEntry}
 use Rattle.irq_base.specs.declared.entries.CallEntry.TheVariants as called
 use Rattle.irq_base.specs.Handlers.{serving_part, answer_of}
-use Rattle.irq_model.specs.Places.{stands, since, before, count_of, EachEntry}
+use Rattle.irq_model.specs.Places.{since, before, count_of, EachEntry}
 use Rattle.irq_model.specs.Kinds.{same_dev, is_ask, is_begin, is_return, is_begin_or_return, is_thread_begin, is_thread_return, is_done, is_serve, serves_this}
 use Rattle.irq_model.specs.Lines.{kind_of, run_script}
 use Rattle.irq_model.specs.Asks.{begins_run, serves_itself, serving, unless_by_script, unserved_asks, taken_away}
 use Rattle.irq_model.specs.Threads.{is_running}
 use Rattle.irq_model.specs.Reason.{is_called}
-use Rattle.irq_model.specs.Rounds.{at_work}
 use Rattle.irq_model.specs.Runs.{met_by, makes_calls, is_recognised, entries_of_run, serves_by_word, is_that_part, told_of, served_by_run}
 use Rattle.irq_model.specs.RunLaws.{calls_of_run, is_in_run}
 use Rattle.irq_model.specs.Scripts.{MakesSteps, MakesAll, MakesAllOf, steps_in}
@@ -43,10 +41,10 @@ use Rattle.irq_laws.proofs.ImpliesThread.{thread_return_due, done_due, has_retur
 use Rattle.irq_storms.specs.Judged.{one_if}
 use Rattle.irq_storms.specs.Tests.{serves_of, asks_served, total}
 use Rattle.irq_storms.proofs.Counting.{count_more}
-use Rattle.irq_storms.proofs.ServedCounts.{served_of, still_standing, stands_began}
-use Rattle.irq_storms.proofs.ThreadCounts.{begin_tells, return_tells, returned_since}
-use Rattle.irq_storms.proofs.Within.{served_since, asked_since, in_balance, serve_takes, any_back, any_kept, any_since_narrow}
-use Rattle.irq_storms.proofs.Paying.{sum_over, StaysPaid, is_paid, sum_alone}
+use Rattle.irq_storms.proofs.ServedCounts.{served_of, stands_began}
+use Rattle.irq_storms.proofs.ThreadCounts.{begin_tells, returned_since}
+use Rattle.irq_storms.proofs.Within.{served_since, in_balance, serve_takes, any_back, any_kept, any_since_narrow}
+use Rattle.irq_storms.proofs.Paying.{sum_over}
 
 -- ---- a run of d that hasn't returned
 
@@ -179,10 +177,11 @@ own_entries parts.Thread d q past h = any_kept q _ _ (any_back q _ h)
 
 -- ---- a run that has returned made its script
 
-abbrev Made : LineDef → Part → DevNo → List Entry → Type 0
+abbrev pub Made : LineDef → Part → DevNo → List Entry → Type 0
 Made def p d past = MakesAllOf (calls_of_run def p d past) (entries_of_run p d past)
 
-run_made : (def : LineDef) (p : Part) (d : DevNo) (e : Entry) (past : List Entry) → IsLegalPast def (e ∷ past) → returns_run p d e ≡ true → Made def p d past
+pub run_made : (def : LineDef) (p : Part) (d : DevNo) (e : Entry) (past : List Entry) → IsLegalPast def (e ∷ past)
+    → returns_run p d e ≡ true → Made def p d past
 run_made def p d e past legal h =
     let turned : reverse (reverse (e ∷ past)) ≡ e ∷ past = reverse-reverse (e ∷ past) in
     let laws = follows_run_scripts def (reverse (e ∷ past)) (subst (λ (l : List Entry). IsLegalPast def l) (sym turned) legal) in

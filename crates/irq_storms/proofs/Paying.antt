@@ -1,10 +1,9 @@
 -- A bound that every entry keeps, in weights: what the entries cost, with what is still owed to
 -- them, is at most what the entries pay.
-use Rattle.std.proofs.Common.{◌≡◌, ℕ, ◌+◌, ◌≤◌, Bool, true, false, cond, List, [], ◌∷◌, refl, arith}
+use Rattle.std.proofs.Common.{◌≡◌, ℕ, ◌+◌, ◌≤◌, List, [], ◌∷◌, refl, arith}
 use Rattle.irq_base.specs.declared.lines.LineDef.{LineDef}
 use Rattle.irq_base.specs.declared.entries.Entry.{Entry}
-use Rattle.irq_model.specs.Legal.{IsDue, IsLegalPast}
-use Rattle.irq_storms.specs.Judged.{one_if, count_where}
+use Rattle.irq_model.specs.Legal.{IsLegalPast}
 use Rattle.irq_storms.specs.Tests.{total}
 
 -- the sum of what each entry weighs after the entries before it

@@ -1,7 +1,7 @@
 -- The bound of an edge line.
 use Rattle.std.proofs.Common.{◌≡◌, ℕ, ◌+◌, ◌*◌, ◌≤◌, true, List, reverse, length, refl, sym, subst, arith}
 use Rattle.std.proofs.lemmas.List.{reverse-reverse}
-use Rattle.std.proofs.Math.Nat.{mul-add, add-mul, mul-le-mul_left, mul-le-mul_right, mul-one}
+use Rattle.std.proofs.Math.Nat.{mul-add, add-mul, mul-le-mul_left, mul-le-mul_right}
 use Rattle.irq_base.specs.declared.lines.LineDef.{LineDef}
 use Rattle.irq_base.specs.declared.entries.Entry.{Entry}
 use Rattle.irq_base.specs.declared.entries.Entry.TheVariants as by
@@ -9,8 +9,7 @@ use Rattle.irq_base.specs.declared.entries.CpuEntry.TheVariants as cpus
 use Rattle.irq_model.specs.Places.{count_of}
 use Rattle.irq_model.specs.Kinds.{is_again, is_device_edge}
 use Rattle.irq_model.specs.Lines.{is_edge_line}
-use Rattle.irq_model.specs.Rounds.{begins_round}
-use Rattle.irq_model.specs.Bounds.{ask_calls, other_calls}
+use Rattle.irq_model.specs.Bounds.{other_calls}
 use Rattle.irq_model.specs.RunBounds.{round_weight, device_edges, run_edge_bound}
 use Rattle.irq_model.specs.Legal.{IsLegalPast}
 use Rattle.irq_model.specs.Valid.{IsValid}
@@ -26,13 +25,13 @@ use Rattle.irq_storms.proofs.LongBound.{by_rounds}
 use Rattle.irq_storms.proofs.WakeCosts.{thread_weight}
 use Rattle.irq_storms.proofs.WeightSums.{all_handlers, round_pays, is_arm_call, calls_paid}
 
-counted_past : (def : LineDef) (past : List Entry) → IsLegalPast def past → is_edge_line def ≡ true → IsEdgeCounted def past
+pub counted_past : (def : LineDef) (past : List Entry) → IsLegalPast def past → is_edge_line def ≡ true → IsEdgeCounted def past
 counted_past def past legal edge =
     let turned : reverse (reverse past) ≡ past = reverse-reverse past in
     subst (λ (l : List Entry). IsEdgeCounted def l) turned
     (edge_is_counted def (reverse past) (subst (λ (l : List Entry). IsLegalPast def l) (sym turned) legal) edge)
 
-again_ends : (e : Entry) → is_again e ≡ true → is_end e ≡ true
+pub again_ends : (e : Entry) → is_again e ≡ true → is_end e ≡ true
 again_ends (by.Cpu c (cpus.End again unmask note)) h = refl
 again_ends e h = cc
 

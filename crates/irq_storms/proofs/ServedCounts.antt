@@ -1,6 +1,6 @@
 -- The asks of a device, served by runs as they return, or by calls.
 use Rattle.std.proofs.Common.{◌≡◌, ℕ, ◌+◌, ◌≤◌, ◌==◌, min, ◌⊎◌, inl, inr, Bool, true, false, not, ◌||◌, ◌&&◌, cond, nat_lt}
-use Rattle.std.proofs.Common.{Option, Some, None, List, [], ◌∷◌, refl, sym, ap, ap₂, ◌∙◌, subst, arith}
+use Rattle.std.proofs.Common.{Option, Some, None, List, [], ◌∷◌, refl, sym, ap, ◌∙◌, subst, arith}
 use Rattle.std.proofs.lemmas.Bool.{and_parts, or_parts, ltb-true, ltb-false}
 use Rattle.std.specs.List.{list_any}
 use Rattle.irq_base.specs.declared.numbers.CpuNo.{CpuNo}
@@ -20,7 +20,7 @@ use Rattle.irq_base.specs.declared.entries.CallEntry.TheVariants as called
 use Rattle.irq_model.specs.Places.{stands, since, before, count_of}
 use Rattle.irq_model.specs.Kinds.{same_dev, is_any_ask, is_ask, is_begin, is_return, is_thread_begin, is_thread_return, is_serve, is_done, made_by}
 use Rattle.irq_model.specs.Lines.{kind_of}
-use Rattle.irq_model.specs.Asks.{begins_run, returns_served, since_served_run, left_by_runs, serving, unserved_asks, taken_away}
+use Rattle.irq_model.specs.Asks.{begins_run, returns_served, left_by_runs, serving, unserved_asks, taken_away}
 use Rattle.irq_model.specs.Threads.{is_running}
 use Rattle.irq_model.specs.Reason.{is_called}
 use Rattle.irq_model.specs.Runs.{is_that_part, serves_by_word, told_of, served_by_run}
@@ -33,9 +33,9 @@ use Rattle.irq_laws.proofs.ImpliesFlow.{return_due}
 use Rattle.irq_laws.proofs.ImpliesThread.{thread_return_due, has_returned}
 use Rattle.irq_laws.proofs.ImpliesDriver.{serve_due}
 use Rattle.irq_storms.specs.Judged.{one_if}
-use Rattle.irq_storms.specs.Tests.{is_any_serving, serves_of, asks_served, all_served, total}
-use Rattle.irq_storms.proofs.Counting.{count_more, count_ext, counts_by_key}
-use Rattle.irq_storms.proofs.ThreadCounts.{dev_key, swapped}
+use Rattle.irq_storms.specs.Tests.{serves_of, asks_served, total}
+use Rattle.irq_storms.proofs.Counting.{count_more}
+use Rattle.irq_storms.proofs.ThreadCounts.{dev_key}
 
 -- ---- a run that is in progress: b its beginnings, r its returns that have served, s the calls that
 -- serve, a the asks
@@ -229,7 +229,8 @@ by_run def d p e past part is no_serve no_ask apart run none count =
     let now = u (e ∷ past) in
     let was = u past in
     let met = u (before b past) in
-    let sum = least_left (count_of a (since b past)) (left a b r s past) (fresh a b r s past) (asks_served d e) (left a b r s (e ∷ past)) (fresh a b r s (e ∷ past))
+    let sum = least_left (count_of a (since b past)) (left a b r s past) (fresh a b r s past) (asks_served d e)
+    (left a b r s (e ∷ past)) (fresh a b r s (e ∷ past))
     (left a b r s (before b past)) (fresh a b r s (before b past)) o (omega (arith, f, n)) l g (omega (arith, count, met)) in
     omega (arith, sum, now, was, n)
 
@@ -316,9 +317,11 @@ return_more def c d x answer n past k due = by_tests (same_dev d x) (nat_lt 0 n)
         ends_none parts.Thread = refl
     by_tests true true same some =
         let u = return_due def c x answer n past due in
-        let t = subst (λ (y : DevNo). TookAway def parts.Primary y past n) (sym (dev_from_same d x same)) (took_away def parts.Primary x past n u.served_is some) in
+        let t = subst (λ (y : DevNo). TookAway def parts.Primary y past n) (sym (dev_from_same d x same))
+        (took_away def parts.Primary x past n u.served_is some) in
         let called : is_called past d ≡ true = subst (λ (y : DevNo). is_called past y ≡ true) (sym (dev_from_same d x same)) (k.working x u.is_at_work).0 in
-        by_run def d parts.Primary (by.Cpu c (cpus.Return answer x n)) past t.part (both_true (same_dev d x) (nat_lt 0 n) same some) refl refl (apart_run parts.Primary d)
+        by_run def d parts.Primary (by.Cpu c (cpus.Return answer x n)) past t.part
+        (both_true (same_dev d x) (nat_lt 0 n) same some) refl refl (apart_run parts.Primary d)
         (stands_before (is_begin d) (is_return d) (returns_served parts.Primary d) (returns_primary d) past called) t.none
         (served_one (same_dev d x) n same ∙ t.count)
 

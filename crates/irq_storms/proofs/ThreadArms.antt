@@ -1,13 +1,11 @@
 -- The edges that a device's thread makes as it turns the device's interrupt on: in runs that met
 -- something unserved, or in which something was asked.
-use Rattle.std.proofs.Common.{◌≡◌, ◌⊎◌, inl, inr, ℕ, ◌+◌, ◌-◌, ◌*◌, ◌≤◌, ◌<◌, Bool, true, false, not, ◌||◌, ◌&&◌, cond, nat_lt, Option, Some, List, [], ◌∷◌, refl, sym, ap, ◌∙◌, subst, arith}
-use Rattle.std.proofs.Math.Nat.{mul-add, mul-le-mul_left}
-use Rattle.std.proofs.lemmas.Bool.{and_parts, ltb-true, lt-ltb, ltb-false}
+use Rattle.std.proofs.Common.{◌≡◌, ℕ, ◌+◌, ◌-◌, ◌*◌, ◌≤◌, ◌<◌, Bool, true, false, not, ◌||◌, ◌&&◌, cond, nat_lt, List}
+use Rattle.std.proofs.Common.{[], ◌∷◌, refl, sym, ap, ◌∙◌, subst, arith}
+use Rattle.std.proofs.Math.Nat.{mul-le-mul_left}
+use Rattle.std.proofs.lemmas.Bool.{ltb-true, ltb-false}
 use Rattle.std.specs.List.{list_any}
 use Rattle.irq_base.specs.declared.numbers.DevNo.{DevNo}
-use Rattle.irq_base.specs.declared.calls.Call.{Call}
-use Rattle.irq_base.specs.declared.calls.Call.TheVariants as calls
-use Rattle.irq_base.specs.declared.devices.Part.{Part}
 use Rattle.irq_base.specs.declared.devices.Part.TheVariants as parts
 use Rattle.irq_base.specs.declared.lines.LineDef.{LineDef}
 use Rattle.irq_base.specs.declared.entries.Actor.TheVariants as actors
@@ -17,28 +15,24 @@ use Rattle.irq_base.specs.declared.entries.ThreadEntry.TheVariants as threads
 use Rattle.irq_base.specs.declared.entries.DriverEntry.TheVariants as drivers
 use Rattle.irq_base.specs.declared.entries.CallEntry.{CallEntry}
 use Rattle.irq_base.specs.declared.entries.CallEntry.TheVariants as called
-use Rattle.irq_base.specs.Handlers.{has_thread}
 use Rattle.irq_model.specs.Places.{since, before, count_of}
-use Rattle.irq_model.specs.Kinds.{same_dev, is_ask, is_thread_begin, is_thread_call}
-use Rattle.irq_model.specs.Lines.{is_edge_line, kind_of, same_part, script_in, run_script, does_forget}
+use Rattle.irq_model.specs.Kinds.{same_dev, is_ask, is_thread_begin}
+use Rattle.irq_model.specs.Lines.{is_edge_line, run_script, does_forget}
 use Rattle.irq_model.specs.Asks.{begins_run, unserved_asks, is_quiet}
 use Rattle.irq_model.specs.Runs.{met_by}
 use Rattle.irq_model.specs.RunLaws.{is_in_run}
 use Rattle.irq_model.specs.Threads.{is_running}
-use Rattle.irq_model.specs.Next.{arm_makes_edge}
 use Rattle.irq_model.specs.RunBounds.{arms_this, arms_of}
-use Rattle.irq_model.specs.ValidRuns.{HasValidRuns, has_script}
 use Rattle.irq_model.specs.Legal.{IsDue, IsLegalPast}
 use Rattle.irq_steps.proofs.Same.{dev_from_same}
 use Rattle.irq_laws.proofs.ImpliesThread.{has_returned, thread_call_due}
 use Rattle.irq_laws.proofs.ImpliesDriver.{arm_due}
-use Rattle.irq_laws.proofs.ScriptLaws.{runs_past}
 use Rattle.irq_storms.specs.Judged.{one_if}
 use Rattle.irq_storms.specs.Tests.{asks_served, total}
 use Rattle.irq_storms.proofs.Counting.{count_total}
 use Rattle.irq_storms.proofs.ThreadRuns.{made_most, in_run_before, thread_paid, times_count}
 use Rattle.irq_storms.proofs.Within.{asked_since, in_balance}
-use Rattle.irq_storms.proofs.Meeting.{AlwaysServes, meetings, not_in_before, has_begun_run}
+use Rattle.irq_storms.proofs.Meeting.{AlwaysServes, meetings, has_begun_run}
 use Rattle.irq_storms.proofs.ArmCosts.{edge_arm, arm_cost, arm_weight, thread_arms, thread_made, thread_alone}
 use Rattle.irq_storms.proofs.HandlerArms.{times_sum}
 use Rattle.irq_storms.proofs.Paying.{sum_over, StaysPaid, is_paid, sum_two}
@@ -106,7 +100,8 @@ module _ (def : LineDef) (d : DevNo) where
       let met_is : met (e ∷ past) ≡ nat_lt 0 (unserved_asks def d past) =
       ap (λ (c : Bool). nat_lt 0 (unserved_asks def d (cond c past (before (is_thread_begin d) past)))) is in
       let asked_is : asked (e ∷ past) ≡ false = ap (λ (c : Bool). list_any (is_ask d) (cond c [] (e ∷ since (is_thread_begin d) past))) is in
-      let r = by_tests (is_thread_begin d e) (is_in_run (e ∷ past) d) (met (e ∷ past)) (asked (e ∷ past)) (nat_lt 0 (unserved_asks def d past)) (made (e ∷ past))
+      let r = by_tests (is_thread_begin d e) (is_in_run (e ∷ past) d) (met (e ∷ past)) (asked (e ∷ past))
+      (nat_lt 0 (unserved_asks def d past)) (made (e ∷ past))
       is met_is asked_is in
       omega (arith, none, r)
     where
@@ -166,7 +161,8 @@ module _ (def : LineDef) (d : DevNo) where
       let e = by.ThreadCall y call in
       let u = thread_call_due def y call past legal.0 in
       let to_d = sym (dev_from_same d y same) in
-      let runs : is_in_run past d ≡ true = subst (λ (z : DevNo). is_in_run past z ≡ true) to_d (run_of (is_running past y) (has_returned past y) u.running u.not_returned) in
+      let runs : is_in_run past d ≡ true = subst (λ (z : DevNo). is_in_run past z ≡ true) to_d
+      (run_of (is_running past y) (has_returned past y) u.running u.not_returned) in
       let most : made (e ∷ past) ≤ all = made_most d (thread_arms d) (arm_weight d) (thread_made d) (thread_alone d) def (e ∷ past) legal runs in
       let m = made_more e past refl in
       let one : thread_arms d e ≡ 1 = ap (λ (b : Bool). cond b (arm_cost d call) 0) same ∙ ap one_if edge in
@@ -187,7 +183,8 @@ module _ (def : LineDef) (d : DevNo) where
           by_met (nat_lt 0 (met_by def parts.Thread d past)) refl (ltb-true 0 (unserved_asks def d past) some) i
         where
           by_met : (b : Bool) → nat_lt 0 (met_by def parts.Thread d past) ≡ b → 0 < unserved_asks def d past
-              → total (asks_served d) (since (begins_run parts.Thread d) past) + unserved_asks def d past ≡ met_by def parts.Thread d past + asked_since parts.Thread d past
+              → total (asks_served d) (since (begins_run parts.Thread d) past) + unserved_asks def d past
+              ≡ met_by def parts.Thread d past + asked_since parts.Thread d past
               → (b || asked past) ≡ true
           by_met true is l i = refl
           by_met false is l i = any_count (is_ask d) (since (is_thread_begin d) past)

@@ -9,22 +9,21 @@ use Rattle.irq_base.specs.declared.entries.Actor.TheVariants as actors
 use Rattle.irq_base.specs.declared.entries.Entry.{Entry}
 use Rattle.irq_base.specs.declared.entries.Entry.TheVariants as by
 use Rattle.irq_model.specs.Places.{since, count_of}
-use Rattle.irq_model.specs.Kinds.{is_thread_begin, is_thread_return, is_done, is_thread_call, same_dev}
+use Rattle.irq_model.specs.Kinds.{is_thread_begin, is_thread_return, is_done, is_thread_call}
 use Rattle.irq_model.specs.Lines.{run_script}
 use Rattle.irq_model.specs.Threads.{is_running}
 use Rattle.irq_model.specs.Runs.{entries_of_run}
 use Rattle.irq_model.specs.RunLaws.{is_in_run}
 use Rattle.irq_model.specs.Scripts.{AreMadeBy, MakesAll}
-use Rattle.irq_model.specs.Legal.{IsDue, IsLegalPast}
-use Rattle.irq_laws.specs.Actors.{calls_of, entries_of}
+use Rattle.irq_model.specs.Legal.{IsLegalPast}
+use Rattle.irq_laws.specs.Actors.{calls_of}
 use Rattle.irq_laws.proofs.ScriptLaws.{follows_past}
 use Rattle.irq_laws.proofs.ImpliesThread.{has_returned, thread_call_due}
 use Rattle.irq_steps.proofs.Same.{dev_from_same}
-use Rattle.irq_storms.specs.Judged.{one_if}
 use Rattle.irq_storms.specs.Tests.{total}
-use Rattle.irq_storms.proofs.Counting.{count_more, total_ext}
+use Rattle.irq_storms.proofs.Counting.{total_ext}
 use Rattle.irq_storms.proofs.Weights.{total_back, total_kept, made_total}
-use Rattle.irq_storms.proofs.ThreadCounts.{begin_tells, returned_since}
+use Rattle.irq_storms.proofs.ThreadCounts.{returned_since}
 use Rattle.irq_storms.proofs.Paying.{sum_over, StaysPaid, is_paid}
 
 -- w times a count
@@ -126,7 +125,8 @@ module _ (d : DevNo) (f : Entry → ℕ) (w : Call → ℕ) (most : (c : Call) (
         call_in_run : (x : Entry) → IsLegalPast def (x ∷ past) → is_thread_call d x ≡ true → is_in_run past d ≡ true
         call_in_run (by.ThreadCall y call) l h =
             let u = thread_call_due def y call past l.0 in
-            subst (λ (z : DevNo). is_in_run past z ≡ true) (sym (dev_from_same d y h)) (run_of (is_running past y) (has_returned past y) u.running u.not_returned)
+            subst (λ (z : DevNo). is_in_run past z ≡ true) (sym (dev_from_same d y h))
+            (run_of (is_running past y) (has_returned past y) u.running u.not_returned)
         call_in_run x l h = cc
 
         still_in_run : (x : Entry) → is_thread_call d x ≡ true → is_in_run past d ≡ true → is_in_run (x ∷ past) d ≡ true

@@ -1,6 +1,6 @@
 -- How often a told device's thread is woken, if no handler wakes it by a call: by its handler's
 -- words, and by drivers.
-use Rattle.std.proofs.Common.{◌≡◌, ℕ, ◌+◌, ◌≤◌, ◌==◌, Bool, true, false, not, ◌||◌, ◌&&◌, cond, Option, Some, None, List, [], ◌∷◌, refl, sym, ap, ◌∙◌, subst, arith}
+use Rattle.std.proofs.Common.{◌≡◌, ℕ, ◌+◌, ◌≤◌, Bool, true, false, not, ◌&&◌, cond, Option, Some, None, List, [], ◌∷◌, refl, sym, ap, ◌∙◌, subst, arith}
 use Rattle.std.proofs.lemmas.Bool.{and_parts, or_parts}
 use Rattle.std.specs.List.{list_any, AllByRecursion}
 use Rattle.irq_base.specs.declared.numbers.CpuNo.{CpuNo}
@@ -8,8 +8,6 @@ use Rattle.irq_base.specs.declared.numbers.DevNo.{DevNo}
 use Rattle.irq_base.specs.declared.numbers.DriverNo.{DriverNo}
 use Rattle.irq_base.specs.declared.calls.Call.{Call}
 use Rattle.irq_base.specs.declared.calls.Call.TheVariants as calls
-use Rattle.irq_base.specs.declared.devices.Answer.{Answer}
-use Rattle.irq_base.specs.declared.devices.Answer.TheVariants as answers
 use Rattle.irq_base.specs.declared.devices.Kind.{Kind}
 use Rattle.irq_base.specs.declared.devices.Kind.TheVariants as kinds
 use Rattle.irq_base.specs.declared.devices.Part.{Part}
@@ -26,19 +24,18 @@ use Rattle.irq_base.specs.declared.entries.CallEntry.TheVariants as called
 use Rattle.irq_base.specs.declared.entries.UnlinkAnswer.TheVariants as unlinks
 use Rattle.irq_base.specs.Handlers.{answer_of, answer_of_told}
 use Rattle.irq_model.specs.Places.{count_of}
-use Rattle.irq_model.specs.Kinds.{same_dev, is_wake, wakes, wakes_by_call, is_call, is_return}
+use Rattle.irq_model.specs.Kinds.{same_dev, is_wake, wakes, wakes_by_call, is_return}
 use Rattle.irq_model.specs.Lines.{kind_of, script_in, run_script, told_answers, same_part}
 use Rattle.irq_model.specs.Asks.{begins_run}
 use Rattle.irq_model.specs.Reason.{is_called}
 use Rattle.irq_model.specs.Runs.{met_by, told_of, makes_calls, entries_of_run}
 use Rattle.irq_model.specs.Due.{due_of}
-use Rattle.irq_model.specs.Scripts.{MakesSteps, MakesAll, step_in}
+use Rattle.irq_model.specs.Scripts.{MakesSteps, step_in}
 use Rattle.irq_model.specs.RunBounds.{wakes_this, wakes_by_handler, is_wake_word, told_wakes}
 use Rattle.irq_model.specs.ValidRuns.{HasValidRuns}
 use Rattle.irq_model.specs.Legal.{IsDue, IsLegalPast}
 use Rattle.irq_steps.proofs.Same.{dev_from_same}
 use Rattle.irq_laws.proofs.ScriptLaws.{runs_past, follows_past}
-use Rattle.irq_laws.proofs.Lists.{both_ways}
 use Rattle.irq_laws.proofs.Requested.{one_of}
 use Rattle.irq_laws.proofs.ImpliesCall.{step_row}
 use Rattle.irq_laws.proofs.ImpliesFlow.{return_due, handler_call_due}
@@ -76,7 +73,8 @@ module _ (def : LineDef) (d : DevNo) (threaded : Bool) (kind : kind_of def d ≡
       let u = return_due def c x answer n past legal.0 in
       let at : is_called past d ≡ true = subst (λ (y : DevNo). is_called past y ≡ true) to_d ((runs_past def past legal.1).working x u.is_at_work).0 in
       let answer_is : answer ≡ answer_of (kind_of def d) parts.Primary (met_by def parts.Primary d past) (told_of def parts.Primary d past) =
-      subst (λ (y : DevNo). answer ≡ answer_of (kind_of def y) parts.Primary (met_by def parts.Primary y past) (told_of def parts.Primary y past)) to_d u.answer_is in
+      subst (λ (y : DevNo). answer ≡ answer_of (kind_of def y) parts.Primary (met_by def parts.Primary y past)
+      (told_of def parts.Primary y past)) to_d u.answer_is in
       let told : answer ≡ answer_of_told (told_of def parts.Primary d past) =
       answer_is ∙ ap (λ (k : Kind). answer_of k parts.Primary (met_by def parts.Primary d past) (told_of def parts.Primary d past)) kind in
       let w = by_word (told_of def parts.Primary d past) (sym (ap is_wake told) ∙ p.1) in
@@ -177,14 +175,16 @@ handler_wakes_none def d c (called.Wake woken x) past none due = by_test (same_d
         let u = handler_call_due def c (called.Wake woken x) past due in
         let row = step_row def (Some u.due) u.due.0 u.due.1 past (called.Wake woken x) refl u.step in
         let w = wake_call def (Some u.due) past woken x row in
-        let makes = some_due (makes_calls def parts.Primary u.dev past) (due_of (run_script def u.dev parts.Primary) (entries_of_run parts.Primary u.dev past)) u.due u.is_due in
+        let makes = some_due (makes_calls def parts.Primary u.dev past)
+        (due_of (run_script def u.dev parts.Primary) (entries_of_run parts.Primary u.dev past)) u.due u.is_due in
         let at : due_of (run_script def u.dev parts.Primary) (entries_of_run parts.Primary u.dev past) ≡ Some (calls.Wake x, w.0) =
         sym (ap (λ (m : Bool). cond m (due_of (run_script def u.dev parts.Primary) (entries_of_run parts.Primary u.dev past)) None) makes) ∙ u.is_due ∙ w.1 in
-        absurd (not_both (same_dev d x) (one_of (λ c. not (wakes_this d c)) (run_script def u.dev parts.Primary) (entries_of_run parts.Primary u.dev past) (calls.Wake x) w.0
+        absurd (not_both (same_dev d x) (one_of (λ c. not (wakes_this d c)) (run_script def u.dev parts.Primary)
+        (entries_of_run parts.Primary u.dev past) (calls.Wake x) w.0
         (none_wake def.runs d u.dev none) at) is)
 handler_wakes_none def d c call past none due = refl
 
-no_thread_wake : (d : DevNo) (call : CallEntry) → wake_cost (λ x. 1) call ≡ 0 → wakes_by_call d call ≡ false
+pub no_thread_wake : (d : DevNo) (call : CallEntry) → wake_cost (λ x. 1) call ≡ 0 → wakes_by_call d call ≡ false
 no_thread_wake d (called.Wake true x) h = absurd (omega (arith, h))
 no_thread_wake d (called.Wake false x) h = refl
 no_thread_wake d call h = refl
@@ -194,9 +194,11 @@ no_thread_wake d call h = refl
 module _ (def : LineDef) (runs : HasValidRuns def) (d : DevNo) (none : list_any (wakes_by_handler d) def.runs ≡ false) where
   wake_more : (e : Entry) (past : List Entry) → IsLegalPast def (e ∷ past) → one_if (wakes d e) ≤ one_if (wakes_by_return d e) + driver_wakes d e
   wake_more (by.Cpu c (cpus.Return answer x n)) past legal = omega arith
-  wake_more (by.CpuCall c call) past legal = let n : one_if (wakes_by_call d call) ≡ 0 = ap one_if (handler_wakes_none def d c call past none legal.0) in omega (arith, n)
+  wake_more (by.CpuCall c call) past legal = let n : one_if (wakes_by_call d call)
+      ≡ 0 = ap one_if (handler_wakes_none def d c call past none legal.0) in omega (arith, n)
   wake_more (by.ThreadCall x call) past legal =
-      let n : one_if (wakes_by_call d call) ≡ 0 = ap one_if (no_thread_wake d call (thread_wakes_none def x call past runs legal.0 (λ y. 1))) in omega (arith, n)
+      let n : one_if (wakes_by_call d call) ≡ 0 = ap one_if
+      (no_thread_wake d call (thread_wakes_none def x call past runs legal.0 (λ y. 1))) in omega (arith, n)
   wake_more e past legal = omega arith
 
   wakes_past : (past : List Entry) → IsLegalPast def past → count_of (wakes d) past ≤ count_of (wakes_by_return d) past + total (driver_wakes d) past

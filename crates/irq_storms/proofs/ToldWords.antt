@@ -1,5 +1,6 @@
 -- What a told device's part answers stands among its words, each used once.
-use Rattle.std.proofs.Common.{◌≡◌, ℕ, zero, suc, ◌+◌, ◌-◌, ◌<◌, ◌≤◌, min, Bool, true, false, not, ◌||◌, ◌&&◌, cond, Option, Some, None, List, [], ◌∷◌, length, take, slice_get, refl, sym, ap, ◌∙◌, subst, arith}
+use Rattle.std.proofs.Common.{◌≡◌, ℕ, zero, suc, ◌+◌, ◌-◌, ◌≤◌, min, Bool, true, false, not, ◌||◌, ◌&&◌, cond, Option}
+use Rattle.std.proofs.Common.{Some, List, [], ◌∷◌, length, take, slice_get, refl, sym, ap, ◌∙◌, arith}
 use Rattle.std.proofs.lemmas.Option.{slice_get_within}
 use Rattle.std.specs.List.{list_any}
 use Rattle.irq_base.specs.declared.numbers.DevNo.{DevNo}
@@ -18,11 +19,11 @@ use Rattle.irq_model.specs.Lines.{told_answers}
 use Rattle.irq_model.specs.Asks.{begins_run}
 use Rattle.irq_model.specs.Reason.{is_called}
 use Rattle.irq_model.specs.Runs.{runs_before, told_of}
-use Rattle.irq_model.specs.Legal.{IsDue, IsLegalPast}
+use Rattle.irq_model.specs.Legal.{IsLegalPast}
 use Rattle.irq_laws.proofs.ScriptLaws.{runs_past}
 use Rattle.irq_laws.proofs.ImpliesThread.{has_returned}
 use Rattle.irq_storms.specs.Judged.{one_if}
-use Rattle.irq_storms.proofs.Counting.{mark_most, count_more}
+use Rattle.irq_storms.proofs.Counting.{count_more}
 use Rattle.irq_storms.proofs.ThreadCounts.{returned_since}
 use Rattle.irq_storms.proofs.ThreadRuns.{in_run_before}
 use Rattle.irq_storms.proofs.Meeting.{is_in, returns_run, not_in_before, has_begun_run, begun_in}
@@ -114,9 +115,6 @@ module _ (def : LineDef) (p : Part) (d : DevNo) (q : ToldAnswer → Bool) (tells
 
   abbrev used : List Entry → ℕ
   used past = count_of q (take (over past) words)
-
-  used_more : (past past' : List Entry) → over past' ≡ over past → used past' ≡ used past
-  used_more past past' same = ap (λ (n : ℕ). count_of q (take n words)) same
 
   -- the word of a run that returns is the next one
   next_word : (e : Entry) (past : List Entry) → IsLegalPast def (e ∷ past) → begins_run p d e ≡ false → tells e ≡ true → used (e ∷ past) ≡ used past + 1

@@ -4,8 +4,6 @@ use Rattle.std.proofs.Math.Nat.{mul-add, mul-le-mul_left, mul_comm}
 use Rattle.std.proofs.lemmas.List.Sums.{sum_by-cons}
 use Rattle.std.specs.List.{sum_by}
 use Rattle.irq_base.specs.declared.numbers.DevNo.{DevNo}
-use Rattle.irq_base.specs.declared.calls.Call.{Call}
-use Rattle.irq_base.specs.declared.devices.Answer.{Answer}
 use Rattle.irq_base.specs.declared.devices.Part.TheVariants as parts
 use Rattle.irq_base.specs.declared.lines.LineDef.{LineDef}
 use Rattle.irq_base.specs.declared.entries.Entry.{Entry}
@@ -15,7 +13,7 @@ use Rattle.irq_base.specs.declared.entries.ThreadEntry.TheVariants as threads
 use Rattle.irq_base.specs.declared.entries.CallEntry.{CallEntry}
 use Rattle.irq_base.specs.declared.entries.CallEntry.TheVariants as called
 use Rattle.irq_model.specs.Places.{count_of}
-use Rattle.irq_model.specs.Kinds.{is_wake, wakes, wakes_by_call, is_thread_begin, is_thread_return, is_thread_call, is_finish, is_done, same_dev}
+use Rattle.irq_model.specs.Kinds.{is_wake, wakes, wakes_by_call, is_thread_begin, is_thread_return, is_thread_call, is_finish, is_done}
 use Rattle.irq_model.specs.Lines.{run_script}
 use Rattle.irq_model.specs.RunBounds.{weight_of, script_weight}
 use Rattle.irq_model.specs.Legal.{IsLegalPast}
@@ -26,7 +24,7 @@ use Rattle.irq_storms.proofs.Counting.{count_more, total_at, total_ext, totals_b
 use Rattle.irq_storms.proofs.CallCosts.{step_cost, wake_cost, thread_cost, thread_call}
 use Rattle.irq_storms.proofs.ThreadCounts.{dev_key, call_key, begins_of, returns_of, finishes_of, dones_of}
 use Rattle.irq_storms.proofs.ThreadRuns.{thread_paid}
-use Rattle.irq_storms.proofs.Paying.{sum_over, sum_alone}
+use Rattle.irq_storms.proofs.Paying.{sum_over}
 
 -- a run of d's thread: it begins, returns, finishes and is done, and makes its calls
 abbrev pub thread_weight : LineDef → DevNo → ℕ
@@ -136,7 +134,8 @@ at_key def past legal k =
     let paid = thread_paid d (thread_cost d) weight_of (thread_call d) (no_call d) def past legal in
     let script : total weight_of (run_script def d parts.Thread) ≡ script_weight def parts.Thread d = total_sum weight_of (run_script def d parts.Thread) in
     let most = mul-le-mul_left (script_weight def parts.Thread d) (less _ _ _ begins) in
-    let same : total weight_of (run_script def d parts.Thread) * count_of (is_thread_begin d) past ≡ script_weight def parts.Thread d * count_of (is_thread_begin d) past =
+    let same : total weight_of (run_script def d parts.Thread) * count_of (is_thread_begin d) past
+    ≡ script_weight def parts.Thread d * count_of (is_thread_begin d) past =
     ap (λ (n : ℕ). n * count_of (is_thread_begin d) past) script in
     let all : thread_weight def d * count_of (wakes d) past ≡ 4 * count_of (wakes d) past + script_weight def parts.Thread d * count_of (wakes d) past =
     mul_comm (thread_weight def d) (count_of (wakes d) past) ∙ mul-add (count_of (wakes d) past) 4 (script_weight def parts.Thread d)

@@ -1,9 +1,8 @@
 -- The weight of a round, in the weights of its handlers' runs; and what a driver's call weighs.
-use Rattle.std.proofs.Common.{◌≡◌, ℕ, ◌+◌, ◌*◌, ◌≤◌, ◌==◌, Bool, true, false, not, ◌||◌, ◌&&◌, cond, List, [], ◌∷◌, All, refl, sym, ap, ◌∙◌, subst, arith}
-use Rattle.std.proofs.Math.Nat.{mul-add, mul-one}
+use Rattle.std.proofs.Common.{◌≡◌, ℕ, ◌+◌, ◌*◌, ◌≤◌, ◌==◌, Bool, true, false, not, ◌||◌, ◌&&◌, cond, List, [], ◌∷◌, All, refl, ap, ◌∙◌, arith}
+use Rattle.std.proofs.Math.Nat.{mul-add}
 use Rattle.std.proofs.lemmas.List.Elements.{All-head, All-tail}
-use Rattle.std.specs.List.{list_any, sum_by}
-use Rattle.std.proofs.lemmas.Bool.{or_parts}
+use Rattle.std.specs.List.{list_any}
 use Rattle.irq_base.specs.declared.numbers.DevNo.{DevNo}
 use Rattle.irq_base.specs.declared.numbers.DriverNo.{DriverNo}
 use Rattle.irq_base.specs.declared.calls.Call.{Call}
@@ -14,9 +13,9 @@ use Rattle.irq_base.specs.declared.devices.Part.TheVariants as parts
 use Rattle.irq_base.specs.declared.lines.LineDef.{LineDef}
 use Rattle.irq_model.specs.Places.{count_of}
 use Rattle.irq_model.specs.Kinds.{same_dev}
-use Rattle.irq_model.specs.Lines.{is_device, has_device, same_part, script_in, run_script}
+use Rattle.irq_model.specs.Lines.{is_device, same_part, script_in, run_script}
 use Rattle.irq_model.specs.Bounds.{is_ask_call, ask_calls, other_calls}
-use Rattle.irq_model.specs.RunBounds.{weight_of, script_weight, device_weight, wake_weight, round_weight}
+use Rattle.irq_model.specs.RunBounds.{weight_of, device_weight, wake_weight, round_weight}
 use Rattle.irq_model.specs.Valid.{IsValid, HasDistinctDevices}
 use Rattle.irq_model.specs.ValidRuns.{HasValidRuns, names_own_device}
 use Rattle.irq_steps.proofs.Same.{dev_from_same}
@@ -25,7 +24,6 @@ use Rattle.irq_storms.specs.Tests.{total}
 use Rattle.irq_storms.proofs.Counting.{count_more, total_at, total_ext, total_sum as total_parts, totals_by_key}
 use Rattle.irq_storms.proofs.CallCosts.{call_weight, woken_weight, driver_weight}
 use Rattle.irq_storms.proofs.DeviceSums.{number, present, absent}
-use Rattle.irq_storms.proofs.HandlerRuns.{script_cost}
 use Rattle.irq_storms.proofs.LongBound.{handler_weight}
 use Rattle.irq_storms.proofs.WakeCosts.{thread_weight, total_sum}
 
@@ -91,7 +89,8 @@ wakes_below def valid =
 handler_parts : (def : LineDef) (x : DeviceDef) → handler_weight def x.dev ≡ device_weight def x + wakes_in def x.dev
 handler_parts def x =
     let parts_are : total (call_weight (thread_weight def)) (run_script def x.dev parts.Primary)
-    ≡ total weight_of (run_script def x.dev parts.Primary) + wakes_in def x.dev = total_parts _ weight_of (woken_weight (thread_weight def)) (run_script def x.dev parts.Primary) (λ c. refl) in
+    ≡ total weight_of (run_script def x.dev parts.Primary) + wakes_in def x.dev
+    = total_parts _ weight_of (woken_weight (thread_weight def)) (run_script def x.dev parts.Primary) (λ c. refl) in
     let s = total_sum weight_of (run_script def x.dev parts.Primary) in
     omega (arith, parts_are, s)
 
@@ -125,7 +124,8 @@ is_arm_call _ = false
 abbrev CallPays : LineDef → ℕ → ℕ → Call → Type 0
 CallPays def n f c = n * one_if (is_arm_call c) + driver_weight (thread_weight def) c ≤ one_if (is_ask_call c) + f * one_if (not (is_ask_call c))
 
-a_call : (def : LineDef) (f : ℕ) (c : Call) → HasValidRuns def → names_own_device def c ≡ true → 8 + all_handlers def ≤ f → CallPays def (3 + all_handlers def) f c
+a_call : (def : LineDef) (f : ℕ) (c : Call) → HasValidRuns def → names_own_device def c ≡ true
+    → 8 + all_handlers def ≤ f → CallPays def (3 + all_handlers def) f c
 a_call def f (calls.Ask d) runs named most = omega arith
 a_call def f (calls.Wake d) runs named most =
     let one = one_of_all (handler_weight def) d def.devices named in
@@ -134,7 +134,8 @@ a_call def f (calls.Arm d) runs named most = omega (arith, most)
 a_call def f c runs named most = omega (arith, most)
 
 -- the calls of drivers, and the edges of their arms
-all_calls : (def : LineDef) (f : ℕ) → HasValidRuns def → 8 + all_handlers def ≤ f → (cs : List (DriverNo × Call)) → All (λ c. names_own_device def c.1 ≡ true) cs
+all_calls : (def : LineDef) (f : ℕ) → HasValidRuns def → 8 + all_handlers def ≤ f → (cs : List (DriverNo × Call))
+    → All (λ c. names_own_device def c.1 ≡ true) cs
     → (3 + all_handlers def) * count_of (λ c. is_arm_call c.1) cs + total (λ c. driver_weight (thread_weight def) c.1) cs
     ≤ count_of (λ c. is_ask_call c.1) cs + f * count_of (λ c. not (is_ask_call c.1)) cs
 all_calls def f runs most [] named = omega arith

@@ -1,7 +1,6 @@
 -- A device's run in progress: what was served and asked since its beginning.
-use Rattle.std.proofs.Common.{◌≡◌, ℕ, ◌+◌, ◌≤◌, Bool, true, false, not, ◌||◌, ◌&&◌, cond, nat_lt, List, [], ◌∷◌, ◌++◌, filter, reverse, refl, sym, ap, ◌∙◌, subst, arith}
-use Rattle.std.proofs.lemmas.Bool.{or_parts, or_cases, or_left, or_right, ltb-true}
-use Rattle.std.proofs.Common.{◌⊎◌, inl, inr}
+use Rattle.std.proofs.Common.{◌≡◌, ℕ, ◌+◌, ◌≤◌, Bool, true, false, ◌||◌, cond, List, [], ◌∷◌, ◌++◌, filter, reverse, refl, sym, ap, ◌∙◌, arith}
+use Rattle.std.proofs.lemmas.Bool.{or_right}
 use Rattle.std.proofs.lemmas.Grind.{reverse_onto}
 use Rattle.std.specs.List.{list_any}
 use Rattle.irq_base.specs.declared.numbers.DevNo.{DevNo}
@@ -14,8 +13,8 @@ use Rattle.irq_base.specs.declared.entries.CpuEntry.TheVariants as cpus
 use Rattle.irq_base.specs.declared.entries.ThreadEntry.TheVariants as threads
 use Rattle.irq_model.specs.Places.{since, before, count_of}
 use Rattle.irq_model.specs.Kinds.{is_ask, is_serve}
-use Rattle.irq_model.specs.Asks.{begins_run, serving, left_by_runs, unserved_asks}
-use Rattle.irq_model.specs.Legal.{IsDue, IsLegalPast}
+use Rattle.irq_model.specs.Asks.{begins_run, unserved_asks}
+use Rattle.irq_model.specs.Legal.{IsLegalPast}
 use Rattle.irq_storms.specs.Judged.{one_if}
 use Rattle.irq_storms.specs.Tests.{asks_served, total}
 use Rattle.irq_storms.proofs.Counting.{count_more}

@@ -16,10 +16,13 @@ use Rattle.irq_model.specs.Rounds.{begins_round, has_flow}
 use Rattle.irq_model.specs.Waiting.{is_pending}
 use Rattle.irq_model.specs.Spurious.{counts_of}
 use Rattle.irq_model.specs.Bounds.{ask_calls, other_calls}
+use Rattle.irq_model.specs.RunBounds.{told_handled}
 use Rattle.irq_storms.specs.Tests.{is_any_begin, is_any_return, is_end, is_any_serving, serves_of}
 use Rattle.irq_storms.specs.Tests.{asks_served, all_served, total, is_by_any_driver, is_renewal}
-use Rattle.irq_storms.specs.Judged.{one_if, handled_ends, nothing_ends, deferred_ends}
-use Rattle.irq_storms.specs.Judged.{clearing_ends, breaks, serving_marks, allowed}
+use Rattle.irq_storms.specs.Tests.{answers_handled}
+use Rattle.irq_storms.specs.Judged.{one_if, count_where, handled_ends, nothing_ends, deferred_ends}
+use Rattle.irq_storms.specs.Judged.{clearing_ends, breaks, starts_killed, renewals, serving_marks}
+use Rattle.irq_storms.specs.Judged.{allowed}
 
 -- runs are counted: a round calls each device's handler once at most, and has one end at most; a
 -- thread runs no more often than it was woken
@@ -57,6 +60,18 @@ pub record AsksAreCounted (def : LineDef) (h : List Entry) : Type 0 where
       def.devices ≡ count_of is_any_ask (reverse h)
   pub all_runs : count_of is_any_serving (reverse h) ≤ count_of is_any_ask (reverse h)
 
+-- the runs that answer Handled are counted: each has an ask of its own that it met, or a word of
+-- the
+-- board's
+abbrev pub HandledAreCounted : LineDef → List Entry → Type 0
+HandledAreCounted def h = count_of answers_handled (reverse h) ≤ ask_calls def + told_handled def
+
+-- renewals are counted: runs start a killed line no more often than drivers make calls that aren't
+-- asks, and drivers renew once a call
+pub record RenewalsAreCounted (def : LineDef) (h : List Entry) : Type 0 where
+  pub by_runs : count_where starts_killed (reverse h) ≤ other_calls def
+  pub all : renewals (reverse h) ≤ 2 * other_calls def
+
 -- an edge line is counted: an end that goes on has a take of its own that was answered Busy, and
 -- each round an edge of its own; there are no more takes than edges of devices, starts and ends
 -- that go on
@@ -83,8 +98,8 @@ pub record IsClosed (def : LineDef) (past : List Entry) : Type 0 where
 
 -- a level line is counted
 pub record IsLevelCounted (def : LineDef) (past : List Entry) : Type 0 where
-  -- an end judged handled has a run of its own that served
-  pub handled : handled_ends def past + serving_marks def past ≤ count_of is_any_serving past
+  -- an end judged handled has a run of its own that answered Handled
+  pub handled : handled_ends def past + serving_marks def past ≤ count_of answers_handled past
   -- only an end whose round both woke a thread and handled gives the deferred mark up, and it is
   -- judged handled
   pub deferred : deferred_ends def past ≤ clearing_ends def past + one_if
@@ -94,7 +109,9 @@ pub record IsLevelCounted (def : LineDef) (past : List Entry) : Type 0 where
   -- between two breaks, before the first and after the last, at most two windows of ends are judged
   -- nothing
   pub nothing : nothing_ends def past + allowed def past ≤ 2 * def.window * (breaks def past + 1)
-  pub breaks : breaks def past ≤ ask_calls def + other_calls def
+  -- and at most a window for each end judged handled, for each renewal, and two more
+  pub renewed : nothing_ends def past + allowed def past
+      ≤ def.window * (handled_ends def past + renewals past + 2)
   -- each take that was answered Busy or Off has a start of its own
   pub busy : is_level_flow def.flow ≡ true
       → count_of is_busy past + one_if (has_flow def past

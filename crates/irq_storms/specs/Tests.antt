@@ -1,5 +1,5 @@
 -- Tests of entries, whichever device or driver they are of, and what runs serve.
-use Rattle.std.specs.Prelude.{ℕ, ◌+◌, Bool, true, false, ◌||◌, ◌&&◌, if◌then◌else◌, nat_lt, List}
+use Rattle.std.specs.Prelude.{ℕ, ◌+◌, Bool, true, false, ◌||◌, if◌then◌else◌, nat_lt, List}
 use Rattle.std.specs.Prelude.{[], ◌∷◌}
 use Rattle.irq_base.specs.declared.numbers.DevNo.{DevNo}
 use Rattle.irq_base.specs.declared.entries.Actor.{Actor}
@@ -12,7 +12,7 @@ use Rattle.irq_base.specs.declared.entries.DriverEntry.TheVariants as drivers
 use Rattle.irq_base.specs.declared.entries.CallEntry.{CallEntry}
 use Rattle.irq_base.specs.declared.entries.CallEntry.TheVariants as called
 use Rattle.irq_base.specs.Who.{actor_of}
-use Rattle.irq_model.specs.Kinds.{same_dev, is_handled, returns_handled, is_start}
+use Rattle.irq_model.specs.Kinds.{same_dev, returns_handled, is_start}
 use Rattle.irq_model.specs.Kinds.{is_linked_request}
 
 -- ---- runs, and calls that serve
@@ -65,6 +65,11 @@ serves_of d e = nat_lt 0 (asks_served d e)
 
 abbrev pub is_any_serving : Entry → Bool
 is_any_serving e = nat_lt 0 (all_served e)
+
+-- a run answered Handled as it returned: a handler, or a thread
+abbrev pub answers_handled : Entry → Bool
+answers_handled (by.Thread dev (threads.Return handled served)) = handled
+answers_handled e = returns_handled e
 
 -- the sum of what a list's elements weigh
 abbrev pub total : {A : Type 0} → (A → ℕ) → List A → ℕ

@@ -19,7 +19,8 @@ module _ (line : LineSeen) (s : StateSeen) (scripts : List (DriverNo × RowSeen)
   flow_told = ap (λ (x : StateSeen). x.desc.flow) is.state
 
   pub taker_told : IsTaker line (taker_of s)
-  taker_told = subst (λ (x : StateSeen). IsTaker line (taker_of x)) (sym is.state) (is_taker line.def (reverse line.entries) is.valid is.valid_runs is.waits is.legal)
+  taker_told = subst (λ (x : StateSeen). IsTaker line (taker_of x)) (sym is.state)
+      (is_taker line.def (reverse line.entries) is.valid is.valid_runs is.waits is.legal)
 
   lowest_at : (o : Option DevNo) → lowest_due (state_of line.def (reverse line.entries)) ≡ o → IsLowestThread line o
   lowest_at o found = seen o (subst (λ (x : Option DevNo). IsLowest line.def (reverse line.entries) is.valid is.valid_runs is.waits is.legal x)

@@ -44,7 +44,7 @@ use Rattle.line_marks.specs.Next.{due_call_in}
 use Rattle.line_marks.specs.State.{StateSeen, state_of}
 use Rattle.line_marks.specs.Threads.{thread_of, threads_of, has_returned, has_finished}
 use Rattle.line_core.specs.InWay.{busy_in, by_cpu, by_freed, by_row, by_thread, by_wait}
-use Rattle.line_core.specs.InWay.{flow_by, unless_target}
+use Rattle.line_core.specs.InWay.{unless_target}
 
 -- ---- threads
 

@@ -1,5 +1,6 @@
 -- What stands in the way of an actor, read off the state.
-use Rattle.std.specs.Prelude.{Bool, not, ◌||◌, if◌then◌else◌, is_some, option_map, Option, Some, None, List}
+use Rattle.std.specs.Prelude.{Bool, not, ◌||◌, if◌then◌else◌, is_some, option_map, Option, Some}
+use Rattle.std.specs.Prelude.{None, List}
 use Rattle.irq_base.specs.Cell.{signals}
 use Rattle.irq_base.specs.declared.devices.DeviceDef.{DeviceDef}
 use Rattle.irq_base.specs.declared.entries.Actor.{Actor}

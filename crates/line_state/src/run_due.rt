@@ -8,6 +8,7 @@ ghost use Rattle.run_scripts.specs.Runs.{AreRunsOf};
 ghost use Rattle.line_marks.specs.Runs.{answer_at, met_at, told_at, makes_calls_at, due_in_run_at};
 ghost use Rattle.line_state.specs.Seen.{HasCall, runs_seen};
 
+use crate::runs::met_in;
 use crate::state::LineState;
 use irq_base::{Answer, Call, Chip, DevNo, Kind, Part, ToldAnswer};
 
@@ -55,11 +56,7 @@ impl<C: Chip> LineState<C> {
     pub fn met(&self, dev: DevNo, part: Part) -> u32
         ensures { result ≡ met_at self.now.state part dev }
     {
-        match (self.asks.get(dev), part) {
-            (Some(row), Part::Primary) => row.met_by_handler,
-            (Some(row), Part::Thread) => row.met_by_thread,
-            (None, _) => 0,
-        }
+        met_in(part, self.asks.get(dev))
     }
 
     /// What the run that is there is told to answer; none of a device that isn't told.

@@ -10,22 +10,24 @@ ghost use Rattle.irq_base.specs.declared.lines.LineDef.{LineDef};
 ghost use Rattle.irq_model.specs.Lines.{has_device};
 ghost use Rattle.irq_model.specs.Runs.{is_that_part, serves_by_word};
 ghost use Rattle.device_table.specs.Rows.{at, change};
+ghost use Rattle.ask_counts.specs.Facts.{facts_at};
 ghost use Rattle.ask_counts.specs.Rows.{HasRoom, served};
 ghost use Rattle.run_scripts.specs.Runs.{AreRunsOf};
 ghost use Rattle.line_marks.specs.Acts.{lowered};
 ghost use Rattle.line_marks.specs.Calls.{ask_edge_by};
 ghost use Rattle.line_marks.specs.CpuDue.{return_by};
 ghost use Rattle.line_marks.specs.Due.{thread_return_by};
-ghost use Rattle.line_marks.specs.Runs.{served_at, taken_in};
+ghost use Rattle.line_marks.specs.Runs.{met_in, served_at, taken_in};
 ghost use Rattle.line_marks.specs.State.{state_after, IsOf};
 ghost use Rattle.line_marks.specs.Facts.{serves_in};
 ghost use Rattle.line_state.specs.Ended.{run_there};
+ghost use Rattle.line_state.specs.Edges.{asks_by_row};
 ghost use Rattle.line_state.specs.Entries.{IsActivated, finish_by};
 ghost use Rattle.line_state.specs.Seen.{runs_seen};
 
 use crate::state::LineState;
 use act_thread::Finished;
-use ask_counts::DeviceFacts;
+use ask_counts::{AskRow, DeviceFacts};
 use irq_base::{
     Answer, Chip, CpuEntry, CpuNo, DevNo, DeviceDef, DriverEntry, DriverNo, Entry, Kind, LineDef,
     Part, Run, ThreadEntry, ToldAnswer, Trigger,
@@ -39,6 +41,8 @@ pub struct RunThere {
     pub run: Run,
     /// Runs of this part serve as they return.
     pub serves: bool,
+    /// How many asks it takes away then, if it serves.
+    pub takes: u32,
 }
 
 impl<C: Chip> LineState<C> {
@@ -51,21 +55,23 @@ impl<C: Chip> LineState<C> {
         ensures state { self.new.state ≡ state_after def.now result self.old.state }
         ensures fixed { self.new.fixed ≡ self.old.fixed }
     {
-        let edge = self.asks_with_edge(def, dev);
-        self.asks.asked(dev);
+        let was = self.asks.asked(dev);
+        let edge = self.asks_with_edge(def, dev, was);
         self.signal(def, edge);
         Entry::Driver(driver, DriverEntry::Ask { edge, dev })
     }
 
     /// Whether an ask of the device would make an edge, as each counts on a level line: not while
-    /// the device is quiet, nor, if it is held, while something of it is unserved.
-    fn asks_with_edge(&self, def: &LineDef, dev: DevNo) -> bool
-        ensures { result ≡ ask_edge_by def.now dev self.now.state }
+    /// the device is quiet, nor, if it is held, while something of it is unserved. `was`: the counts
+    /// of its asks before.
+    #[inline(always)]
+    fn asks_with_edge(&self, def: &LineDef, dev: DevNo, was: Option<AskRow>) -> bool
+        ensures { result ≡ asks_by_row def.now (facts_at self.now.state.facts dev).held was }
     {
         if def.trigger == Trigger::Level {
             return true;
         }
-        match self.asks.get(dev) {
+        match was {
             Some(row) => !row.quiet && (row.unserved == 0 || !self.facts.get(dev).held),
             None => true,
         }
@@ -95,8 +101,10 @@ impl<C: Chip> LineState<C> {
         requires there { has_device def.now dev ≡ true }
         ensures run { result.run ≡ run_there def.now self.now.state part dev }
         ensures serves { result.serves ≡ serves_in self.now.state.facts part dev }
+        ensures takes { result.takes ≡ taken_in (at self.now.state.asks dev) }
     {
         let facts = self.facts.get(dev);
+        let row = self.asks.get(dev);
         let run = Run {
             def: DeviceDef {
                 dev,
@@ -106,12 +114,13 @@ impl<C: Chip> LineState<C> {
                 forgets: facts.forgets,
             },
             part,
-            unserved: self.met(dev, part),
+            unserved: met_in(part, row),
             told: self.told(dev, part),
         };
         RunThere {
             run,
             serves: serves_in(facts, part),
+            takes: taken_in(row),
         }
     }
 
@@ -126,6 +135,7 @@ impl<C: Chip> LineState<C> {
             ≡ run_there def.now self.old.state parts.Primary there.run.def.dev }
         requires serves { there.serves
             ≡ serves_in self.old.state.facts parts.Primary there.run.def.dev }
+        requires takes { there.takes ≡ taken_in (at self.old.state.asks there.run.def.dev) }
         requires answer { answer ≡ answer_of_run there.run }
         ensures entry { result ≡ return_by def.now self.old.state cpu there.run.def.dev }
         ensures state { self.new.state ≡ state_after def.now result self.old.state }
@@ -158,6 +168,7 @@ impl<C: Chip> LineState<C> {
             ≡ run_there def.now self.old.state there.run.part there.run.def.dev }
         requires serves { there.serves
             ≡ serves_in self.old.state.facts there.run.part there.run.def.dev }
+        requires takes { there.takes ≡ taken_in (at self.old.state.asks there.run.def.dev) }
         ensures served { result
             ≡ served_at def.now self.old.state there.run.part there.run.def.dev }
         ensures state { self.new.state ≡ lowered def.now result (record self.old.state {
@@ -168,21 +179,12 @@ impl<C: Chip> LineState<C> {
     {
         let dev = there.run.def.dev;
         let serves = there.serves && serves_by_word(there.run.def.kind, there.run.told);
-        let served = if serves { self.taken(dev) } else { 0 };
-        self.asks.served(dev, served > 0);
-        self.lower(def, served);
-        served
-    }
-
-    /// How many asks the serving run takes away that returns now.
-    #[inline(always)]
-    fn taken(&self, dev: DevNo) -> u32
-        ensures { result ≡ taken_in (at self.now.state.asks dev) }
-    {
-        match self.asks.get(dev) {
-            Some(row) => row.taken(),
-            None => 0,
+        if !serves || there.takes == 0 {
+            return 0;
         }
+        self.asks.served(dev, true);
+        self.lower(def, there.takes);
+        there.takes
     }
 
     /// The level after a run that served so many asks.
@@ -223,6 +225,7 @@ impl<C: Chip> LineState<C> {
             ≡ run_there def.now self.old.state parts.Thread there.run.def.dev }
         requires serves { there.serves
             ≡ serves_in self.old.state.facts parts.Thread there.run.def.dev }
+        requires takes { there.takes ≡ taken_in (at self.old.state.asks there.run.def.dev) }
         requires answer { answer ≡ answer_of_run there.run }
         ensures entry { result ≡ thread_return_by def.now self.old.state there.run.def.dev }
         ensures state { self.new.state ≡ state_after def.now result self.old.state }
@@ -278,6 +281,29 @@ impl<C: Chip> LineState<C> {
         let oneshot = self.desc.oneshot();
         self.threads.done(dev, oneshot);
         Entry::Thread(dev, ThreadEntry::Done)
+    }
+}
+
+/// Of a row of asks: those that were unserved as the run of that part last began.
+#[inline(always)]
+pub(crate) fn met_in(part: Part, row: Option<AskRow>) -> u32
+    ensures { result ≡ met_in part row }
+{
+    match (row, part) {
+        (Some(row), Part::Primary) => row.met_by_handler,
+        (Some(row), Part::Thread) => row.met_by_thread,
+        (None, _) => 0,
+    }
+}
+
+/// How many asks the serving run takes away that returns now.
+#[inline(always)]
+fn taken_in(row: Option<AskRow>) -> u32
+    ensures { result ≡ taken_in row }
+{
+    match row {
+        Some(row) => row.taken(),
+        None => 0,
     }
 }
 

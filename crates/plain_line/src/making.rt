@@ -12,7 +12,7 @@ use std::alloc::Global;
 pub struct MakesPlainLine;
 
 impl MakesLine<PlainLine> for MakesPlainLine {
-    ghost makes = { λ maker virq def. IsValid def × (HasValidRuns def × NeverWaits def) };
+    ghost makes = { λ maker virq def. IsValid def × HasValidRuns def × NeverWaits def };
 
     fn make(&self, alloc: Global, _virq: u32, def: &LineDef) -> Result<PlainLine, NoMemory> {
         PlainLine::new(alloc, def)

@@ -1,5 +1,5 @@
 -- The scripts and the answers of a line's runs, and how far they are.
-use Rattle.std.specs.Prelude.{◌≡◌, ℕ, true, Option, List, slice_get}
+use Rattle.std.specs.Prelude.{◌≡◌, ℕ, true, Option, Some, List, [], slice_get}
 use Rattle.irq_base.specs.declared.calls.Call.{Call}
 use Rattle.irq_base.specs.declared.devices.Part.{Part}
 use Rattle.irq_base.specs.declared.devices.ToldAnswer.{ToldAnswer}
@@ -7,8 +7,11 @@ use Rattle.irq_base.specs.declared.lines.LineDef.{LineDef}
 use Rattle.irq_base.specs.declared.numbers.DevNo.{DevNo}
 use Rattle.irq_model.specs.Lines.{has_device, run_script, told_answers}
 use Rattle.irq_steps.specs.Laid.{with_count}
+use Rattle.device_table.specs.Rows.{at}
 use Rattle.run_scripts.specs.Groups.{GroupsSeen, group_of}
-use Rattle.run_scripts.specs.Places.{PlacesSeen, place_at, turn_at}
+use Rattle.run_scripts.specs.Places.{PlacesSeen, first_place, first_row, place_at, turn_at}
+use Rattle.run_scripts.specs.declared.rows.RunPlace.{RunPlace}
+use Rattle.run_scripts.specs.declared.rows.RunRow.{RunRow}
 
 -- the calls and the answers never change
 pub record RunsSeen : Type 0 where
@@ -42,3 +45,11 @@ pub record AreRunsOf (def : LineDef) (s : RunsSeen) : Type 0 where
       → script_of s d part ≡ run_script def d part
   pub answers : (d : DevNo) (part : Part) → has_device def d ≡ true
       → answers_of s d part ≡ told_answers def d part
+
+-- nothing is called and nothing told, and no run has moved on
+pub record IsBare (calls : List Call) (answers : List ToldAnswer) (work : RunPlace)
+    (rows : List (DevNo × RunRow)) : Type 0 where
+  pub uncalled : calls ≡ []
+  pub untold : answers ≡ []
+  pub idle : work ≡ first_place
+  pub first : (d : DevNo) (r : RunRow) → at rows d ≡ Some r → r ≡ first_row

@@ -76,6 +76,13 @@ impl<T: Copy> Groups<T> {
         Ok(Groups { items, spans })
     }
 
+    /// Whether there are none at all.
+    pub(crate) fn is_empty(&self) -> bool
+        ensures { result ≡ true → self.now.items ≡ [] }
+    {
+        self.items.is_empty()
+    }
+
     /// The item at the place among those of that part of the device; none from their number on.
     pub(crate) fn get(&self, dev: DevNo, part: Part, place: u32) -> Option<T>
         ensures { result ≡ slice_get (group_of self.now dev part) place }

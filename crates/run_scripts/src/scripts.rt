@@ -1,5 +1,5 @@
 //! The scripts and the answers of a line's runs.
-ghost use Rattle.std.specs.Prelude.{◌≡◌, ◌+◌, ◌^◌, ◌<◌, ◌≤◌, length, IsSome, IfOk};
+ghost use Rattle.std.specs.Prelude.{◌≡◌, ◌+◌, ◌^◌, ◌<◌, ◌≤◌, true, [], length, IsSome, IfOk};
 ghost use Rattle.irq_model.specs.Valid.{HasDistinctDevices};
 ghost use Rattle.device_table.specs.Rows.{change, all_with};
 ghost use Rattle.run_scripts.specs.Places.{first_place, first_row, row_at, place_at, turn_at};
@@ -19,6 +19,8 @@ use std::marker::Model;
 /// for the handler that is at work, and a row for each device.
 #[derive(Drop)]
 pub struct RunScripts {
+    // Nothing is called and nothing told, so that nothing ever changes.
+    bare: bool,
     calls: Groups<Call>,
     answers: Groups<ToldAnswer>,
     work: RunPlace,
@@ -26,7 +28,8 @@ pub struct RunScripts {
 }
 
 impl Model for RunScripts {
-    ghost use Rattle.run_scripts.specs.Runs.{RunsSeen};
+    ghost use Rattle.std.specs.Prelude.{◌≡◌, true};
+    ghost use Rattle.run_scripts.specs.Runs.{RunsSeen, IsBare};
 
     ghost Value = { RunsSeen };
 
@@ -35,6 +38,8 @@ impl Model for RunScripts {
       answers = s.answers;
       places = record { work = s.work; rows = s.rows };
     } };
+
+    ghost invariant = { λ s. s.bare ≡ true → IsBare s.calls.items s.answers.items s.work s.rows };
 }
 
 impl RunScripts {
@@ -51,7 +56,9 @@ impl RunScripts {
         let calls = Groups::new(alloc, &def.devices, &def.runs)?;
         let answers = Groups::new(alloc, &def.devices, &def.told)?;
         let rows = DeviceTable::new(alloc, &def.devices, RunRow::FIRST)?;
+        let bare = are_bare(&calls, &answers);
         Ok(RunScripts {
+            bare,
             calls,
             answers,
             work: RunPlace::FIRST,
@@ -61,7 +68,18 @@ impl RunScripts {
 
     /// The first call that isn't complete of the run that is there, and how many entries it has
     /// made; none if all are complete. Whether the run makes calls at all, its answer says.
+    #[inline(always)]
     pub fn due(&self, dev: DevNo, part: Part) -> Option<(Call, u32)>
+        ensures { result ≡ due_of self.now dev part }
+    {
+        if self.bare {
+            return None;
+        }
+        self.call_left(dev, part)
+    }
+
+    /// That call, where something is called at all.
+    fn call_left(&self, dev: DevNo, part: Part) -> Option<(Call, u32)>
         ensures { result ≡ due_of self.now dev part }
     {
         let at = self.place(dev, part);
@@ -71,7 +89,18 @@ impl RunScripts {
 
     /// What the run that is there is told to answer; none past the last answer, and of a device
     /// that isn't told.
+    #[inline(always)]
     pub fn told(&self, dev: DevNo, part: Part) -> Option<ToldAnswer>
+        ensures { result ≡ told_of self.now dev part }
+    {
+        if self.bare {
+            return None;
+        }
+        self.answer_told(dev, part)
+    }
+
+    /// That answer, where something is told at all.
+    fn answer_told(&self, dev: DevNo, part: Part) -> Option<ToldAnswer>
         ensures { result ≡ told_of self.now dev part }
     {
         let turn = self.turn(dev, part);
@@ -111,7 +140,20 @@ impl RunScripts {
 
     /// A run of that part of the device begins: its calls begin anew, and it has the part's next
     /// answer.
+    #[inline(always)]
     pub fn begin(&mut self, dev: DevNo, part: Part)
+        ensures { self.new ≡ record self.old {
+          places = after_begin (length (answers_of self.old dev part)) dev part self.old.places;
+        } }
+    {
+        if self.bare {
+            return;
+        }
+        self.begin_run(dev, part);
+    }
+
+    /// The same, where something is called or told.
+    fn begin_run(&mut self, dev: DevNo, part: Part)
         ensures { self.new ≡ record self.old {
           places = after_begin (length (answers_of self.old dev part)) dev part self.old.places;
         } }
@@ -132,6 +174,7 @@ impl RunScripts {
           };
         } }
     {
+        self.bare = false;
         self.work = RunPlace::FIRST;
         let Some(row) = self.rows.get(dev) else {
             return;
@@ -148,6 +191,7 @@ impl RunScripts {
           };
         } }
     {
+        self.bare = false;
         let Some(row) = self.rows.get(dev) else {
             return;
         };
@@ -164,10 +208,23 @@ impl RunScripts {
     }
 
     /// The run of that part of the device returns.
+    #[inline(always)]
     pub fn returned(&mut self, dev: DevNo, part: Part)
         ensures { self.new
             ≡ record self.old { places = after_return dev part self.old.places } }
     {
+        if self.bare {
+            return;
+        }
+        self.end_run(dev, part);
+    }
+
+    /// The same, where something is called or told.
+    fn end_run(&mut self, dev: DevNo, part: Part)
+        ensures { self.new
+            ≡ record self.old { places = after_return dev part self.old.places } }
+    {
+        self.bare = false;
         match part {
             Part::Primary => self.work = RunPlace::FIRST,
             Part::Thread => self.go_to(dev, RunPlace::FIRST),
@@ -187,6 +244,7 @@ impl RunScripts {
         if at.place >= count {
             unreachable!();
         }
+        self.bare = false;
         match part {
             Part::Primary => self.work = at.advanced(completes),
             Part::Thread => self.go_to(dev, at.advanced(completes)),
@@ -201,6 +259,7 @@ impl RunScripts {
           };
         } }
     {
+        self.bare = false;
         let Some(row) = self.rows.get(dev) else {
             return;
         };
@@ -228,6 +287,7 @@ impl RunScripts {
           };
         } }
     {
+        self.bare = false;
         self.work = place;
     }
 
@@ -239,8 +299,17 @@ impl RunScripts {
           };
         } }
     {
+        self.bare = false;
         if self.rows.get(dev).is_some() {
             self.rows.set(dev, row);
         }
     }
+}
+
+/// Whether nothing is called and nothing told.
+fn are_bare(calls: &Groups<Call>, answers: &Groups<ToldAnswer>) -> bool
+    ensures calls { result ≡ true → calls.now.items ≡ [] }
+    ensures answers { result ≡ true → answers.now.items ≡ [] }
+{
+    calls.is_empty() && answers.is_empty()
 }

@@ -1,5 +1,5 @@
 -- A processor that is within a flow by its own entries is so by all of them, and has an entry due.
-use Rattle.std.proofs.Common.{◌≡◌, ℕ, suc, Bool, true, false, ◌||◌, ◌&&◌, cond, IsSome, Option, Some, None, is_some}
+use Rattle.std.proofs.Common.{◌≡◌, ℕ, suc, Bool, true, false, ◌||◌, ◌&&◌, cond, Option, Some, None, is_some}
 use Rattle.std.proofs.Common.{List, [], ◌∷◌, map, filter, reverse, refl, sym, ap, ◌∙◌, subst}
 use Rattle.irq_base.specs.Who.{actor_of}
 use Rattle.irq_base.specs.declared.entries.Actor.{Actor}

@@ -1,4 +1,4 @@
-use Rattle.std.proofs.Common.{add-one, true, Some, sym, ap, ◌∙◌}
+use Rattle.std.proofs.Common.{add-one, Some, sym, ap, ◌∙◌}
 use Rattle.irq_base.specs.declared.calls.Call.TheVariants as calls
 use Rattle.irq_base.specs.declared.entries.Actor.TheVariants as actors
 use Rattle.irq_base.specs.declared.entries.Entry.TheVariants as by

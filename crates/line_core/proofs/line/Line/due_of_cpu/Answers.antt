@@ -18,7 +18,8 @@ returns-clause-due g c =
     let b : Beside line.def line.entries = record { seen = c.self.inside.state; scripts = c.self.inside.scripts; is = c.self.invariant } in
     subst (λ (w : WiredSeen). option_map (λ (x : CpuStep). entry_at w.line (steps.Cpu c.args.cpu x)) c.due_of_cpu.result
     ≡ next w.line.def w.line.entries (actors.Cpu c.args.cpu)) c.self.view_is
-    (kind_told (λ (x : CpuStep). steps.Cpu c.args.cpu x) line b (actors.Cpu c.args.cpu) c.due_of_cpu.result (c.due_of_cpu.ensures.due line.def (line_scripted line.def line.entries b)))
+    (kind_told (λ (x : CpuStep). steps.Cpu c.args.cpu x) line b (actors.Cpu c.args.cpu) c.due_of_cpu.result
+    (c.due_of_cpu.ensures.due line.def (line_scripted line.def line.entries b)))
 
 pub returns-clause-work : goal.returns-clause-work
 returns-clause-work g c =

@@ -16,4 +16,5 @@ returns g c =
     let b : Beside line.def line.entries = record { seen = c.self.inside.state; scripts = c.self.inside.scripts; is = c.self.invariant } in
     subst (λ (w : WiredSeen). option_map (λ (x : ThreadStep). entry_at w.line (steps.Thread c.args.dev x))
     c.due_of_thread.result ≡ next w.line.def w.line.entries (actors.Thread c.args.dev)) c.self.view_is
-    (kind_told (λ (x : ThreadStep). steps.Thread c.args.dev x) line b (actors.Thread c.args.dev) c.due_of_thread.result (c.due_of_thread.ensures.due line.def (line_scripted line.def line.entries b)))
+    (kind_told (λ (x : ThreadStep). steps.Thread c.args.dev x) line b (actors.Thread c.args.dev) c.due_of_thread.result
+    (c.due_of_thread.ensures.due line.def (line_scripted line.def line.entries b)))

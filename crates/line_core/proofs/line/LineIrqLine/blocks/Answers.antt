@@ -10,4 +10,5 @@ pub returns : goal.returns
 returns g c =
     subst (λ (w : WiredSeen). c.blocks_by.result ≡ blocks_of w.line) c.self.view_is
     (c.blocks_by.ensures
-    ∙ blocks_told (line_of c.self.inside.def c.self.inside.history) c.self.inside.state.state c.self.inside.scripts (runs_seen c.self.inside.state) c.self.invariant)
+    ∙ blocks_told (line_of c.self.inside.def c.self.inside.history) c.self.inside.state.state c.self.inside.scripts
+    (runs_seen c.self.inside.state) c.self.invariant)

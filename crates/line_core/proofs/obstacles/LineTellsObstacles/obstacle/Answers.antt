@@ -23,7 +23,9 @@ returns-in-Thread g c =
     subst (λ (w : WiredSeen). c.of_thread.result ≡ obstacle_of w.line c.args.actor) c.self.view_is
     (subst (λ (a : Actor). c.of_thread.result ≡ obstacle_of line a) (sym c.in-Thread.is)
     (c.of_thread.ensures line.def (line_scripted line.def line.entries
-    (record { seen = c.self.inside.state; scripts = c.self.inside.scripts; is = c.self.invariant })) ∙ thread_told line c.self.inside.state.state c.self.inside.scripts (runs_seen c.self.inside.state) c.self.invariant c.in-Thread.dev))
+    (record { seen = c.self.inside.state; scripts = c.self.inside.scripts; is = c.self.invariant }))
+    ∙ thread_told line c.self.inside.state.state c.self.inside.scripts (runs_seen c.self.inside.state)
+    c.self.invariant c.in-Thread.dev))
 
 pub returns-in-Some : goal.returns-in-Some
 returns-in-Some g c =
