@@ -5,4 +5,6 @@ mod Bytes
 mod Stating
 mod Named
 pub mod Allowed
+mod OldWords
+mod OldBoards
 pub mod Lawful
