@@ -38,6 +38,8 @@ def counts_of(line, past):
 def device_state(line, past, dev, working):
     """What is kept of a device: of its asks, of its thread, and what a run that is at work has met."""
     part, thread = line.board.serving_part(dev), line.is_running(past, dev)
+    # runs of a part whose script serves the device serve nothing as they return
+    part = None if f"serve {dev}" in map(" ".join, line.board.run_calls(part, dev)) else part
     run = since(past, by("t" + dev, "begin")) if thread else []
     stage = 0 if not thread else 1 + sum(any(map(by("t" + dev, verb), run)) for verb in ("return", "finish"))
     handler_begin = since(past, is_begin) if working == dev else []
