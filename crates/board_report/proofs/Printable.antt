@@ -1,5 +1,5 @@
 -- Each entry that is due has a row.
-use Rattle.std.proofs.Common.{◌≡◌, ℕ, Bool, true, false, cond, is_some, List, [], ◌∷◌, reverse, refl, sym, subst}
+use Rattle.std.proofs.Common.{ℕ, Bool, true, false, cond, is_some, List, [], ◌∷◌, reverse, refl, sym, subst}
 use Rattle.std.specs.List.{All}
 use Rattle.std.proofs.lemmas.List.{reverse-append}
 use Rattle.std.proofs.lemmas.List.Elements.{All-nil, All-push, All-head, All-tail}

@@ -7,7 +7,6 @@ use Rattle.irq_base.specs.declared.entries.Entry.{Entry}
 use Rattle.irq_base.specs.declared.lines.LineDef.{LineDef}
 use Rattle.irq_base.specs.declared.numbers.LineNo.{LineNo}
 use Rattle.irq_base.specs.declared.reporting.LineReport.{LineReport}
-use Rattle.irq_model.specs.Bounds.{bound}
 use Rattle.irq_model.specs.Laws.{NoOverlap, IsSilentAfterFree, KeepsOneshot, TakesAreCounted}
 use Rattle.irq_model.specs.Laws.{IsSynchronised, IsServedWhenIdle}
 use Rattle.irq_model.specs.Legal.{IsLegal}
@@ -18,6 +17,7 @@ use Rattle.irq_model.specs.RunLaws.{FollowsRunScripts, EnablesWhatItDisables, Is
 use Rattle.irq_model.specs.Scripts.{FollowsScripts}
 use Rattle.irq_model.specs.Settled.{IsSettled}
 use Rattle.irq_laws.specs.Quiet.{IsQuiet}
+use Rattle.irq_storms.specs.Lengths.{history_bound, IsBounded}
 use Rattle.domain_rules.specs.declared.layouts.Placement.TheVariants as placements
 use Rattle.domain_rules.specs.declared.layouts.Unmapped.{Unmapped}
 use Rattle.board_def.specs.Layout.{layout_of}
@@ -98,9 +98,10 @@ LineHistory = LineNo × List Entry
 abbrev pub told_by : LineReport → LineHistory
 told_by report = (report.line, report.history.entries)
 
--- each line that takes part has room for the longest history that its definition allows
+-- each line that takes part has a longest history, and room for it
 abbrev pub IsAmple : BoardSeen → Type 0
-IsAmple b = (i : ℕ) (def : LineDef) → slice_get (defs_of b) i ≡ Some def → bound def ≤ b.log
+IsAmple b = (i : ℕ) (def : LineDef) → slice_get (defs_of b) i ≡ Some def
+    → IsBounded def × (history_bound def ≤ b.log)
 
 -- ---- what has happened
 

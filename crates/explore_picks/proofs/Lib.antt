@@ -4,4 +4,7 @@ mod Playing
 mod Bytes
 mod Stating
 mod Named
+pub mod Allowed
+mod OldWords
+mod OldBoards
 pub mod Lawful

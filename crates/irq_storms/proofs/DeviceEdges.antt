@@ -162,7 +162,7 @@ module _ (def : LineDef) (runs : HasValidRuns def) where
 
   both_arms : (k : ℕ) (past : List Entry) → IsLegalPast def past
       → total_at dev_key run_arms k past ≤ sum_over (λ e past. handler_arms (record { 0 = k }) e) past + sum_over
-          (λ e past. thread_arms (record { 0 = k }) e) past
+      (λ e past. thread_arms (record { 0 = k }) e) past
   both_arms k past legal =
       let a = sum_alone (λ e. cond (k == dev_key e) (run_arms e) 0) past in
       let s = sum_below def (λ e past. cond (k == dev_key e) (run_arms e) 0)
@@ -293,7 +293,7 @@ module _ (def : LineDef) (runs : HasValidRuns def) where
   arms_of_runs past valid legal =
       let all = totals_by_key dev_key run_arms past number (λ x. edges_of x.dev) def.devices each in
       let same = total_kinds def.devices (λ x. edges_of x.dev) (λ x. edges_by_arms def x.dev x.kind)
-          (edges_are def.devices (own_kinds def.devices valid.distinct)) in
+      (edges_are def.devices (own_kinds def.devices valid.distinct)) in
       omega (arith, all, same)
     where
       each : (k : ℕ) → total_at dev_key run_arms k past ≤ total_at number (λ x. edges_of x.dev) k def.devices
@@ -306,7 +306,7 @@ module _ (def : LineDef) (runs : HasValidRuns def) where
 
 -- ---- the arms of drivers
 
-abbrev driver_arms : Entry → ℕ
+abbrev pub driver_arms : Entry → ℕ
 driver_arms (by.DriverCall driver call) = one_if (arms_with_edge call)
 driver_arms _ = 0
 
@@ -337,7 +337,7 @@ arms_alone : (e : Entry) → is_by_any_driver e ≡ false → driver_arms e ≡ 
 arms_alone (by.DriverCall r call) other = cc
 arms_alone e other = refl
 
-arms_of_drivers : (def : LineDef) (past : List Entry) → IsLegalPast def past → total driver_arms past ≤ count_of (λ c. is_arm_call c.1) def.calls
+pub arms_of_drivers : (def : LineDef) (past : List Entry) → IsLegalPast def past → total driver_arms past ≤ count_of (λ c. is_arm_call c.1) def.calls
 arms_of_drivers def past legal =
     let all = of_drivers driver_arms (λ c. one_if (is_arm_call c))
     (runs_cost (λ call. one_if (arms_with_edge call)) (λ c. one_if (is_arm_call c)) arm_steps driver_arms arm_step)
@@ -358,7 +358,7 @@ edge_more (by.ThreadCall x call) = omega arith
 edge_more (by.DriverCall r call) = omega arith
 edge_more e = omega arith
 
-edges_past : (past : List Entry) → count_of is_device_edge past ≤ count_of is_any_ask past + total driver_arms past + total run_arms past
+pub edges_past : (past : List Entry) → count_of is_device_edge past ≤ count_of is_any_ask past + total driver_arms past + total run_arms past
 edges_past [] = omega arith
 edges_past (e ∷ past) =
     let r = edges_past past in

@@ -1,6 +1,6 @@
 -- The takes on the edge flow: one that calls no handler masks the line, so it has an opening of its
 -- own.
-use Rattle.std.proofs.Common.{◌≡◌, ℕ, ◌+◌, ◌*◌, ◌≤◌, Bool, true, false, not, ◌||◌, ◌&&◌, cond, List, [], ◌∷◌, reverse, refl, sym, ap, ◌∙◌, subst, arith}
+use Rattle.std.proofs.Common.{◌≡◌, ◌+◌, ◌*◌, ◌≤◌, Bool, true, false, not, ◌||◌, ◌&&◌, cond, List, [], ◌∷◌, reverse, refl, sym, ap, ◌∙◌, subst, arith}
 use Rattle.std.proofs.lemmas.List.{reverse-reverse}
 use Rattle.std.proofs.lemmas.Bool.{and_parts, false_from_ne_true}
 use Rattle.irq_base.specs.declared.numbers.DevNo.{DevNo}
@@ -15,9 +15,8 @@ use Rattle.irq_base.specs.declared.entries.Way.TheVariants as ways
 use Rattle.irq_base.specs.declared.entries.TakeAnswer.{TakeAnswer}
 use Rattle.irq_base.specs.declared.entries.TakeAnswer.TheVariants as takes
 use Rattle.irq_model.specs.Places.{count_of}
-use Rattle.irq_model.specs.Kinds.{is_take, is_line_take, is_resend_take, is_handle, is_busy, is_off, is_start, is_soft_start, is_reopening}
+use Rattle.irq_model.specs.Kinds.{is_take, is_line_take, is_resend_take, is_handle, is_start, is_soft_start}
 use Rattle.irq_model.specs.Lines.{is_edge_line, is_edge_flow, is_eoi_flow, serves}
-use Rattle.irq_model.specs.Laws.{TakesAreCounted}
 use Rattle.irq_model.specs.Masks.{masks, take_masks, is_masked, unmasks}
 use Rattle.irq_model.specs.Asks.{is_high}
 use Rattle.irq_model.specs.Rounds.{begins_round, has_flow}

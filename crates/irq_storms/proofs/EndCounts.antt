@@ -315,7 +315,7 @@ moment_most w k u false l l' small = by_tests (l || nat_lt u k) (l' || nat_lt u 
 -- a request that is linked: s: it was shut, g: it starts the line
 linked_most : (w k u : ℕ) (s g l : Bool) → k < w → (s ≡ true → (k ≡ 0) × (u ≡ 0))
     → cond (false || (not g && s)) (cond l w 0) (cond (l || nat_lt 0 0) (2 * w - 0) (w - 0)) ≤ cond s (cond l w 0)
-        (cond (l || nat_lt u k) (2 * w - k) (w - k)) + w
+    (cond (l || nat_lt u k) (2 * w - k) (w - k)) + w
 linked_most w k u true true true small empty = omega arith
 linked_most w k u true true false small empty = omega arith
 linked_most w k u true false true small empty = omega arith
@@ -328,7 +328,7 @@ linked_most w k u false false false small empty = omega arith
 -- any other entry: r: it renews
 other_most : (w k u : ℕ) (s g l r : Bool) → (s ≡ true → (k ≡ 0) × (u ≡ 0)) → (g && s) ≡ r
     → cond (false || (not g && s)) (cond l w 0) (cond (l || nat_lt u k) (2 * w - k) (w - k)) ≤ cond s (cond l w 0)
-        (cond (l || nat_lt u k) (2 * w - k) (w - k)) + cond r w 0
+    (cond (l || nat_lt u k) (2 * w - k) (w - k)) + cond r w 0
 other_most w k u true true l true empty is =
     let e = empty refl in
     let none : nat_lt u k ≡ false = le-ltb u k (let z = e.0 in omega (arith, z)) in
@@ -348,9 +348,6 @@ SameWindow c d = (d.irq_count ≡ c.irq_count) × (d.irqs_unhandled ≡ c.irqs_u
 
 same_room : (def : LineDef) (s : Bool) (at : ℕ) (c d : Counts) → SameWindow c d → room_of def s at d ≡ room_of def s at c
 same_room def s at c d same = rw (same.0, same.1, same.2) refl
-
-no_renewal : (r : Bool) (s : Bool) → (false || (false || (r && s))) ≡ (r && s)
-no_renewal r s = refl
 
 quiet_more : (def : LineDef) (e : Entry) (past : List Entry) → IsValid def → IsLegalPast def past
     → is_end e ≡ false → is_kill e ≡ false → is_moment e ≡ false → is_linked_request e ≡ false → now (e ∷ past) ≡ now past
@@ -374,13 +371,13 @@ room_more def (by.Driver s (drivers.Moment at)) past valid legal due =
     let c = counts_of def past in
     let small = small_past def past (let w = valid.some_window in omega (arith, w)) in
     let m = moment_most def.window c.irq_count c.irqs_unhandled (stands is_kill is_start past) (is_late (now past) c)
-        (is_late (now (by.Driver s (drivers.Moment at) ∷ past)) c) small in
+    (is_late (now (by.Driver s (drivers.Moment at) ∷ past)) c) small in
     omega (arith, m)
 room_more def (by.Driver s (drivers.Request flags links.Linked opened x)) past valid legal due =
     let c = counts_of def past in
     let small = small_past def past (let w = valid.some_window in omega (arith, w)) in
     let m = linked_most def.window c.irq_count c.irqs_unhandled (stands is_kill is_start past)
-        (is_start (by.Driver s (drivers.Request flags links.Linked opened x)))
+    (is_start (by.Driver s (drivers.Request flags links.Linked opened x)))
     (is_late (now past) c) small (empty_past def past valid legal) in
     omega (arith, m)
 room_more def (by.Driver s (drivers.Request flags (links.Refused error) opened x)) past valid legal due =

@@ -115,7 +115,7 @@ module _ (def : LineDef) (p : Part) (d : DevNo) (always : AlwaysServes def p d)
           let m = most (is_in p d (e ∷ past)) (nat_lt 0 (met_by def p d (e ∷ past))) in
           let s : one_if (nat_lt 0 (met_by def p d (e ∷ past))) ≡ one_if (nat_lt 0 (unserved_asks def d past)) = ap (λ (n : ℕ). one_if (nat_lt 0 n)) met in
           let w : one_if (meets_d e past) ≡ one_if (nat_lt 0 (unserved_asks def d past))
-              = ap (λ (c : Bool). one_if (c && nat_lt 0 (unserved_asks def d past))) ig in
+          = ap (λ (c : Bool). one_if (c && nat_lt 0 (unserved_asks def d past))) ig in
           omega (arith, none, m, s, w)
       by_tests false true ig it =
           let h = handled_run def p d e past legal it in
@@ -205,18 +205,18 @@ module _ (def : LineDef) (d : DevNo) (past : List Entry) (legal : IsLegalPast de
   by_kind : (k : Kind) → kind_of def d ≡ k → Few
   by_kind kinds.Direct is =
       let h = handled_by_asks def parts.Primary d (direct_serves def d is)
-          (λ past a. if_handled _ (sym (answers_as parts.Primary kinds.Direct is past) ∙ a)) past legal in
+      (λ past a. if_handled _ (sym (answers_as parts.Primary kinds.Direct is past) ∙ a)) past legal in
       let t = handled_never def parts.Thread d (λ past. answers_as parts.Thread kinds.Direct is past) past legal in
       omega (arith, h, t)
   by_kind kinds.Check is =
       let h = handled_never def parts.Primary d (λ past. answers_as parts.Primary kinds.Check is past ∙ if_some _ answers.Wake refl) past legal in
       let t = handled_by_asks def parts.Thread d (check_serves def d is)
-          (λ past a. if_handled _ (sym (answers_as parts.Thread kinds.Check is past) ∙ a)) past legal in
+      (λ past a. if_handled _ (sym (answers_as parts.Thread kinds.Check is past) ∙ a)) past legal in
       omega (arith, h, t)
   by_kind kinds.Null is =
       let h = handled_never def parts.Primary d (λ past. answers_as parts.Primary kinds.Null is past) past legal in
       let t = handled_by_asks def parts.Thread d (null_serves def d is)
-          (λ past a. if_handled _ (sym (answers_as parts.Thread kinds.Null is past) ∙ a)) past legal in
+      (λ past a. if_handled _ (sym (answers_as parts.Thread kinds.Null is past) ∙ a)) past legal in
       omega (arith, h, t)
   by_kind kinds.Stuck is =
       let h = handled_never def parts.Primary d (λ past. answers_as parts.Primary kinds.Stuck is past) past legal in

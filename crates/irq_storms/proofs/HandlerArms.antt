@@ -81,10 +81,10 @@ arms_own def c edge x d past runs same u =
     let kind : kind_of def u.dev ≡ kinds.Direct = direct_kind (kind_of def u.dev) parts_are.1 in
     let makes : makes_calls def parts.Primary u.dev past ≡ true =
     some_due (makes_calls def parts.Primary u.dev past)
-        (due_of (run_script def u.dev parts.Primary) (entries_of_run parts.Primary u.dev past)) u.due u.is_due in
+    (due_of (run_script def u.dev parts.Primary) (entries_of_run parts.Primary u.dev past)) u.due u.is_due in
     let known : is_recognised (answer_of kinds.Direct parts.Primary (met_by def parts.Primary u.dev past) (told_of def parts.Primary u.dev past)) ≡ true =
     ap (λ (k : Kind). is_recognised (answer_of k parts.Primary (met_by def parts.Primary u.dev past)
-        (told_of def parts.Primary u.dev past))) (sym kind) ∙ makes in
+    (told_of def parts.Primary u.dev past))) (sym kind) ∙ makes in
     subst (λ (y : DevNo). Arms def past y) own
     (record { is_at_work = u.is_at_work; direct = kind; met = recognises (met_by def parts.Primary u.dev past) (told_of def parts.Primary u.dev past) known })
 
@@ -184,10 +184,10 @@ module _ (def : LineDef) (runs : HasValidRuns def) (d : DevNo) where
           made_most (handler_arms d) (arm_weight d) (handler_made d) (handlers_alone d) def (by.CpuCall c call ∷ past) legal d u.is_at_work in
           let called_now : is_called past d ≡ true = ((runs_past def past legal.1).working d u.is_at_work).0 in
           let was : rest past ≡ all - made past = ap (λ (b : Bool). cond b (all - made past) 0)
-              (both (is_called past d) (nat_lt 0 (met_by def parts.Primary d past)) called_now u.met) in
+          (both (is_called past d) (nat_lt 0 (met_by def parts.Primary d past)) called_now u.met) in
           let is_now : rest (by.CpuCall c call ∷ past) ≡ all - made (by.CpuCall c call ∷ past) =
           ap (λ (b : Bool). cond b (all - made (by.CpuCall c call ∷ past)) 0)
-              (both (is_called past d) (nat_lt 0 (met_by def parts.Primary d past)) called_now u.met) in
+          (both (is_called past d) (nat_lt 0 (met_by def parts.Primary d past)) called_now u.met) in
           omega (arith, most, was, is_now)
         where
           both : (a b : Bool) → a ≡ true → b ≡ true → (a && b) ≡ true

@@ -158,13 +158,13 @@ module _ (def : LineDef) (valid : IsValid def) (runs : HasValidRuns def) (rules 
 
       by_test : (b : Bool) → is_none_linked past ≡ b
           → cond (is_none_linked (e ∷ past)) 0 (owed def (e ∷ past)) + one_if (is_lowering e) ≤ cond b 0 (owed def past)
-              + one_if (is_disable e) + one_if (yields e)
+          + one_if (is_disable e) + one_if (yields e)
       by_test true none =
           let still = still_none e past (no_request (is_linked_request e) (is_none_linked past) none parts.1) none in
           let z : cond (is_none_linked (e ∷ past)) 0 (owed def (e ∷ past)) ≡ 0 = ap (λ (b : Bool). cond b 0 (owed def (e ∷ past))) still in
           let l : one_if (is_lowering e) ≡ 0 = ap one_if
-              (false_from_ne_true (is_lowering e) (λ low. both_ways (is_none_linked past) none
-              (opens_so.some_linked low))) in
+          (false_from_ne_true (is_lowering e) (λ low. both_ways (is_none_linked past) none
+          (opens_so.some_linked low))) in
           omega (arith, z, l)
       by_test false some =
           let m = owed_more def valid runs rules e past legal in
@@ -339,7 +339,7 @@ module _ (def : LineDef) (valid : IsValid def) (runs : HasValidRuns def) (rules 
           let link = (and_parts (is_linked_request e) (is_none_linked past) first).0 in
           done (ap one_if (by_no_run e past link))
           (ap (λ (n : ℕ). cond (is_none_linked (e ∷ past)) 0 n) (first_rest e past legal first)
-              ∙ less (is_none_linked (e ∷ past))) (shut_less (link_no_kill e link))
+          ∙ less (is_none_linked (e ∷ past))) (shut_less (link_no_kill e link))
 
   counted_past : (past : List Entry) → IsLegalPast def past → Counted def past
   counted_past [] legal = record { sum = omega arith; few = omega arith }
@@ -417,7 +417,7 @@ yields_alone e other = refl
 yields_past : (def : LineDef) (past : List Entry) → IsLegalPast def past → count_of yields past ≤ other_calls def
 yields_past def past legal =
     let all = of_drivers (λ e. one_if (yields e)) (λ c. one_if (not (is_ask_call c))) call_yields yields_alone def past
-        (λ r. follows_past def past legal (actors.Driver r)) in
+    (λ r. follows_past def past legal (actors.Driver r)) in
     let a = count_total yields past in
     let b = count_total (λ (c : DriverNo × Call). not (is_ask_call c.1)) def.calls in
     omega (arith, all, a, b)

@@ -12,7 +12,7 @@ use Rattle.irq_model.specs.Masks.{is_masked}
 use Rattle.irq_model.specs.Rounds.{has_flow}
 use Rattle.irq_model.specs.Next.{next, next_past}
 use Rattle.irq_model.specs.Legal.{IsDue, IsLegal, IsLegalPast}
-use Rattle.irq_model.specs.Lines.{is_edge_line, is_level_line, is_level_flow, is_eoi_flow}
+use Rattle.irq_model.specs.Lines.{is_edge_line, is_level_flow, is_eoi_flow}
 use Rattle.irq_model.specs.RunBounds.{run_edge_bound, run_level_bound, EnablesOnlyItsOwn}
 use Rattle.irq_model.specs.Valid.{IsValid}
 use Rattle.irq_model.specs.ValidRuns.{HasValidRuns}
@@ -24,7 +24,8 @@ use Rattle.irq_storms.proofs.ThreadCounts.{begins_of, returns_of, finishes_of, d
 use Rattle.irq_storms.proofs.ServedCounts.{served_exactly, served_of}
 use Rattle.irq_storms.proofs.DeviceSums.{served_of_all, served_past}
 use Rattle.irq_storms.proofs.RunEdgeBound.{edge_within}
-use Rattle.irq_storms.proofs.LevelBound.{renewals_past, level_within}
+use Rattle.irq_storms.proofs.LevelBound.{renewals_past}
+use Rattle.irq_storms.proofs.WindowBound.{window_within}
 use Rattle.irq_storms.proofs.KilledStarts.{killed_starts}
 use Rattle.irq_storms.proofs.HandledRuns.{handled_past as handled_runs}
 use Rattle.irq_storms.proofs.KillCounts.{shut_past, closed_past, may_be_busy, busy_past, none_busy, offs_past}
@@ -113,14 +114,14 @@ level_is_counted def h valid legal level =
 
 -- ---- the bounds
 
-level_past : (def : LineDef) (past : List Entry) → IsValid def → HasValidRuns def → EnablesOnlyItsOwn def → IsLegalPast def past
-    → is_level_line def ≡ true → length past ≤ run_level_bound def
-level_past def past valid runs rules legal level = level_within def past valid runs legal level (killed_starts def past valid runs rules legal)
+window_past : (def : LineDef) (past : List Entry) → IsValid def → HasValidRuns def → EnablesOnlyItsOwn def → IsLegalPast def past
+    → length past ≤ run_level_bound def
+window_past def past valid runs rules legal = window_within def valid runs past legal (killed_starts def past valid runs rules legal)
 
 pub within_level_bound : (def : LineDef) (h : List Entry) → IsValid def → HasValidRuns def → EnablesOnlyItsOwn def → IsLegal def h
-    → is_level_line def ≡ true → length h ≤ run_level_bound def
-within_level_bound def h valid runs rules legal level =
-    let n = level_past def (reverse h) valid runs rules legal level in
+    → length h ≤ run_level_bound def
+within_level_bound def h valid runs rules legal =
+    let n = window_past def (reverse h) valid runs rules legal in
     let l = length-reverse h in
     omega (arith, n, l)
 
@@ -129,7 +130,7 @@ within_past def past valid runs bounded legal = by_line (is_edge_line def) refl
   where
     by_line : (b : Bool) → is_edge_line def ≡ b → length past ≤ cond b (run_edge_bound def) (run_level_bound def)
     by_line true edge = edge_within def past valid runs legal edge
-    by_line false level = level_past def past valid runs (bounded (ap not level)) legal (ap not level)
+    by_line false level = window_past def past valid runs (bounded (ap not level)) legal
 
 pub within_bound : (def : LineDef) (h : List Entry) → IsValid def → HasValidRuns def → IsBounded def → IsLegal def h → length h ≤ history_bound def
 within_bound def h valid runs bounded legal =

@@ -1,6 +1,7 @@
--- The bound of a level line whose runs start it seldom after a kill.
-use Rattle.std.proofs.Common.{◌≡◌, ℕ, ◌+◌, ◌*◌, ◌≤◌, Bool, true, false, not, ◌||◌, ◌&&◌, cond, List, [], ◌∷◌, length, refl, sym, ap, ◌∙◌, arith}
-use Rattle.std.proofs.Math.Nat.{mul-add, add-mul, mul-le-mul_left, mul-le-mul_right, mul_assoc, mul_comm, mul-one}
+-- The rounds of a line whose runs start it seldom after a kill, by its window; and the length of a
+-- level line's histories by its rounds.
+use Rattle.std.proofs.Common.{◌≡◌, ℕ, ◌+◌, ◌*◌, ◌≤◌, Bool, true, false, not, ◌||◌, ◌&&◌, List, [], ◌∷◌, length, refl, sym, ap, ◌∙◌, arith}
+use Rattle.std.proofs.Math.Nat.{add-mul, mul-le-mul_left, mul_assoc, mul_comm}
 use Rattle.irq_base.specs.declared.lines.LineDef.{LineDef}
 use Rattle.irq_base.specs.declared.entries.Entry.{Entry}
 use Rattle.irq_base.specs.declared.entries.Entry.TheVariants as by
@@ -8,10 +9,10 @@ use Rattle.irq_base.specs.declared.entries.CpuEntry.TheVariants as cpus
 use Rattle.irq_base.specs.declared.entries.TakeAnswer.TheVariants as takes
 use Rattle.irq_model.specs.Places.{stands, count_of}
 use Rattle.irq_model.specs.Kinds.{is_take, is_handle, is_busy, is_off, is_again, is_kill, is_start, is_linked_request}
-use Rattle.irq_model.specs.Lines.{is_edge_line, is_level_line, is_eoi_flow}
+use Rattle.irq_model.specs.Lines.{is_level_line, is_eoi_flow}
 use Rattle.irq_model.specs.Rounds.{begins_round, has_flow}
 use Rattle.irq_model.specs.Bounds.{ask_calls, other_calls}
-use Rattle.irq_model.specs.RunBounds.{round_weight, told_handled, run_level_bound}
+use Rattle.irq_model.specs.RunBounds.{told_handled}
 use Rattle.irq_model.specs.Spurious.{counts_of}
 use Rattle.irq_model.specs.Legal.{IsLegalPast}
 use Rattle.irq_model.specs.Valid.{IsValid}
@@ -29,7 +30,7 @@ use Rattle.irq_storms.proofs.EndCounts.{where_more, handled_past, deferred_past,
 use Rattle.irq_storms.proofs.HandledRuns.{handled_past as handled_runs}
 use Rattle.irq_storms.proofs.LongBound.{by_rounds}
 use Rattle.irq_storms.proofs.WakeCosts.{thread_weight}
-use Rattle.irq_storms.proofs.WeightSums.{all_handlers, round_pays, calls_paid}
+use Rattle.irq_storms.proofs.WeightSums.{all_handlers}
 
 -- ---- each end is judged one way
 
@@ -117,9 +118,9 @@ renewals_past def past legal = let r = renewals_by past in let d = renewals_of_d
 abbrev pub phases : LineDef → ℕ
 phases def = ask_calls def + other_calls def + told_handled def + 1
 
-level_rounds : (def : LineDef) (past : List Entry) → IsValid def → IsLegalPast def past
+pub window_rounds : (def : LineDef) (past : List Entry) → IsValid def → IsLegalPast def past
     → count_where starts_killed past ≤ other_calls def → count_of (begins_round def) past ≤ 2 * phases def + 2 * (def.window * phases def)
-level_rounds def past valid legal few =
+window_rounds def past valid legal few =
     let r = rounds_past def past legal in
     let e = ends_judged def past in
     let f = mark_most (has_flow def past) in
@@ -141,7 +142,7 @@ level_rounds def past valid legal few =
 
 -- ---- the length
 
-by_level_rounds : (def : LineDef) (past : List Entry) → IsValid def → HasValidRuns def → IsLegalPast def past → is_level_line def ≡ true
+pub by_level_rounds : (def : LineDef) (past : List Entry) → IsValid def → HasValidRuns def → IsLegalPast def past → is_level_line def ≡ true
     → length past ≤ (2 + all_handlers def) * count_of (begins_round def) past + total (λ c. driver_weight (thread_weight def) c.1) def.calls
 by_level_rounds def past valid runs legal level =
     let all = by_rounds def past valid runs legal in
@@ -151,53 +152,3 @@ by_level_rounds def past valid runs legal level =
     let o = offs_past def past valid legal level in
     let parts = add-mul 2 (all_handlers def) (count_of (begins_round def) past) in
     omega (arith, all, t, h, b, o, parts)
-
--- f: the weight of a round, m: the phases, w: the window
-spread : (f m w : ℕ) → f * m * (2 * w + 5) * 1 ≡ f * (2 * m + 2 * (w * m)) + 3 * (f * m)
-spread f m w =
-    let one = mul-one (f * m * (2 * w + 5)) in
-    let a = mul-add (f * m) (2 * w) 5 in
-    let b : f * m * (2 * w) ≡ f * (2 * (w * m)) = mul_assoc f m (2 * w) ∙ ap (λ (x : ℕ). f * x) (mul_comm m (2 * w) ∙ mul_assoc 2 w m) in
-    let c = mul-add f (2 * m) (2 * (w * m)) in
-    let d : f * (2 * m) ≡ 2 * (f * m) = sym (mul_assoc f 2 m) ∙ ap (λ (x : ℕ). x * m) (mul_comm f 2) ∙ mul_assoc 2 f m in
-    omega (arith, one, a, b, c, d)
-
-level_product : (def : LineDef) → is_level_line def ≡ true → run_level_bound def ≡ round_weight def * phases def * (2 * def.window + 5) * 1
-level_product def level = ap (λ (b : Bool). round_weight def * phases def * (2 * def.window + 5) * cond
-    (b && is_eoi_flow def.flow) 2 1) (not_edge (is_edge_line def) level)
-  where
-    not_edge : (b : Bool) → not b ≡ true → b ≡ false
-    not_edge true h = cc
-    not_edge false h = refl
-
--- runs start a killed line no more often than drivers call
-pub level_within : (def : LineDef) (past : List Entry) → IsValid def → HasValidRuns def → IsLegalPast def past → is_level_line def ≡ true
-    → count_where starts_killed past ≤ other_calls def → length past ≤ run_level_bound def
-level_within def past valid runs legal level few =
-    let n = by_level_rounds def past valid runs legal level in
-    let r = level_rounds def past valid legal few in
-    let p = round_pays def valid in
-    let x = mul-le-mul_left (2 + all_handlers def) r in
-    let y = mul-le-mul_right (2 * phases def + 2 * (def.window * phases def)) (less (round_weight def) (all_handlers def) p) in
-    let c = calls_paid def valid runs in
-    let k = mul-le-mul_left (round_weight def) some_calls in
-    let asks = asks_below in
-    let s = spread (round_weight def) (phases def) def.window in
-    let l = level_product def level in
-    let q = mul-add (round_weight def) (ask_calls def) (other_calls def) in
-    omega (arith, n, x, y, c, k, asks, s, l, q, p)
-  where
-    less : (f h : ℕ) → 8 + h ≤ f → 2 + h ≤ f
-    less f h le = omega (arith, le)
-
-    some_calls : ask_calls def + other_calls def ≤ phases def
-    some_calls = omega arith
-
-    asks_below : ask_calls def ≤ round_weight def * ask_calls def
-    asks_below =
-        let p = round_pays def valid in
-        let m = mul-le-mul_right (ask_calls def) (one (round_weight def) (all_handlers def) p) in
-        omega (arith, m)
-      where
-        one : (f h : ℕ) → 8 + h ≤ f → 1 ≤ f
-        one f h le = omega (arith, le)

@@ -36,3 +36,4 @@ pub mod KilledStarts
 pub mod PlainBounds
 pub mod StormRows
 pub mod EdgeTakes
+pub mod WindowBound

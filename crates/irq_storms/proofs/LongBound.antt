@@ -69,6 +69,12 @@ thread_wakes_none def x (called.Wake woken d) past runs due h =
     no_wake_stands (kind_of def x) x d (run_stands def past parts.Thread x (calls.Wake d) w.0 runs (u.is_due ∙ w.1))
 thread_wakes_none def x call past runs due h = refl
 
+-- a handler's call, or a thread's
+abbrev pub is_run_call : Entry → Bool
+is_run_call (by.CpuCall cpu call) = true
+is_run_call (by.ThreadCall dev call) = true
+is_run_call _ = false
+
 -- ---- what each entry costs
 
 abbrev pub entry_cost : Entry → ℕ
@@ -134,6 +140,43 @@ module _ (def : LineDef) where
       let s = sum_below def (λ e past. run_pays def h e) (λ e past. begin_pays def handler_weight e) (λ e past legal. pays_same e) past legal in
       let b = begins_paid def handler_weight past valid legal in
       let d = of_drivers (driver_cost h) (driver_weight h) (driver_call h) (drivers_cost_alone h) def past
-          (λ q. follows_past def past legal (actors.Driver q)) in
+      (λ q. follows_past def past legal (actors.Driver q)) in
       let e = rounds_past def past legal in
       omega (arith, n, a, t, r, s, b, d, e)
+
+  -- ---- the calls of runs alone
+
+  run_calls_cost : (e : Entry) (past : List Entry) → HasValidRuns def → IsDue def e past
+      → one_if (is_run_call e) + wake_pays def e ≤ run_cost def h e past + of_thread e + driver_cost h e
+  run_calls_cost (by.Cpu c (cpus.Take way answer)) past runs due = omega arith
+  run_calls_cost (by.Cpu c (cpus.Begin x)) past runs due = omega arith
+  run_calls_cost (by.Cpu c (cpus.Return answer x served)) past runs due = let w = woken_once (is_wake answer) (h x) in omega (arith, w)
+  run_calls_cost (by.Cpu c (cpus.End again unmask note)) past runs due = omega arith
+  run_calls_cost (by.CpuCall c call) past runs due = omega arith
+  run_calls_cost (by.Thread x e) past runs due = omega arith
+  run_calls_cost (by.ThreadCall x call) past runs due = let w = thread_wakes_none def x call past runs due h in omega (arith, w)
+  run_calls_cost (by.Driver r e) past runs due = omega arith
+  run_calls_cost (by.DriverCall r call) past runs due = omega arith
+
+  run_calls_costs : (past : List Entry) → HasValidRuns def → IsLegalPast def past
+      → count_of is_run_call past + total (wake_pays def) past ≤ sum_over (run_cost def h) past + total of_thread past + total (driver_cost h) past
+  run_calls_costs [] runs legal = omega arith
+  run_calls_costs (e ∷ past) runs legal =
+      let r = run_calls_costs past runs legal.1 in
+      let c = run_calls_cost e past runs legal.0 in
+      let m = count_more is_run_call e past in
+      omega (arith, r, c, m)
+
+  -- they are no more than what the rounds and the drivers' calls pay for
+  pub run_calls_paid : (past : List Entry) → IsValid def → HasValidRuns def → IsLegalPast def past
+      → count_of is_run_call past ≤ total (λ x. handler_weight x.dev) def.devices * count_of (begins_round def) past +
+      total (λ c. driver_weight h c.1) def.calls
+  run_calls_paid past valid runs legal =
+      let a = run_calls_costs past runs legal in
+      let t = threads_paid def past legal in
+      let r = runs_paid def h past legal in
+      let s = sum_below def (λ e past. run_pays def h e) (λ e past. begin_pays def handler_weight e) (λ e past legal. pays_same e) past legal in
+      let b = begins_paid def handler_weight past valid legal in
+      let d = of_drivers (driver_cost h) (driver_weight h) (driver_call h) (drivers_cost_alone h) def past
+      (λ q. follows_past def past legal (actors.Driver q)) in
+      omega (arith, a, t, r, s, b, d)

@@ -132,10 +132,6 @@ owed def past = total (λ x. owes def x.dev past) def.devices
 
 -- ---- enables of calls
 
-enable_once : (b : Bool) → one_if b + 0 ≤ 1
-enable_once true = omega arith
-enable_once false = omega arith
-
 enable_steps : (c : Call) (cs : List CallEntry) → MakesSteps c cs → total (λ call. one_if (enables call)) cs ≤ one_if (is_enabling c)
 enable_steps (calls.Free x) (called.Unlink unlinks.NotThere dev ∷ []) m = omega arith
 enable_steps (calls.Free x) (called.Unlink (unlinks.Unlinked last) dev ∷ called.HardClear ∷ called.Freed gone ∷ []) m = omega arith
@@ -313,11 +309,11 @@ module _ (def : LineDef) (rules : EnablesOnlyItsOwn def) where
       let u = return_due def c x answer n past legal.0 in
       let makes : makes_calls def parts.Primary x past ≡ true = wake_recognised _ (sym (ap is_wake u.answer_is) ∙ wakes) in
       let script : calls_of_run def parts.Primary x past
-          ≡ run_script def x parts.Primary = ap (λ (m : Bool). cond m (run_script def x parts.Primary) []) makes in
+      ≡ run_script def x parts.Primary = ap (λ (m : Bool). cond m (run_script def x parts.Primary) []) makes in
       let made = subst (λ (cs : List Call). MakesAllOf cs (entries_of_run parts.Primary x past)) script
       (run_made def parts.Primary x (by.Cpu c (cpus.Return answer x n)) past legal (same_self x)) in
       let some = script_disables (run_script def x parts.Primary) (entries_of_run parts.Primary x past)
-          (some_count (run_script def x parts.Primary) (rules.threads x own).2) made in
+      (some_count (run_script def x parts.Primary) (rules.threads x own).2) made in
       both (is_called past x) (list_any is_cpu_disable (since is_begin_or_return past)) ((runs_past def past legal.1).working x u.is_at_work).0
       (cpu_kept (since is_begin_or_return past) (any_back is_disable (filter is_cpu_call (since is_begin_or_return past)) some))
     where
@@ -325,10 +321,6 @@ module _ (def : LineDef) (rules : EnablesOnlyItsOwn def) where
       both a b h i = grind arith
 
 -- ---- one more entry, as numbers
-
-sum_le : (o h w t h' w' t' : Bool) (m : ℕ) → one_if h' + one_if w' + one_if t' ≤ one_if h + one_if w + one_if t + m → sum_if o h' w' t' ≤ sum_if o h w t + m
-sum_le true h w t h' w' t' m le = le
-sum_le false h w t h' w' t' m le = omega arith
 
 sum_gt : (o h w t h' w' t' : Bool) → o ≡ true → one_if h' + one_if w' + one_if t' + 1 ≤ one_if h + one_if w + one_if t → sum_if o h' w' t' + 1 ≤ sum_if o h w t
 sum_gt true h w t h' w' t' is le = le
@@ -414,7 +406,7 @@ enable_before : (d : DevNo) (e : Entry) (past : List Entry) → is_thread_begin 
 enable_before d e past other h =
     let p = and_parts (is_in_run (e ∷ past) d) (not (list_any (is_own_enable d) (since (is_thread_begin d) (e ∷ past)))) h in
     let any : list_any (is_own_enable d) (since (is_thread_begin d) (e ∷ past))
-        ≡ (is_own_enable d e || list_any (is_own_enable d) (since (is_thread_begin d) past)) =
+    ≡ (is_own_enable d e || list_any (is_own_enable d) (since (is_thread_begin d) past)) =
     ap (λ (b : Bool). list_any (is_own_enable d) (cond b [] (e ∷ since (is_thread_begin d) past))) other in
     both (is_in_run past d) (is_own_enable d e) (list_any (is_own_enable d) (since (is_thread_begin d) past)) (in_run_before d e past other p.0)
     (sym (ap not any) ∙ p.1)
@@ -465,14 +457,14 @@ module _ (def : LineDef) (valid : IsValid def) (runs : HasValidRuns def) (rules 
     where
       by_own : (b : Bool) → owns def d ≡ b
           → sum_if b (is_called past d && (disables call || list_any is_cpu_disable (since is_begin_or_return past)))
-              (wakes_by_call d call || (true && is_woken past d)) (to_enable d past)
+          (wakes_by_call d call || (true && is_woken past d)) (to_enable d past)
           ≤ sum_if b (past_disable d past) (is_woken past d) (to_enable d past) + one_if (is_called past d && disables call)
       by_own false is = omega arith
       by_own true is =
           let w = handler_wakes_none def d c call past (rules.wakes d is) legal.0 in
           subst (λ (v : Bool). sum_if true (is_called past d &&
-              (disables call || list_any is_cpu_disable (since is_begin_or_return past)))
-              (v || (true && is_woken past d)) (to_enable d past)
+          (disables call || list_any is_cpu_disable (since is_begin_or_return past)))
+          (v || (true && is_woken past d)) (to_enable d past)
           ≤ sum_if true (past_disable d past) (is_woken past d) (to_enable d past) + one_if (is_called past d && disables call)) (sym w)
           (at_call true (is_called past d) (list_any is_cpu_disable (since is_begin_or_return past)) (is_woken past d) (to_enable d past) (disables call))
 
@@ -503,8 +495,8 @@ module _ (def : LineDef) (valid : IsValid def) (runs : HasValidRuns def) (rules 
           devices_more (λ d. o d (by.CpuCall c call ∷ past)) (λ d. o d past) u.dev def.devices valid.distinct
           (let h = handler_call c call past legal u.dev in let z = one (is_called past u.dev && disables call) in omega (arith, h, z))
           (λ d other. let h = handler_call c call past legal d in
-              let z : one_if (is_called past d && disables call)
-              ≡ 0 = ap (λ (k : Bool). one_if (k && disables call)) (none d other) in
+          let z : one_if (is_called past d && disables call)
+          ≡ 0 = ap (λ (k : Bool). one_if (k && disables call)) (none d other) in
           omega (arith, h, z))
         where
           one : (b : Bool) → one_if b ≤ 1
@@ -562,10 +554,10 @@ module _ (def : LineDef) (valid : IsValid def) (runs : HasValidRuns def) (rules 
           let g = enabling def rules x call past legal is in
           let s = thread_other x call past legal x in
           let m = sum_gt (owns def x) (past_disable x past) (is_woken past x) (to_enable x past) (past_disable x past)
-              (is_woken past x) (to_enable x (by.ThreadCall x call ∷ past)) g.own
+          (is_woken past x) (to_enable x (by.ThreadCall x call ∷ past)) g.own
           (let a : one_if (to_enable x past) ≡ 1 = ap one_if g.to_come in
-              let b : one_if (to_enable x (by.ThreadCall x call ∷ past)) ≡ 0 = ap one_if (now is) in
-              omega (arith, a, b)) in
+          let b : one_if (to_enable x (by.ThreadCall x call ∷ past)) ≡ 0 = ap one_if (now is) in
+          omega (arith, a, b)) in
           omega (arith, s, m)
 
       by_test : (b : Bool) → enables call ≡ b → OwedMore (by.ThreadCall x call) past
@@ -586,7 +578,7 @@ module _ (def : LineDef) (valid : IsValid def) (runs : HasValidRuns def) (rules 
   wakes_one r x past =
       let e = by.DriverCall r (called.Wake true x) in
       let m = devices_more (λ d. o d (e ∷ past)) (λ d. o d past) x def.devices valid.distinct
-          (one_woken (owns def x) (past_disable x past) (same_dev x x) (is_woken past x) (to_enable x past))
+      (one_woken (owns def x) (past_disable x past) (same_dev x x) (is_woken past x) (to_enable x past))
       (λ d other. none_woken (owns def d) (past_disable d past) (same_dev d x) (is_woken past d) (to_enable d past) other) in
       omega (arith, m)
     where

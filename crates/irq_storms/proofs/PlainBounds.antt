@@ -3,6 +3,7 @@
 use Rattle.std.proofs.Common.{◌≡◌, ℕ, ◌+◌, ◌*◌, Bool, true, false, ◌&&◌, cond, List, [], ◌∷◌, length, refl, sym, ap, ◌∙◌, arith}
 use Rattle.std.proofs.Math.Nat.{mul-one, mul_comm}
 use Rattle.std.specs.List.{list_any, sum_by}
+use Rattle.std.proofs.lemmas.Bool.{or_parts}
 use Rattle.irq_base.specs.declared.numbers.DevNo.{DevNo}
 use Rattle.irq_base.specs.declared.calls.Call.{Call}
 use Rattle.irq_base.specs.declared.devices.DeviceDef.{DeviceDef}
@@ -13,12 +14,15 @@ use Rattle.irq_base.specs.declared.devices.Part.TheVariants as parts
 use Rattle.irq_base.specs.declared.devices.ToldAnswer.{ToldAnswer}
 use Rattle.irq_base.specs.declared.lines.LineDef.{LineDef}
 use Rattle.irq_model.specs.Places.{count_of}
-use Rattle.irq_model.specs.Lines.{is_edge_line, is_eoi_flow, script_in, run_script}
+use Rattle.irq_model.specs.Kinds.{same_dev}
+use Rattle.irq_model.specs.Lines.{same_part, is_edge_line, is_eoi_flow, script_in, run_script}
 use Rattle.irq_model.specs.Bounds.{ask_calls, other_calls, edge_bound, level_bound, bound}
 use Rattle.irq_model.specs.RunLaws.{is_enabling}
 use Rattle.irq_model.specs.RunBounds.{weight_of, script_weight, device_weight, wake_weight, round_weight, arms_this}
 use Rattle.irq_model.specs.RunBounds.{asks_of, arms_of, told_wakes, edges_by_arms, device_edges}
 use Rattle.irq_model.specs.RunBounds.{run_edge_bound, is_told_handled, told_handled, run_level_bound}
+use Rattle.irq_model.specs.RunBounds.{EnablesOnlyItsOwn}
+use Rattle.std.proofs.Common.{◌||◌}
 use Rattle.irq_storms.specs.Lengths.{history_bound, IsBounded, HasPlainRuns}
 use Rattle.irq_storms.specs.Tests.{total}
 use Rattle.irq_storms.proofs.Counting.{total_none}
@@ -84,7 +88,7 @@ plain_edge def plain =
 plain_level : (def : LineDef) → HasPlainRuns def → is_edge_line def ≡ false → run_level_bound def ≡ level_bound def
 plain_level def plain level =
     ap (λ (b : Bool). round_weight def * (ask_calls def + other_calls def + told_handled def + 1) * (2 * def.window + 5)
-        * cond (b && is_eoi_flow def.flow) 2 1) level
+    * cond (b && is_eoi_flow def.flow) 2 1) level
     ∙ mul-one (round_weight def * (ask_calls def + other_calls def + told_handled def + 1) * (2 * def.window + 5))
     ∙ ap (λ (n : ℕ). n * (ask_calls def + other_calls def + told_handled def + 1) * (2 * def.window + 5)) (plain_round def plain)
     ∙ ap (λ (n : ℕ). (6 * length def.devices + 8) * n * (2 * def.window + 5)) (let t = plain_told def plain in omega (arith, t))
@@ -95,3 +99,28 @@ plain_bound def plain = by_line (is_edge_line def) refl
     by_line : (b : Bool) → is_edge_line def ≡ b → cond b (run_edge_bound def) (run_level_bound def) ≡ cond b (edge_bound def) (level_bound def)
     by_line true edge = plain_edge def plain
     by_line false level = plain_level def plain level
+
+-- ---- where no run enables the line
+
+none_enables : (d : DevNo) (part : Part) (runs : List (DevNo × Part × Call)) → list_any (λ c. is_enabling c.2) runs ≡ false
+    → list_any is_enabling (script_in runs d part) ≡ false
+none_enables d part [] h = refl
+none_enables d part (c ∷ cs) h =
+    let p = or_parts (is_enabling c.2) (list_any (λ c. is_enabling c.2) cs) h in
+    by_test (same_dev d c.0 && same_part part c.1) p.0 (none_enables d part cs p.1)
+  where
+    by_test : (b : Bool) → is_enabling c.2 ≡ false → list_any is_enabling (script_in cs d part) ≡ false
+        → list_any is_enabling (cond b (c.2 ∷ script_in cs d part) (script_in cs d part)) ≡ false
+    by_test true here rest = ap (λ (x : Bool). x || list_any is_enabling (script_in cs d part)) here ∙ rest
+    by_test false here rest = rest
+
+not_both : {P : Type 0} (b : Bool) → b ≡ true → b ≡ false → P
+not_both b t f = let n = sym t ∙ f in cc
+
+pub never_enabling : (def : LineDef) → list_any (λ c. is_enabling c.2) def.runs ≡ false → EnablesOnlyItsOwn def
+never_enabling def none =
+    record {
+      handlers = λ d. none_enables d parts.Primary def.runs none;
+      threads = λ d h. not_both _ h (none_enables d parts.Thread def.runs none);
+      wakes = λ d h. not_both _ h (none_enables d parts.Thread def.runs none);
+    }

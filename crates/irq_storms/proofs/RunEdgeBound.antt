@@ -25,13 +25,13 @@ use Rattle.irq_storms.proofs.LongBound.{by_rounds}
 use Rattle.irq_storms.proofs.WakeCosts.{thread_weight}
 use Rattle.irq_storms.proofs.WeightSums.{all_handlers, round_pays, is_arm_call, calls_paid}
 
-counted_past : (def : LineDef) (past : List Entry) → IsLegalPast def past → is_edge_line def ≡ true → IsEdgeCounted def past
+pub counted_past : (def : LineDef) (past : List Entry) → IsLegalPast def past → is_edge_line def ≡ true → IsEdgeCounted def past
 counted_past def past legal edge =
     let turned : reverse (reverse past) ≡ past = reverse-reverse past in
     subst (λ (l : List Entry). IsEdgeCounted def l) turned
     (edge_is_counted def (reverse past) (subst (λ (l : List Entry). IsLegalPast def l) (sym turned) legal) edge)
 
-again_ends : (e : Entry) → is_again e ≡ true → is_end e ≡ true
+pub again_ends : (e : Entry) → is_again e ≡ true → is_end e ≡ true
 again_ends (by.Cpu c (cpus.End again unmask note)) h = refl
 again_ends e h = cc
 

@@ -230,7 +230,7 @@ by_run def d p e past part is no_serve no_ask apart run none count =
     let was = u past in
     let met = u (before b past) in
     let sum = least_left (count_of a (since b past)) (left a b r s past) (fresh a b r s past) (asks_served d e)
-        (left a b r s (e ∷ past)) (fresh a b r s (e ∷ past))
+    (left a b r s (e ∷ past)) (fresh a b r s (e ∷ past))
     (left a b r s (before b past)) (fresh a b r s (before b past)) o (omega (arith, f, n)) l g (omega (arith, count, met)) in
     omega (arith, sum, now, was, n)
 
@@ -318,10 +318,10 @@ return_more def c d x answer n past k due = by_tests (same_dev d x) (nat_lt 0 n)
     by_tests true true same some =
         let u = return_due def c x answer n past due in
         let t = subst (λ (y : DevNo). TookAway def parts.Primary y past n) (sym (dev_from_same d x same))
-            (took_away def parts.Primary x past n u.served_is some) in
+        (took_away def parts.Primary x past n u.served_is some) in
         let called : is_called past d ≡ true = subst (λ (y : DevNo). is_called past y ≡ true) (sym (dev_from_same d x same)) (k.working x u.is_at_work).0 in
         by_run def d parts.Primary (by.Cpu c (cpus.Return answer x n)) past t.part
-            (both_true (same_dev d x) (nat_lt 0 n) same some) refl refl (apart_run parts.Primary d)
+        (both_true (same_dev d x) (nat_lt 0 n) same some) refl refl (apart_run parts.Primary d)
         (stands_before (is_begin d) (is_return d) (returns_served parts.Primary d) (returns_primary d) past called) t.none
         (served_one (same_dev d x) n same ∙ t.count)
 

@@ -101,7 +101,7 @@ module _ (def : LineDef) (d : DevNo) where
       ap (λ (c : Bool). nat_lt 0 (unserved_asks def d (cond c past (before (is_thread_begin d) past)))) is in
       let asked_is : asked (e ∷ past) ≡ false = ap (λ (c : Bool). list_any (is_ask d) (cond c [] (e ∷ since (is_thread_begin d) past))) is in
       let r = by_tests (is_thread_begin d e) (is_in_run (e ∷ past) d) (met (e ∷ past)) (asked (e ∷ past))
-          (nat_lt 0 (unserved_asks def d past)) (made (e ∷ past))
+      (nat_lt 0 (unserved_asks def d past)) (made (e ∷ past))
       is met_is asked_is in
       omega (arith, none, r)
     where
@@ -162,7 +162,7 @@ module _ (def : LineDef) (d : DevNo) where
       let u = thread_call_due def y call past legal.0 in
       let to_d = sym (dev_from_same d y same) in
       let runs : is_in_run past d ≡ true = subst (λ (z : DevNo). is_in_run past z ≡ true) to_d
-          (run_of (is_running past y) (has_returned past y) u.running u.not_returned) in
+      (run_of (is_running past y) (has_returned past y) u.running u.not_returned) in
       let most : made (e ∷ past) ≤ all = made_most d (thread_arms d) (arm_weight d) (thread_made d) (thread_alone d) def (e ∷ past) legal runs in
       let m = made_more e past refl in
       let one : thread_arms d e ≡ 1 = ap (λ (b : Bool). cond b (arm_cost d call) 0) same ∙ ap one_if edge in
@@ -184,7 +184,7 @@ module _ (def : LineDef) (d : DevNo) where
         where
           by_met : (b : Bool) → nat_lt 0 (met_by def parts.Thread d past) ≡ b → 0 < unserved_asks def d past
               → total (asks_served d) (since (begins_run parts.Thread d) past) + unserved_asks def d past
-                  ≡ met_by def parts.Thread d past + asked_since parts.Thread d past
+              ≡ met_by def parts.Thread d past + asked_since parts.Thread d past
               → (b || asked past) ≡ true
           by_met true is l i = refl
           by_met false is l i = any_count (is_ask d) (since (is_thread_begin d) past)

@@ -1,5 +1,5 @@
 -- The runs of threads, by the returns that woke them.
-use Rattle.std.proofs.Common.{◌≡◌, ℕ, ◌+◌, ◌≤◌, ◌==◌, Bool, true, false, not, ◌||◌, ◌&&◌, cond, List, [], ◌∷◌, refl, sym, subst, arith}
+use Rattle.std.proofs.Common.{◌≡◌, ℕ, ◌+◌, ◌≤◌, Bool, true, false, not, ◌||◌, ◌&&◌, cond, List, [], ◌∷◌, refl, sym, subst, arith}
 use Rattle.std.specs.List.{list_any}
 use Rattle.irq_base.specs.declared.numbers.DevNo.{DevNo}
 use Rattle.irq_base.specs.declared.lines.LineDef.{LineDef}
@@ -17,26 +17,7 @@ use Rattle.irq_model.specs.Legal.{IsDue, IsLegalPast}
 use Rattle.irq_steps.proofs.Same.{dev_from_same}
 use Rattle.irq_laws.proofs.ImpliesThread.{has_returned, has_finished, thread_begin_due, thread_return_due, finish_due, done_due}
 use Rattle.irq_storms.specs.Judged.{one_if}
-use Rattle.irq_storms.proofs.Counting.{count_ext, counts_by_key}
 use Rattle.irq_storms.proofs.Running.{StaysBelow, runs_below}
-
--- ---- entries of threads, of any device
-
-abbrev pub is_any_thread_begin : Entry → Bool
-is_any_thread_begin (by.Thread dev threads.Begin) = true
-is_any_thread_begin _ = false
-
-abbrev pub is_any_thread_return : Entry → Bool
-is_any_thread_return (by.Thread dev (threads.Return handled served)) = true
-is_any_thread_return _ = false
-
-abbrev pub is_any_finish : Entry → Bool
-is_any_finish (by.Thread dev (threads.Finish kept unmask)) = true
-is_any_finish _ = false
-
-abbrev pub is_any_done : Entry → Bool
-is_any_done (by.Thread dev threads.Done) = true
-is_any_done _ = false
 
 -- ---- what an entry of d's thread says when it is due
 
@@ -189,43 +170,3 @@ dev_key (by.Thread dev (threads.Return handled served)) = dev.0
 dev_key (by.Thread dev (threads.Finish kept unmask)) = dev.0
 dev_key (by.Thread dev threads.Done) = dev.0
 dev_key _ = 0
-
-pub swapped : (a b : Bool) → (a && b) ≡ (b && a)
-swapped a b = grind arith
-
-key_begin : (k : ℕ) (e : Entry) → is_thread_begin (record { 0 = k }) e ≡ (is_any_thread_begin e && (k == dev_key e))
-key_begin k (by.Thread dev threads.Begin) = refl
-key_begin k e = refl
-
-key_return : (k : ℕ) (e : Entry) → is_thread_return (record { 0 = k }) e ≡ (is_any_thread_return e && (k == dev_key e))
-key_return k (by.Thread dev (threads.Return handled served)) = refl
-key_return k e = refl
-
-key_finish : (k : ℕ) (e : Entry) → is_finish (record { 0 = k }) e ≡ (is_any_finish e && (k == dev_key e))
-key_finish k (by.Thread dev (threads.Finish kept unmask)) = refl
-key_finish k e = refl
-
-key_done : (k : ℕ) (e : Entry) → is_done (record { 0 = k }) e ≡ (is_any_done e && (k == dev_key e))
-key_done k (by.Thread dev threads.Done) = refl
-key_done k e = refl
-
-plain : (a b m p q : ℕ) → a ≡ p → b ≡ q → a + m ≤ b → p ≤ q
-plain a b m p q h i j = omega (arith, h, i, j)
-
-pub thread_returns_past : (def : LineDef) (past : List Entry) → IsLegalPast def past → count_of is_any_thread_return past ≤ count_of is_any_thread_begin past
-thread_returns_past def past legal =
-    counts_by_key dev_key past is_any_thread_return is_any_thread_begin
-    (λ k. plain _ _ _ _ _ (count_ext _ _ past (key_return k)) (count_ext _ _ past (key_begin k))
-    (returns_of def (record { 0 = k }) past legal))
-
-pub finishes_past : (def : LineDef) (past : List Entry) → IsLegalPast def past → count_of is_any_finish past ≤ count_of is_any_thread_begin past
-finishes_past def past legal =
-    counts_by_key dev_key past is_any_finish is_any_thread_begin
-    (λ k. plain _ _ _ _ _ (count_ext _ _ past (key_finish k)) (count_ext _ _ past (key_begin k))
-    (finishes_of def (record { 0 = k }) past legal))
-
-pub dones_past : (def : LineDef) (past : List Entry) → IsLegalPast def past → count_of is_any_done past ≤ count_of is_any_thread_begin past
-dones_past def past legal =
-    counts_by_key dev_key past is_any_done is_any_thread_begin
-    (λ k. plain _ _ _ _ _ (count_ext _ _ past (key_done k)) (count_ext _ _ past (key_begin k))
-    (dones_of def (record { 0 = k }) past legal))

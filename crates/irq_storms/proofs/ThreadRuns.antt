@@ -126,7 +126,7 @@ module _ (d : DevNo) (f : Entry → ℕ) (w : Call → ℕ) (most : (c : Call) (
         call_in_run (by.ThreadCall y call) l h =
             let u = thread_call_due def y call past l.0 in
             subst (λ (z : DevNo). is_in_run past z ≡ true) (sym (dev_from_same d y h))
-                (run_of (is_running past y) (has_returned past y) u.running u.not_returned)
+            (run_of (is_running past y) (has_returned past y) u.running u.not_returned)
         call_in_run x l h = cc
 
         still_in_run : (x : Entry) → is_thread_call d x ≡ true → is_in_run past d ≡ true → is_in_run (x ∷ past) d ≡ true

@@ -74,7 +74,7 @@ module _ (def : LineDef) (d : DevNo) (threaded : Bool) (kind : kind_of def d ≡
       let at : is_called past d ≡ true = subst (λ (y : DevNo). is_called past y ≡ true) to_d ((runs_past def past legal.1).working x u.is_at_work).0 in
       let answer_is : answer ≡ answer_of (kind_of def d) parts.Primary (met_by def parts.Primary d past) (told_of def parts.Primary d past) =
       subst (λ (y : DevNo). answer ≡ answer_of (kind_of def y) parts.Primary (met_by def parts.Primary y past)
-          (told_of def parts.Primary y past)) to_d u.answer_is in
+      (told_of def parts.Primary y past)) to_d u.answer_is in
       let told : answer ≡ answer_of_told (told_of def parts.Primary d past) =
       answer_is ∙ ap (λ (k : Kind). answer_of k parts.Primary (met_by def parts.Primary d past) (told_of def parts.Primary d past)) kind in
       let w = by_word (told_of def parts.Primary d past) (sym (ap is_wake told) ∙ p.1) in
@@ -176,11 +176,11 @@ handler_wakes_none def d c (called.Wake woken x) past none due = by_test (same_d
         let row = step_row def (Some u.due) u.due.0 u.due.1 past (called.Wake woken x) refl u.step in
         let w = wake_call def (Some u.due) past woken x row in
         let makes = some_due (makes_calls def parts.Primary u.dev past)
-            (due_of (run_script def u.dev parts.Primary) (entries_of_run parts.Primary u.dev past)) u.due u.is_due in
+        (due_of (run_script def u.dev parts.Primary) (entries_of_run parts.Primary u.dev past)) u.due u.is_due in
         let at : due_of (run_script def u.dev parts.Primary) (entries_of_run parts.Primary u.dev past) ≡ Some (calls.Wake x, w.0) =
         sym (ap (λ (m : Bool). cond m (due_of (run_script def u.dev parts.Primary) (entries_of_run parts.Primary u.dev past)) None) makes) ∙ u.is_due ∙ w.1 in
         absurd (not_both (same_dev d x) (one_of (λ c. not (wakes_this d c)) (run_script def u.dev parts.Primary)
-            (entries_of_run parts.Primary u.dev past) (calls.Wake x) w.0
+        (entries_of_run parts.Primary u.dev past) (calls.Wake x) w.0
         (none_wake def.runs d u.dev none) at) is)
 handler_wakes_none def d c call past none due = refl
 
@@ -198,7 +198,7 @@ module _ (def : LineDef) (runs : HasValidRuns def) (d : DevNo) (none : list_any 
       ≡ 0 = ap one_if (handler_wakes_none def d c call past none legal.0) in omega (arith, n)
   wake_more (by.ThreadCall x call) past legal =
       let n : one_if (wakes_by_call d call) ≡ 0 = ap one_if
-          (no_thread_wake d call (thread_wakes_none def x call past runs legal.0 (λ y. 1))) in omega (arith, n)
+      (no_thread_wake d call (thread_wakes_none def x call past runs legal.0 (λ y. 1))) in omega (arith, n)
   wake_more e past legal = omega arith
 
   wakes_past : (past : List Entry) → IsLegalPast def past → count_of (wakes d) past ≤ count_of (wakes_by_return d) past + total (driver_wakes d) past

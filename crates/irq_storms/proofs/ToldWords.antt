@@ -116,9 +116,6 @@ module _ (def : LineDef) (p : Part) (d : DevNo) (q : ToldAnswer → Bool) (tells
   abbrev used : List Entry → ℕ
   used past = count_of q (take (over past) words)
 
-  used_more : (past past' : List Entry) → over past' ≡ over past → used past' ≡ used past
-  used_more past past' same = ap (λ (n : ℕ). count_of q (take n words)) same
-
   -- the word of a run that returns is the next one
   next_word : (e : Entry) (past : List Entry) → IsLegalPast def (e ∷ past) → begins_run p d e ≡ false → tells e ≡ true → used (e ∷ past) ≡ used past + 1
   next_word e past legal other tell =

@@ -135,7 +135,7 @@ at_key def past legal k =
     let script : total weight_of (run_script def d parts.Thread) ≡ script_weight def parts.Thread d = total_sum weight_of (run_script def d parts.Thread) in
     let most = mul-le-mul_left (script_weight def parts.Thread d) (less _ _ _ begins) in
     let same : total weight_of (run_script def d parts.Thread) * count_of (is_thread_begin d) past
-        ≡ script_weight def parts.Thread d * count_of (is_thread_begin d) past =
+    ≡ script_weight def parts.Thread d * count_of (is_thread_begin d) past =
     ap (λ (n : ℕ). n * count_of (is_thread_begin d) past) script in
     let all : thread_weight def d * count_of (wakes d) past ≡ 4 * count_of (wakes d) past + script_weight def parts.Thread d * count_of (wakes d) past =
     mul_comm (thread_weight def d) (count_of (wakes d) past) ∙ mul-add (count_of (wakes d) past) 4 (script_weight def parts.Thread d)

@@ -90,7 +90,7 @@ handler_parts : (def : LineDef) (x : DeviceDef) → handler_weight def x.dev ≡
 handler_parts def x =
     let parts_are : total (call_weight (thread_weight def)) (run_script def x.dev parts.Primary)
     ≡ total weight_of (run_script def x.dev parts.Primary) + wakes_in def x.dev
-        = total_parts _ weight_of (woken_weight (thread_weight def)) (run_script def x.dev parts.Primary) (λ c. refl) in
+    = total_parts _ weight_of (woken_weight (thread_weight def)) (run_script def x.dev parts.Primary) (λ c. refl) in
     let s = total_sum weight_of (run_script def x.dev parts.Primary) in
     omega (arith, parts_are, s)
 

@@ -158,7 +158,7 @@ handled_more window count u l small = by_tests (l || nat_lt u (count + 1)) (l ||
 
 handled_close : (window count u : ℕ) (k l : Bool) → count < window
     → cond k (cond l window 0) (cond (l || nat_lt 0 0) (2 * window - 0) (window - 0)) ≤ window + cond
-        (l || nat_lt u count) (2 * window - count) (window - count)
+    (l || nat_lt u count) (2 * window - count) (window - count)
 handled_close window count u true true small = omega arith
 handled_close window count u true false small = omega arith
 handled_close window count u false true small = omega (arith, small)
@@ -170,7 +170,7 @@ handled_room window limit at c small =
     by_count (λ n. room_after window at n ≤ window + allowance window at c) window limit c (λ z. omega arith)
     (λ z more. handled_more window c.irq_count c.irqs_unhandled (is_late at c) small)
     (λ z over. handled_close window c.irq_count c.irqs_unhandled
-        (is_killed (cond (nat_lt limit c.irqs_unhandled) notes.Killed notes.Counted)) (is_late at c) small)
+    (is_killed (cond (nat_lt limit c.irqs_unhandled) notes.Killed notes.Counted)) (is_late at c) small)
 
 -- an end that is judged nothing isn't late any more
 same_unhandled : (window limit : ℕ) (c : Counts) → (counted window limit c).counts.last_unhandled ≡ c.last_unhandled
@@ -184,7 +184,7 @@ nothing_room window limit at c lim small =
     ap (λ (l : ℕ). nat_lt 100 (at - l)) (same_unhandled window limit (unhandled at c)) ∙ no_time at in
     let same : room_after window at (judged window limit at false c) ≡ allowed_after window at (judged window limit at false c) =
     ap (λ (l : Bool). cond (is_killed (judged window limit at false c).note) (cond l window 0)
-        (allowance window at (judged window limit at false c).counts)) late in
+    (allowance window at (judged window limit at false c).counts)) late in
     omega (arith, n, same)
 
 -- ---- an end

@@ -3,14 +3,16 @@
 //! that crates above can call it or cite its lemma.
 #![tactic(auto)]
 
-ghost use Rattle.std.specs.Prelude.{◌≡◌, ◌≤◌, true, None, List, length, reverse};
+ghost use Rattle.std.specs.Prelude.{◌≡◌, ◌≤◌, true, false, None, List, length, reverse};
+ghost use Rattle.std.specs.List.{list_any};
 ghost use Rattle.irq_base.specs.declared.lines.LineDef.{LineDef};
 ghost use Rattle.irq_base.specs.declared.entries.Actor.{Actor};
 ghost use Rattle.irq_base.specs.declared.entries.Entry.{Entry};
 ghost use Rattle.irq_model.specs.Bounds.{bound};
 ghost use Rattle.irq_model.specs.Legal.{IsLegal};
-ghost use Rattle.irq_model.specs.Lines.{is_edge_line, is_level_line};
+ghost use Rattle.irq_model.specs.Lines.{is_edge_line};
 ghost use Rattle.irq_model.specs.Next.{next};
+ghost use Rattle.irq_model.specs.RunLaws.{is_enabling};
 ghost use Rattle.irq_model.specs.RunBounds.{run_edge_bound, run_level_bound, EnablesOnlyItsOwn};
 ghost use Rattle.irq_model.specs.RunBounds.{RoundsAreCountedPast};
 ghost use Rattle.irq_model.specs.Valid.{IsValid};
@@ -81,12 +83,11 @@ pub fn level_is_counted()
         → LevelIsCounted def h }
 {}
 
-/// A legal history of a level line has at most as many entries as its bound says, if no run opens
-/// it again that was killed.
+/// A legal history of every line, also of an edge line, has at most as many entries as the bound by
+/// the window says, if no run opens it again that was killed.
 pub fn within_level_bound()
     ensures law { (def : LineDef) (h : List Entry) → IsValid def → HasValidRuns def
-        → EnablesOnlyItsOwn def → IsLegal def h → is_level_line def ≡ true
-        → length h ≤ run_level_bound def }
+        → EnablesOnlyItsOwn def → IsLegal def h → length h ≤ run_level_bound def }
 {}
 
 /// Storms are bounded: a legal history has at most as many entries as the bound of its line says.
@@ -109,4 +110,11 @@ pub fn never_full()
 pub fn plain_bound()
     ensures bounded { (def : LineDef) → HasPlainRuns def → IsBounded def }
     ensures number { (def : LineDef) → HasPlainRuns def → history_bound def ≡ bound def }
+{}
+
+/// If no run enables the line, no run opens it again that was killed.
+#[tactic(auto, using(crate::proofs::PlainBounds::never_enabling))]
+pub fn never_enabling()
+    ensures law { (def : LineDef) → list_any (λ c. is_enabling c.2) def.runs ≡ false
+        → EnablesOnlyItsOwn def }
 {}

@@ -21,7 +21,7 @@ use Rattle.irq_model.specs.Due.{entries_by, due_of}
 use Rattle.irq_model.specs.Kinds.{same_dev, same_driver}
 use Rattle.irq_model.specs.Legal.{IsLegalPast}
 use Rattle.irq_model.specs.Lines.{is_device}
-use Rattle.irq_model.specs.Next.{next_past, next_of_call}
+use Rattle.irq_model.specs.Next.{next_past, next_of_driver}
 use Rattle.irq_model.specs.Rounds.{is_cpu}
 use Rattle.irq_model.specs.Signal.{lowest_in}
 use Rattle.irq_model.specs.Valid.{IsValid}
@@ -111,7 +111,7 @@ module _ (def : LineDef) (valid : IsValid def) (g : List Entry) (legal : IsLegal
   thread_asked d e due =
       by_there (list_any (is_device d) def.devices) refl (sym (due_is def g scripts are.calls at_places (actors.Thread d) valid legal) ∙ due)
     where
-      by_there : (b : Bool) → list_any (is_device d) def.devices ≡ b → thread_due (state_of def g) d ≡ Some e → Asked (actors.Thread d)
+      by_there : (b : Bool) → list_any (is_device d) def.devices ≡ b → thread_due def (state_of def g) d ≡ Some e → Asked (actors.Thread d)
       by_there true there h =
           Contains-append_left (threads_in def.devices)
           (cpus_in (state_of def g).desc.flow ++ (cpus_in (taker_of (state_of def g))
@@ -119,7 +119,7 @@ module _ (def : LineDef) (valid : IsValid def) (g : List Entry) (legal : IsLegal
           (actors.Thread d) (thread_there def.devices d there)
       by_there false none h =
           absurd (let i : ◌≡◌ {A = Option Entry} None (Some e)
-          = sym (ap (λ (o : Option ThreadRow). due_of_row (state_of def g) d o)
+          = sym (ap (λ (o : Option ThreadRow). due_of_row def (state_of def g) d o)
           (at_none (thread_of g) def.devices d none)) ∙ h in
           let x : ⊥ = cc i in x)
 
@@ -137,7 +137,7 @@ module _ (def : LineDef) (valid : IsValid def) (g : List Entry) (legal : IsLegal
   cpu_asked c e due = by_flow (is_cpu c (state_of def g).desc.flow) refl (sym (cpu_due_is def g c valid legal) ∙ due)
     where
       by_flow : (b : Bool) → is_cpu c (state_of def g).desc.flow ≡ b
-          → cond b (Some (in_flow_by def (state_of def g) c (state_of def g).round.working)) (next_take_by (state_of def g) c) ≡ Some e → Asked (actors.Cpu c)
+          → cond b (in_flow_by def (state_of def g) c (state_of def g).round.working) (next_take_by (state_of def g) c) ≡ Some e → Asked (actors.Cpu c)
       by_flow true busy h =
           behind_threads (actors.Cpu c) (Contains-append_left (cpus_in (state_of def g).desc.flow)
           (cpus_in (taker_of (state_of def g)) ++ drivers_of (drivers_in def.calls))
@@ -158,7 +158,7 @@ module _ (def : LineDef) (valid : IsValid def) (g : List Entry) (legal : IsLegal
           (driver_there (drivers_in def.calls) r there))
       by_there false none =
           absurd (let i : ◌≡◌ {A = Option Entry} None (Some e)
-          = sym (ap (λ (cs : List Call). next_of_call def r g (due_of cs (entries_by r g))) (none_called r def.calls none)) ∙ due in
+          = sym (ap (λ (cs : List Call). next_of_driver def r g (due_of cs (entries_by r g))) (none_called r def.calls none)) ∙ due in
           let x : ⊥ = cc i in x)
 
   pub asked : (a : Actor) (e : Entry) → next_past def g a ≡ Some e → Asked a

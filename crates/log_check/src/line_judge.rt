@@ -65,7 +65,7 @@ impl<L: IrqLine> LineJudge<L> {
         requires room { IfSome self.old.line HasRoom }
         ensures { IfOk result
             (λ after. Takes board.now text.now number (option_map (λ t. t.now) after)
-                self.old self.new) }
+            self.old self.new) }
     {
         match &mut self.line {
             Some(line) => {

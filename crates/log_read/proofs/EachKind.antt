@@ -1,5 +1,5 @@
 -- Entries, kind by kind: each is read exactly as it is written.
-use Rattle.std.proofs.Common.{◌≡◌, ℕ, nat_lt, Bool, true, false, cond, Some, None, List, [], ◌∷◌, ◌++◌, codes, decimal}
+use Rattle.std.proofs.Common.{◌≡◌, ℕ, nat_lt, Bool, true, false, cond, Some, None, List, [], ◌∷◌, codes, decimal}
 use Rattle.std.proofs.Common.{refl, sym, ap, subst, ◌∙◌}
 use Rattle.std.proofs.lemmas.Bool.{false≢true}
 use Rattle.std.specs.Str.{bytes_eq}
@@ -24,7 +24,7 @@ use Rattle.irq_base.specs.declared.calls.Flags.{Flags}
 use Rattle.irq_base.specs.declared.numbers.CpuNo.{CpuNo}
 use Rattle.irq_base.specs.declared.numbers.DevNo.{DevNo}
 use Rattle.irq_base.specs.declared.numbers.DriverNo.{DriverNo}
-use Rattle.log_text.specs.EntryWords.{actor_word, cpu_words, thread_words, driver_words, call_words, said_words, entry_words, IsPrintableDriver}
+use Rattle.log_text.specs.EntryWords.{actor_word, cpu_words, thread_words, driver_words, said_words, entry_words, IsPrintableDriver}
 use Rattle.log_text.specs.Formed.{IsSmall, IsWritable, HasSmallCpu, HasSmallThread, HasSmallDriver}
 use Rattle.log_text.specs.Words.{way_word, take_word, answer_word, loop_word, mask_word, note_word, bit_word, edge_words, handled_words}
 use Rattle.log_text.specs.Words.{flags_word, link_words, affinity_words}
