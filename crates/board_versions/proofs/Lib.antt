@@ -1,3 +1,3 @@
 mod OldWords
 mod OldRows
-mod OldTexts
+pub mod OldTexts
