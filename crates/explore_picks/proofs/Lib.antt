@@ -5,6 +5,4 @@ mod Bytes
 mod Stating
 mod Named
 pub mod Allowed
-mod OldWords
-mod OldBoards
 pub mod Lawful
