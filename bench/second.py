@@ -1,4 +1,4 @@
-"""The rules of docs/DEFINITIONS.md and docs/VERSION3.md once more: what is due on a line, and whole plays by `play`, `chained`,
+"""The rules of docs/DEFINITIONS.md once more: what is due on a line, and whole plays by `play`, `chained`,
 `hotplug` and `sleep`.
 
 It is written from the documents, to be compared with the program and with what cases/ has, and knows nothing of either. All is

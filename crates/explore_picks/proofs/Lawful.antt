@@ -58,7 +58,7 @@ use Rattle.play_report.specs.Report.{moves_text}
 use Rattle.explore_picks.proofs.Allowed.{may_have_row}
 use Rattle.explore_picks.proofs.Bytes.{above_feed, digits_plain, not_hash, is_plain, picks_pass}
 use Rattle.explore_picks.proofs.Named.{kept}
-use Rattle.explore_picks.specs.OfVersion.{HasOldRows, IsOfItsVersion}
+use Rattle.board_versions.specs.OfVersion.{HasOldRows, IsOfItsVersion}
 use Rattle.explore_picks.specs.Rows.{pick_text, picks_line, picks_row, picks_text, row_at}
 use Rattle.explore_picks.specs.Stated.{IsNameable}
 use Rattle.explore_play.specs.Made.{ArePicked}

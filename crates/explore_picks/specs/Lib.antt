@@ -2,4 +2,3 @@ pub mod Rows
 pub mod Small
 pub mod Stated
 pub mod Printed
-pub mod OfVersion

@@ -14,7 +14,7 @@ use Rattle.board_core.specs.Runs.{runs_of}
 use Rattle.log_check.specs.Verdicts.{ChecksLog}
 use Rattle.log_check.specs.declared.verdict.Verdict.TheVariants as verdicts
 use Rattle.play_report.specs.Report.{moves_text}
-use Rattle.explore_picks.specs.OfVersion.{IsOfItsVersion}
+use Rattle.board_versions.specs.OfVersion.{IsOfItsVersion}
 use Rattle.explore_picks.specs.Rows.{picks_text}
 use Rattle.explore_picks.specs.Stated.{AreStated}
 use Rattle.explore_picks.specs.declared.failing.ExploreFailed.{ExploreFailed}

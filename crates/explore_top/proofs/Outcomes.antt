@@ -2,6 +2,7 @@
 use Rattle.std.proofs.Common.{◌≡◌, ◌⊎◌, inl, inr, ℕ, true, false, Option, Some, None, Result, Ok, Err, List, refl, sym, ap, subst, ◌∙◌}
 use Rattle.board_def.specs.Rules.{IsBoard}
 use Rattle.board_def.specs.Seen.{BoardSeen}
+use Rattle.board_versions.proofs.OldTexts.{text_is_of_its_version}
 use Rattle.explore_picks.specs.declared.failing.ExploreFailed.{ExploreFailed}
 use Rattle.explore_picks.specs.declared.failing.ExploreFailed.TheVariants as fails
 use Rattle.explore_words.specs.Words.{may_ask}
@@ -29,6 +30,7 @@ module _ (asked : Asked) (heard : List Run → Type 0) (told left before now : O
     stated = stated;
     read = read_to_end told left b read;
     keeps_rules = keeps;
+    of_version = text_is_of_its_version stated.text b stated.states;
     own = own;
     done = (end, refl, done);
   }

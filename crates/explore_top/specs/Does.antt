@@ -4,6 +4,7 @@
 use Rattle.std.specs.Prelude.{◌≡◌, ◌⊎◌, ℕ, true, false, Option, Some, None, Result, Err, List, []}
 use Rattle.board_def.specs.Rules.{IsBoard}
 use Rattle.board_def.specs.Seen.{BoardSeen}
+use Rattle.board_versions.specs.OfVersion.{IsOfItsVersion}
 use Rattle.explore_picks.specs.Printed.{HeardSome}
 use Rattle.explore_picks.specs.declared.failing.ExploreFailed.{ExploreFailed}
 use Rattle.explore_words.specs.Words.{may_ask}
@@ -67,6 +68,7 @@ pub record ExploresInput (asked : Asked) (heard : List Run → Type 0)
   pub stated : IsStated told board
   pub read : IsReadToEnd told left
   pub keeps_rules : IsBoard board
+  pub of_version : IsOfItsVersion board
   pub own : may_ask board.version asked.what ≡ true
   pub done : ExploresAs asked heard board before now ending
 

@@ -1,6 +1,6 @@
 -- Which entries are no takes, and what is due in a flow.
 use Rattle.std.proofs.Common.{◌≡◌, Bool, true, false, cond, is_some, Option, Some}
-use Rattle.std.proofs.Common.{None, List, [], ◌∷◌, refl, sym, ap, ◌∙◌, subst}
+use Rattle.std.proofs.Common.{None, List, [], ◌∷◌, refl, sym, subst}
 use Rattle.irq_base.specs.Who.{actor_of}
 use Rattle.irq_base.specs.declared.entries.Actor.{Actor}
 use Rattle.irq_base.specs.declared.entries.Actor.TheVariants as actors

@@ -7,13 +7,12 @@ use Rattle.irq_base.specs.declared.entries.Entry.{Entry}
 use Rattle.irq_base.specs.declared.lines.LineDef.{LineDef}
 use Rattle.irq_laws.proofs.OwnLaws.{due_is_own_past}
 use Rattle.irq_model.specs.Legal.{IsLegal, IsLegalPast}
-use Rattle.irq_model.specs.Lines.{is_edge_line}
 use Rattle.irq_model.specs.Next.{next_past}
-use Rattle.irq_model.specs.RunBounds.{run_edge_bound}
 use Rattle.irq_model.specs.Valid.{IsValid}
 use Rattle.irq_model.specs.ValidRuns.{HasValidRuns, NeverWaits}
 use Rattle.irq_model.specs.Waits.{IsAtRest}
-use Rattle.irq_storms.proofs.RunEdgeBound.{edge_within}
+use Rattle.irq_storms.proofs.Laws.{within_bound}
+use Rattle.irq_storms.specs.Lengths.{IsBounded, history_bound}
 use Rattle.line_search.specs.Found.{ComesToRest}
 use Rattle.play_laws.proofs.Rest.{unwaiting_rests}
 use Rattle.play_laws.specs.Actors.{actors_of, IsOneOf}
@@ -77,5 +76,9 @@ module _ (def : LineDef) (valid : IsValid def) (runs : HasValidRuns def) (waits 
     by_bound : (g : List Entry) → IsLegalPast def g → ComesToRest def g
     by_bound g legal = go bound g legal (omega arith)
 
-  pub edge_comes_to_rest : is_edge_line def ≡ true → (g : List Entry) → IsLegalPast def g → ComesToRest def g
-  edge_comes_to_rest edge = by_bound (run_edge_bound def) (λ g legal. edge_within def g valid runs legal edge)
+  pub comes_to_rest : IsBounded def → (g : List Entry) → IsLegalPast def g → ComesToRest def g
+  comes_to_rest bounded = by_bound (history_bound def) within
+    where
+      within : (g : List Entry) → IsLegalPast def g → length g ≤ history_bound def
+      within g legal =
+          subst (λ n. n ≤ history_bound def) (length-reverse g) (within_bound def (reverse g) valid runs bounded (as_legal g legal))

@@ -1,5 +1,5 @@
 -- Entries, kind by kind: each is read exactly as it is written.
-use Rattle.std.proofs.Common.{◌≡◌, ℕ, nat_lt, Bool, true, false, cond, Some, None, List, [], ◌∷◌, ◌++◌, codes, decimal}
+use Rattle.std.proofs.Common.{◌≡◌, ℕ, nat_lt, Bool, true, false, cond, Some, None, List, [], ◌∷◌, codes, decimal}
 use Rattle.std.proofs.Common.{refl, sym, ap, subst, ◌∙◌}
 use Rattle.std.proofs.lemmas.Bool.{false≢true}
 use Rattle.std.specs.Str.{bytes_eq}
@@ -24,7 +24,7 @@ use Rattle.irq_base.specs.declared.calls.Flags.{Flags}
 use Rattle.irq_base.specs.declared.numbers.CpuNo.{CpuNo}
 use Rattle.irq_base.specs.declared.numbers.DevNo.{DevNo}
 use Rattle.irq_base.specs.declared.numbers.DriverNo.{DriverNo}
-use Rattle.log_text.specs.EntryWords.{actor_word, cpu_words, thread_words, driver_words, call_words, said_words, entry_words, IsPrintableDriver}
+use Rattle.log_text.specs.EntryWords.{actor_word, cpu_words, thread_words, driver_words, said_words, entry_words, IsPrintableDriver}
 use Rattle.log_text.specs.Formed.{IsSmall, IsWritable, HasSmallCpu, HasSmallThread, HasSmallDriver}
 use Rattle.log_text.specs.Words.{way_word, take_word, answer_word, loop_word, mask_word, note_word, bit_word, edge_words, handled_words}
 use Rattle.log_text.specs.Words.{flags_word, link_words, affinity_words}
@@ -202,7 +202,8 @@ module _ (old mid new : Words) where
   cpu_takes : (verb : CpuVerb) (e : CpuEntry) → Takes (one cpu_verb_word) old mid verb → TakesCpu verb mid new e
       → EndsAs HasSmallCpu cpu_words (λ f. f) old new e
   cpu_takes verb e took t =
-      let whole : TakesAs HasSmallCpu cpu_words (λ f. f) old new e = record { sound = cpu_sound verb e took t; complete = cpu_complete verb e took t } in ends whole
+      let whole : TakesAs HasSmallCpu cpu_words (λ f. f) old new e
+      = record { sound = cpu_sound verb e took t; complete = cpu_complete verb e took t } in ends whole
 
   thread_sound : (verb : ThreadVerb) (e : ThreadEntry) → Takes (one thread_verb_word) old mid verb → TakesThread verb mid new e
       → EndSound HasSmallThread thread_words old new e
@@ -366,7 +367,12 @@ module _ (old mid new : Words) (word : List ℕ) (took : Takes (one (λ w. w)) o
   driver_own driver small verb is e t =
       let own = driver_takes old mid new verb e (known driver_tells took is) t in
       record {
-        sound = λ h. let s = own.sound h in (by.Driver driver s.0, (record { printable = s.1.0; small = (small, s.1.1) }, refl), ap (λ f. by.Driver driver f) s.2, s.3);
+        sound = λ h. let s = own.sound h in (
+          by.Driver driver s.0,
+          (record { printable = s.1.0; small = (small, s.1.1) }, refl),
+          ap (λ f. by.Driver driver f) s.2,
+          s.3,
+        );
         complete = driver_complete_own driver e own (ap is_call_word is ∙ driver_no_call verb);
       }
 

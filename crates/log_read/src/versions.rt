@@ -12,11 +12,12 @@ use irq_base::{CallEntry, DriverEntry, Entry, ThreadEntry};
 pub fn may_have(board: &Board, entry: &Entry) -> bool
     ensures { result ≡ may_have board.now.version entry.now }
 {
-    board.version() >= 3 || !needs_runs(entry)
+    // of most rows one test tells
+    matches!(*entry, Entry::Cpu(_, _)) || board.version() >= 3 || !needs_runs(entry)
 }
 
 /// Whether the entry's row is one of version 3 alone.
-#[inline(always)]
+#[inline(never)]
 fn needs_runs(entry: &Entry) -> bool
     ensures { result ≡ needs_runs entry.now }
 {

@@ -1,5 +1,4 @@
-use Rattle.std.proofs.Common.{◌≡◌, ◌∙◌, ap, subst, sym, reverse, None, Some}
-use Rattle.irq_base.specs.Cell.{Cell, after_ack}
+use Rattle.std.proofs.Common.{◌≡◌, subst, sym, reverse, None, Some}
 use Rattle.board_def.specs.Rules.{IsBoard}
 use Rattle.irq_chained.proofs.Turning.{enter_goes, enter_kept, enter_next, not_zero, unmarked}
 use Rattle.irq_chained.specs.Chain.{cpu_0, open_status}
