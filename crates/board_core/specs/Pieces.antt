@@ -1,4 +1,4 @@
--- The log takes memory in pieces, each with room for 256 moves: for the first as the system is made.
+-- The log takes memory in pieces, each with room for 256 moves. It has the first from the start.
 use Rattle.std.specs.Prelude.{◌≡◌, ◌+◌, ◌-◌, ◌%◌, ◌≤◌, ℕ}
 
 -- The log of this length is at the end of a piece: for one more move it takes memory for the next

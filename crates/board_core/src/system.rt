@@ -528,8 +528,9 @@ impl<'b, L: IrqLine> System<'b, L> {
         }
     }
 
-    /// Steps of the lowest actor that can move, until none can, as `settle` makes them, but no log is
-    /// kept of them: it begins anew before it would take memory. So no step is refused for its sake.
+    /// Steps of the lowest actor that can move, until none can, as `settle` makes them. But no log
+    /// is kept of them: it begins anew before it would take memory, so that no step is refused for
+    /// its sake.
     pub fn settle_lines<H: Handler>(&mut self, handlers: &mut H) -> Result<(), StepRefused>
         ensures board { self.new.board ≡ self.old.board }
         ensures layout { self.new.layout ≡ self.old.layout }

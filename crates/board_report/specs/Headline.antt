@@ -72,8 +72,8 @@ pub record LineHeadline (def : LineDef) (h : List Entry) : Type 0 where
   pub delivered : IsDelivered def h
   -- nothing is at work: each handler that was called has returned
   pub quiet : IsQuiet def h
-  -- where each run that disables the line has its thread enable it, and each driver enables as often
-  -- as it disables, a line with something linked is enabled, unless an end killed it
+  -- where each run that disables the line has its thread enable it, and each driver enables as
+  -- often as it disables, a line with something linked is enabled, unless an end killed it
   pub left_enabled : EnablesWhatItDisables def → IsLeftEnabled def h
 
 -- ---- all lines of a board

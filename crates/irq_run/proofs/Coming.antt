@@ -100,7 +100,8 @@ settled_so b lines old new same are s =
           (s.lines ∙ ap (λ (ls : List LineSeen). lines_after_all s.moves (board_lines ls)) are);
     }
 
-pub came : {H : Type 0} {hears : H → Run → H → Type 0} {first last : H} (terms : Terms) (b : BoardSeen) (locks : List LockSeen) (jobs : JobsSeen) (lines : List LineSeen) (old new : SystemSeen) → IsBoard b
+pub came : {H : Type 0} {hears : H → Run → H → Type 0} {first last : H} (terms : Terms) (b : BoardSeen)
+    (locks : List LockSeen) (jobs : JobsSeen) (lines : List LineSeen) (old new : SystemSeen) → IsBoard b
     → jobs.board ≡ b → Fit locks jobs → AreOver terms jobs → AreKept jobs.board (board_lines lines) → AreGathered jobs lines
     → old.board ≡ b → old.lines ≡ lines → SettlesLines hears old new first last → CameOfShifts terms b (entries_in (board_lines new.lines))
 came terms b locks jobs lines old new isb of_board fit over kept gathered same are settles =

@@ -39,7 +39,8 @@ invariant_of-result g c =
       ready =
           subst (λ xs. IsReadyFor (map f xs) c.in_ok-scripts.scripts.items c.in_ok-ready.ready) c.deref-5.ensures.value
           (subst (λ ss. IsReadyFor (map f c.deref-5.result.now) ss c.in_ok-ready.ready) c.deref-6.ensures.value c.in_ok-ready.ensures);
-      told = walk_new c.args.board.now (map f c.args.lines.items) c.is_board.ensures.board c.requires.lines c.in_ok-order.order.items c.in_ok-order.ensures.items;
+      told = walk_new c.args.board.now (map f c.args.lines.items) c.is_board.ensures.board c.requires.lines
+          c.in_ok-order.order.items c.in_ok-order.ensures.items;
       line_numbers = c.in_ok-line_numbers.ensures ∙ ap (λ xs. numbers_of_lines (map f xs)) c.deref-2.ensures.value;
       driver_numbers = c.in_ok-driver_numbers.ensures;
       pieced = first_piece c.in_ok-order.order.items _ c.in_ok-order.ensures.items c.in_ok-order.ensures.capacity;
