@@ -38,6 +38,8 @@ def counts_of(line, past):
 def device_state(line, past, dev, working):
     """What is kept of a device: of its asks, of its thread, and what a run that is at work has met."""
     part, thread = line.board.serving_part(dev), line.is_running(past, dev)
+    # runs of a part whose script serves the device serve nothing as they return
+    part = None if f"serve {dev}" in map(" ".join, line.board.run_calls(part, dev)) else part
     run = since(past, by("t" + dev, "begin")) if thread else []
     stage = 0 if not thread else 1 + sum(any(map(by("t" + dev, verb), run)) for verb in ("return", "finish"))
     handler_begin = since(past, is_begin) if working == dev else []
@@ -46,14 +48,16 @@ def device_state(line, past, dev, working):
     serving = handler_begin if part == "handler" else run if part == "thread" and stage == 1 else []
     fresh = sum(1 for e in since(serving, lambda e: e[1:3] == ("serve", dev)) if e[1:3] == ("ask", dev))
     asks = line.unserved(past, dev), fresh, met, met_by_thread, line.is_quiet(past, dev)
-    return *asks, line.is_woken(past, dev), stage, line.is_unfinished(past, dev), *(runs_begun(line, past, dev, it) for it in ("handler", "thread"))
+    turns = runs_begun(line, past, dev, "handler", working == dev), runs_begun(line, past, dev, "thread", stage == 1)
+    return *asks, line.is_woken(past, dev), stage, line.is_unfinished(past, dev), *turns
 
 
-def runs_begun(line, past, dev, part):
-    """How many runs of the part have begun: of a told device as many as it has answers and one, since the last may answer nothing."""
+def runs_begun(line, past, dev, part, is_there):
+    """How many runs of the part have begun: of a told device at most as many as it has answers, and one more while a run is there
+    that may be past the last of them."""
     begins = by("t" + dev, "begin") if part == "thread" else lambda e: is_begin(e) and e[2] == dev
     answers = line.board.answers.get((part, dev))
-    return min(sum(map(begins, past)), len(answers) + 1) if answers else 0
+    return min(sum(map(begins, past)), len(answers) + is_there) if answers else 0
 
 
 def places_in_runs(line, past, flow):

@@ -162,7 +162,8 @@ module _ (b : BoardSeen) (text : List ℕ) (number : LineNo) (actor : Actor) (he
         took own by None (Some def) es same (legal, is_def, has) =
             let who = sym by in
             let undue : IsDue def e (reverse es) → ⊥ = λ owed.
-            none e (concat (rows_of after)) (due_there def old es actor (Some e) is_def has (subst (λ (a : Actor). next def es a ≡ Some e) (sym who) owed)) allowed
+            none e (concat (rows_of after)) (due_there def old es actor (Some e) is_def has
+            (subst (λ (a : Actor). next def es a ≡ Some e) (sym who) owed)) allowed
             (row_of text row (rows_of after) number e at.rows own) in
             subst (λ (j : JudgeSeen). Took b (Some def) row number es j) (sym is)
             (e, own, allowed, undue_last def es e entry (counts ∙ ap (λ (hs : List Entry). length hs + 1) has) legal undue)

@@ -50,7 +50,8 @@ abbrev pub Adds : BoardSeen → List ℕ → LineNo → Actor → Option (List �
     → Type 0
 Adds b text number actor (Some after) old new =
     (e : Entry) × IsSmall number.0 × IsWritable e × (may_have b.version e ≡ true)
-    × (text ≡ entry_text number e ++ after) × (next old.def old.entries actor ≡ Some e) × (new.def ≡ old.def)
+    × (text ≡ entry_text number e ++ after) × (next old.def old.entries actor ≡ Some e)
+    × (new.def ≡ old.def)
     × (new.entries ≡ old.entries ++ e ∷ [])
 Adds b text number actor None old new =
     (e : Entry) (after : List ℕ) → next old.def old.entries actor ≡ Some e
@@ -75,8 +76,8 @@ Stands None None None entries = entries ≡ []
 Stands None None (Some number) entries = (1 ≤ length entries) × (number ≡ 1)
 Stands _ _ _ entries = ⊥
 
--- the row is that of an entry that the board's log may have, and the judge says of the line's entries with it what it said of
--- those before, whatever they are
+-- the row is that of an entry that the board's log may have, and the judge says of the line's
+-- entries with it what it said of those before, whatever they are
 abbrev pub TakesRow : BoardSeen → List ℕ → LineNo → JudgeSeen → JudgeSeen → Type 0
 TakesRow b row number old new =
     (part : Option LineDef) (entries : List Entry) → IfSome part (λ def. def.line ≡ number)

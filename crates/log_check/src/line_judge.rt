@@ -111,7 +111,8 @@ fn adds<'t, L: IrqLine>(
     text: &'t [u8],
 ) -> Result<Option<&'t [u8]>, NoMemory>
     requires { HasRoom (L.seen line.old) }
-    ensures { IfOk result (λ after. Adds board.now text.now number actor (option_map (λ t. t.now) after)
+    ensures { IfOk result (λ after. Adds board.now text.now number actor
+        (option_map (λ t. t.now) after)
         (L.seen line.old) (L.seen line.new)) }
 {
     let place = line.history().len();

@@ -202,7 +202,8 @@ module _ (old mid new : Words) where
   cpu_takes : (verb : CpuVerb) (e : CpuEntry) → Takes (one cpu_verb_word) old mid verb → TakesCpu verb mid new e
       → EndsAs HasSmallCpu cpu_words (λ f. f) old new e
   cpu_takes verb e took t =
-      let whole : TakesAs HasSmallCpu cpu_words (λ f. f) old new e = record { sound = cpu_sound verb e took t; complete = cpu_complete verb e took t } in ends whole
+      let whole : TakesAs HasSmallCpu cpu_words (λ f. f) old new e
+      = record { sound = cpu_sound verb e took t; complete = cpu_complete verb e took t } in ends whole
 
   thread_sound : (verb : ThreadVerb) (e : ThreadEntry) → Takes (one thread_verb_word) old mid verb → TakesThread verb mid new e
       → EndSound HasSmallThread thread_words old new e
@@ -366,7 +367,12 @@ module _ (old mid new : Words) (word : List ℕ) (took : Takes (one (λ w. w)) o
   driver_own driver small verb is e t =
       let own = driver_takes old mid new verb e (known driver_tells took is) t in
       record {
-        sound = λ h. let s = own.sound h in (by.Driver driver s.0, (record { printable = s.1.0; small = (small, s.1.1) }, refl), ap (λ f. by.Driver driver f) s.2, s.3);
+        sound = λ h. let s = own.sound h in (
+          by.Driver driver s.0,
+          (record { printable = s.1.0; small = (small, s.1.1) }, refl),
+          ap (λ f. by.Driver driver f) s.2,
+          s.3,
+        );
         complete = driver_complete_own driver e own (ap is_call_word is ∙ driver_no_call verb);
       }
 

@@ -21,8 +21,8 @@ abbrev pub has_some : List (List ℕ) → Bool
 has_some [] = false
 has_some (word ∷ words) = true
 
--- The entry's row is one of version 3 alone: a call of a handler or a thread, a call that is new, or
--- a row with a last word that other rows lack, of an ask or of a thread's return.
+-- The entry's row is one of version 3 alone: a call of a handler or a thread, a new call, or a row
+-- with a last word that others lack, of an ask or of a thread's return.
 abbrev pub needs_runs : Entry → Bool
 needs_runs (by.CpuCall cpu call) = true
 needs_runs (by.ThreadCall dev call) = true

@@ -46,7 +46,8 @@ impl From<NoMemory> for LogRefused {
 /// # Errors
 ///
 /// `Malformed` with the number of the first row that isn't passed over and isn't the row of an
-/// entry of a line of the board, or is one that only logs of later versions have. Rows are counted from 1, and those passed over count too.
+/// entry of a line of the board, or is one that only logs of later versions have. Rows are
+/// counted from 1, and those passed over count too.
 /// `NoMemory` if memory was refused.
 pub fn read_log(alloc: Global, board: &Board, bytes: &[u8]) -> Result<Logs, LogRefused>
     requires { length bytes.now ≤ 67108864 }

@@ -5,11 +5,11 @@ use Rattle.std.proofs.lemmas.List.Elements.{All-nil, All-cons}
 use Rattle.irq_base.specs.declared.calls.Call.{Call}
 use Rattle.irq_base.specs.declared.numbers.DevNo.{DevNo}
 use Rattle.irq_base.specs.declared.numbers.DriverNo.{DriverNo}
-use Rattle.irq_model.specs.Bounds.{bound}
 use Rattle.irq_base.specs.declared.devices.Kind.TheVariants as kinds
 use Rattle.irq_model.specs.Lines.{is_device}
 use Rattle.irq_model.specs.Valid.{IsValid, requests_dev, frees_dev, names_one_of}
 use Rattle.irq_model.specs.ValidRuns.{HasValidRuns, NeverWaits, WakesWhatItHas, names_own_device}
+use Rattle.irq_storms.specs.Lengths.{history_bound, IsBounded}
 use Rattle.part_tests.specs.AskedLine.{asked_line}
 
 -- its one call is no request and no free
@@ -80,5 +80,9 @@ asked_has_valid_runs =
 pub asked_never_waits : NeverWaits asked_line
 asked_never_waits = All-nil _
 
-pub asked_is_ample : bound asked_line ≤ asked_line.log
-asked_is_ample = omega arith
+-- an edge line has a bound
+pub asked_is_bounded : IsBounded asked_line
+asked_is_bounded level = cc
+
+pub asked_is_ample : history_bound asked_line ≤ asked_line.log
+asked_is_ample = let n : history_bound asked_line ≡ 28 = refl in omega (arith, n)

@@ -56,7 +56,7 @@ fn asked(alloc: Global) -> Result<LineDef, NoMemory>
 }
 
 #[test]
-#[tactic(auto, using(crate::proofs::AskedLine::asked_is_valid, crate::proofs::AskedLine::asked_has_valid_runs, crate::proofs::AskedLine::asked_never_waits, crate::proofs::AskedLine::asked_is_ample))]
+#[tactic(auto, using(crate::proofs::AskedLine::asked_is_valid, crate::proofs::AskedLine::asked_has_valid_runs, crate::proofs::AskedLine::asked_never_waits, crate::proofs::AskedLine::asked_is_bounded, crate::proofs::AskedLine::asked_is_ample))]
 fn a_step_comes(rt: HostRuntime) -> Result<(), Fail> {
     let def = asked(rt.alloc())?;
     let mut line = PlainLine::new(rt.alloc(), &def)?;

@@ -18,4 +18,5 @@ pub returns : goal.returns
 returns g c =
     let seen = g.L.IrqLine.seen in
     adds (seen c.args.line.now) (seen c.step.new.line) c.args.actor c.in_ok-entry.field-0 c.in-Some.entry c.in_ok-entry.ensures.added c.in-Some.is
-    c.args.board.now c.args.text.now c.args.number _ (sym c.may_have.ensures ∙ c.if-not-may_have.false) c.after_row_of.ensures.number c.after_row_of.ensures.entry c.after_row_of.ensures.follows
+    c.args.board.now c.args.text.now c.args.number _ (sym c.may_have.ensures ∙ c.if-not-may_have.false)
+    c.after_row_of.ensures.number c.after_row_of.ensures.entry c.after_row_of.ensures.follows

@@ -25,7 +25,11 @@ returns c =
     inr (
       (c.in-Some.line, c.in-Some.entry),
       c.in-Some-place_of.place,
-      record { formed = c.in-Some.ensures; allowed = sym c.may_have.ensures ∙ c.if-not-may_have.false; declared = present lines c.in-Some.line c.in-Some-place_of.place at },
+      record {
+        formed = c.in-Some.ensures;
+        allowed = sym c.may_have.ensures ∙ c.if-not-may_have.false;
+        declared = present lines c.in-Some.line c.in-Some-place_of.place at;
+      },
       sym c.begins_with_hash.ensures ∙ c.if-begins_with_hash.false,
       at,
       c.in_ok-add.ensures,

@@ -25,7 +25,9 @@ loop-i-preserved c =
     let k = c.loop-i.invariant in
     let named : option_map kind_of_entry (slice_get h i) ≡ Some (kind_of_entry e) = ap (option_map kind_of_entry) at in
     let kind : c.in-Some.kind ≡ kind_of_entry e = (let told = c.in-Some.ensures in cc) in
-    let called : c.served_by_call_at.result ≡ served_by_a_call e = (let told = subst (λ (o : Option Entry). IfSome o (λ x. c.served_by_call_at.result ≡ served_by_a_call x)) at c.served_by_call_at.ensures in told) in
+    let called : c.served_by_call_at.result ≡ served_by_a_call e
+    = (let told = subst (λ (o : Option Entry). IfSome o (λ x. c.served_by_call_at.result ≡ served_by_a_call x)) at
+    c.served_by_call_at.ensures in told) in
     let counted : counts_with c.loop-i.counts (kind_of_entry e) (served_by_a_call e) ≡ c.add.new.self =
     ap (λ k. counts_with c.loop-i.counts k (served_by_a_call e)) (sym kind)
     ∙ (ap (counts_with c.loop-i.counts c.in-Some.kind) (sym called) ∙ sym c.add.ensures.with) in
