@@ -49,17 +49,17 @@ pub reached_is : (def : LineDef) (ws : List ℕ) → IsReachedBy (IsDue def) (no
 reached_is def ws r = (r.0, path_is_legal def r.0 r.1, sym r.2, r.3)
 
 -- the steps after the past that was reached are those after each path with these numbers
-pub steps_all : (def : LineDef) → IsValid def → (ws : List ℕ) → IsReached def ws → (scripts : List (DriverNo × RowSeen)) → AreScripts def scripts
+pub steps_all : (def : LineDef) → IsValid def → HasValidRuns def → NeverWaits def → (ws : List ℕ) → IsReached def ws → (scripts : List (DriverNo × RowSeen)) → AreScripts def scripts
     → (found new : List (Entry × List ℕ)) (asked : List Actor) → found ≡ []
     → ((past : List Entry) → IsLegalPast def past → ws ≡ node def past
     → asked ≡ actors_by def (state_of def past).desc.flow (taker_of (state_of def past)) (drivers_in def.calls))
     → ((past : List Entry) → IsLegalPast def past → ws ≡ node def past → length past < 100000000 → new ≡ found ++ all_steps def past asked)
     → (h : List Entry) → IsPath (IsDue def) h → node def h ≡ ws → AreSteps (IsDue def) (node def) h new
-steps_all def valid ws reached scripts are found new asked none who added h path same =
+steps_all def valid runs waits ws reached scripts are found new asked none who added h path same =
     let g = reached.0 in
     let legal = reached.1 in
     let after = go_all (drivers_in def.calls) (places_words def g (drivers_in def.calls) []) scripts in
-    let steps = are_steps def g valid legal after (scripts_all def g (drivers_in def.calls) [] scripts are) (all_at def g legal [] scripts are) in
+    let steps = are_steps def g valid runs waits legal after (scripts_all def g (drivers_in def.calls) [] scripts are) (all_at def g legal [] scripts are) in
     let is : new ≡ all_steps def g (actors_by def (state_of def g).desc.flow (taker_of (state_of def g)) (drivers_in def.calls))
     = added g legal reached.2 reached.3 ∙ (ap (λ (x : List (Entry × List ℕ)). x ++ all_steps def g asked) none
     ∙ ap (λ (x : List Actor). all_steps def g x) (who g legal reached.2)) in

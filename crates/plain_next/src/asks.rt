@@ -113,7 +113,8 @@ pub fn is_quiet(past: &[Entry], dev: DevNo) -> bool
 /// The device holds the signal of a level line high.
 fn holds_high(def: &LineDef, dev: DevNo, past: &[Entry]) -> bool
     requires { length past.now ≤ 100000000 }
-    ensures { result ≡ (not (is_quiet past.now dev) && nat_lt 0 (unserved_asks def.now dev past.now)) }
+    ensures { result
+        ≡ (not (is_quiet past.now dev) && nat_lt 0 (unserved_asks def.now dev past.now)) }
 {
     !is_quiet(past, dev) && unserved_asks(def, dev, past) > 0
 }

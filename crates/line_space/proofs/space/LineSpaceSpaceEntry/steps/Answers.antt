@@ -46,7 +46,7 @@ returns-clause-steps c =
     let S : LineDef → Type 0 = λ d. (h : List Entry) → IsPath (IsDue d) h → node d h ≡ c.args.words.now → AreSteps (IsDue d) (node d) h c.add_all.new.found in
     let drivers = c.as_slice-drivers.ensures.value ∙ c.self.invariant.drivers in
     if_ok c.add_all.result (λ added. subst S c.self.view_is
-    (steps_all def valid ws (reached_is def ws (subst R (sym c.self.view_is) c.requires.reached))
+    (steps_all def valid c.self.invariant.valid_runs c.self.invariant.waits ws (reached_is def ws (subst R (sym c.self.view_is) c.requires.reached))
     c.self.inside.scratch.scripts c.self.invariant.scratch.scripts c.args.found.now new c.as_slice-asked.result.now c.requires.empty
     (λ past legal same.
     let again = c.in_ok-read.ensures.read.state past legal same in
