@@ -1,13 +1,11 @@
 -- What is known of the definitions of a board's lines: each is the definition of a row, whatever
 -- the layout refuses.
-use Rattle.std.proofs.Common.{◌≡◌, ℕ, zero, suc, ◌+◌, ◌<◌, ◌==◌, Bool, true, false, not, ◌&&◌, cond, Option, Some, None, List, [], ◌∷◌, All}
+use Rattle.std.proofs.Common.{◌≡◌, ℕ, zero, suc, ◌+◌, ◌<◌, ◌==◌, Bool, true, false, ◌&&◌, cond, Some, List, [], ◌∷◌}
 use Rattle.std.proofs.Common.{map, filter, length, take, slice_get, refl, sym, ap, ◌∙◌, subst, inl, inr, arith}
 use Rattle.std.specs.List.{list_any}
 use Rattle.std.proofs.lemmas.Bool.{or_cases}
-use Rattle.std.proofs.lemmas.List.Elements.{All-head, All-tail, All-nil, All-cons}
 use Rattle.irq_base.specs.declared.calls.Call.{Call}
 use Rattle.irq_base.specs.declared.devices.DeviceDef.{DeviceDef}
-use Rattle.irq_base.specs.declared.devices.Part.{Part}
 use Rattle.irq_base.specs.declared.lines.LineDef.{LineDef}
 use Rattle.irq_base.specs.declared.numbers.DevNo.{DevNo}
 use Rattle.irq_base.specs.declared.numbers.DriverNo.{DriverNo}
@@ -16,20 +14,18 @@ use Rattle.irq_model.specs.Due.{calls_by}
 use Rattle.irq_model.specs.Kinds.{same_line, same_driver}
 use Rattle.irq_model.specs.Lines.{is_device, has_device}
 use Rattle.irq_model.specs.Valid.{IsValid}
-use Rattle.irq_model.specs.ValidRuns.{HasValidRuns, NeverWaits, has_script, may_stand, may_wait}
+use Rattle.irq_model.specs.ValidRuns.{HasValidRuns, NeverWaits}
 use Rattle.irq_steps.proofs.Same.{dev_from_same, line_from_same}
 use Rattle.irq_laws.proofs.Chosen.{the_same}
 use Rattle.board_def.specs.Layout.{layout_of}
 use Rattle.domain_rules.specs.Layout.{is_mapped}
 use Rattle.board_def.specs.LineOf.{line_of_row, with_driver}
 use Rattle.board_def.specs.Rules.{IsBoard, find_device}
-use Rattle.board_def.specs.Runs.{of_run, may_call, is_allowed_run}
 use Rattle.board_def.specs.Seen.{BoardSeen}
 use Rattle.domain_rules.specs.declared.layouts.Placement.{Placement}
 use Rattle.board_def.specs.declared.rows.LineRow.{LineRow}
-use Rattle.board_def.specs.declared.rows.RunCall.{RunCall}
 use Rattle.board_def.specs.declared.rows.ScriptCall.{ScriptCall}
-use Rattle.board_def.proofs.RunRules.{valid_runs}
+use Rattle.board_def.proofs.RunRules.{valid_runs, never_waits}
 use Rattle.board_def.proofs.Validity.{valid_row}
 use Rattle.board_def.proofs.Rising.{Rises, rises_on, head_of, differ_back, device_at}
 use Rattle.board_play.specs.Current.{calls_on}
@@ -78,39 +74,8 @@ pub record HasCalmRuns (def : LineDef) : Type 0 where
   pub runs : HasValidRuns def
   pub waits : NeverWaits def
 
-both : (a b : Bool) → (a && b) ≡ true → (a ≡ true) × (b ≡ true)
-both true true h = (refl, refl)
-both true false h = cc
-both false b h = cc
-
-is_not : (b : Bool) → not b ≡ true → b ≡ false
-is_not false h = refl
-is_not true h = cc
-
-never_waits : (all : List RunCall) (r : RunCall) (o : Option DeviceDef) → is_allowed_run all r o ≡ true → may_wait r.call ≡ false
-never_waits all r None h = cc
-never_waits all r (Some x) h =
-    let first = both (x.line.0 == r.line.0) _ h in
-    let second = both (may_call x.kind r.part r.dev r.call) _ first.1 in
-    let third = both (has_script x.kind r.part) _ second.0 in
-    is_not (may_wait r.call) (both (may_stand x.kind r.part r.dev r.call) (not (may_wait r.call)) third.1).1
-
-none_waits : (b : BoardSeen) (line : LineNo) (rs : List RunCall) → All (λ r. is_allowed_run b.runs r (find_device b.devices r.dev) ≡ true) rs
-    → All (λ (c : DevNo × Part × Call). may_wait c.2 ≡ false) (map of_run (filter (λ r. r.line.0 == line.0) rs))
-none_waits b line [] all = All-nil _
-none_waits b line (r ∷ rs) all =
-    let Allowed : RunCall → Type 0 = λ r. is_allowed_run b.runs r (find_device b.devices r.dev) ≡ true in
-    by_test (r.line.0 == line.0) (never_waits b.runs r (find_device b.devices r.dev) (All-head Allowed r rs all))
-    (none_waits b line rs (All-tail Allowed r rs all))
-  where
-    by_test : (k : Bool) → may_wait r.call ≡ false → All (λ (c : DevNo × Part × Call). may_wait c.2 ≡ false) (map of_run (filter (λ r. r.line.0 == line.0) rs))
-        → All (λ (c : DevNo × Part × Call). may_wait c.2 ≡ false)
-        (map of_run (cond k (r ∷ filter (λ r. r.line.0 == line.0) rs) (filter (λ r. r.line.0 == line.0) rs)))
-    by_test true here rest = All-cons (λ (c : DevNo × Part × Call). may_wait c.2 ≡ false) (of_run r) (map of_run (filter (λ r. r.line.0 == line.0) rs)) here rest
-    by_test false here rest = rest
-
 pub calm_row : (b : BoardSeen) → IsBoard b → (row : LineRow) → HasCalmRuns (line_of_row b row)
-calm_row b board row = record { runs = valid_runs b board row; waits = none_waits b row.line b.runs board.runs.allowed }
+calm_row b board row = record { runs = valid_runs b board row; waits = never_waits b board row }
 
 pub calm_defs : (b : BoardSeen) → IsBoard b → (i : ℕ) (def : LineDef) → slice_get (defs_of b) i ≡ Some def → HasCalmRuns def
 calm_defs b board i d at = let o = def_of_row b i d at in subst (λ (d : LineDef). HasCalmRuns d) o.is (calm_row b board o.row)

@@ -48,8 +48,8 @@ pub fn play_keeps()
 {}
 
 /// No standstill: if none of the board's actors can move, every script is at its end, and each line
-/// is settled; more than that, it is at rest: no flow is in progress, and no thread is to run or in a
-/// run.
+/// is settled; more than that, it is at rest: no flow is in progress, and no thread is to run or
+/// in a run.
 pub fn no_standstill()
     ensures complete { (board : BoardSeen) (lines : List BoardLine) → IsBoard board
         → AreKept board lines → ((a : Actor) → IsOneOf a (actors_of board)
@@ -65,8 +65,8 @@ pub fn no_standstill()
         → IsAtRest x.def (reverse x.past) }
 {}
 
-/// If a play is done, every script is at its end and each line is settled and at rest, and so all is
-/// delivered.
+/// If a play is done, every script is at its end and each line is settled and at rest, and so all
+/// is delivered.
 pub fn done_is_settled()
     ensures complete { (board : BoardSeen) (picks : List Actor) (g : List Move) → IsBoard board
         → Plays board picks g Done → (r : DriverNo)

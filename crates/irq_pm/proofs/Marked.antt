@@ -136,7 +136,8 @@ module _ (b : BoardSeen) (armed : List LineNo) (g : List SleepEntry) (is : IsBoa
       now = lines_of (slept b) (moves_of g)
 
       by_phase : (at : Phase) → AreKept (slept b) (lines_of (slept b) (moves_of g)) → sleep_next (slept b) armed (moves_of g) at ≡ None → HasWoken at
-      by_phase (Picking picks) k none = absurd (stuck b is long free armed calm now k (neither_next (picked (slept b) now picks) (disabling (slept b) now) none).1)
+      by_phase (Picking picks) k none = absurd (stuck b is long free armed calm now k
+          (neither_next (picked (slept b) now picks) (disabling (slept b) now) none).1)
       by_phase Disabling k none = absurd (stuck b is long free armed calm now k none)
       by_phase Asleep k none = absurd (some_next b is long free armed (woken_by armed (moves_of g)) now none)
       by_phase Enabling k none = tt

@@ -132,7 +132,8 @@ module _ (b : BoardSeen) (is : IsBoard b) (long : IsBoard (slept b)) (free : has
         let back : (P : List Entry → Type 0) → P (past_of g) → P (reverse (reverse (past_of g))) = λ P p. subst P (sym (reverse-reverse (past_of g))) p in
         let others = alone_in at (lines_of (slept b) (moves_of g)) (state g at made).holds i (record { def = def; past = past_of g }) (there g) stands in
         subst (λ (p : List Entry). is_left_alone last_driver p ≡ true) (reverse-reverse (past_of g))
-        (left_alone def last_driver (reverse (past_of g)) (back (λ p. IsLegalPast def p) (legal g at made)) (calm_def b calm i def at_def) (its_script b is long free i def at_def)
+        (left_alone def last_driver (reverse (past_of g)) (back (λ p. IsLegalPast def p) (legal g at made))
+        (calm_def b calm i def at_def) (its_script b is long free i def at_def)
         (back (λ p. is_suspended last_driver p ≡ true) stands) (back (λ p. others_only_ask last_driver p ≡ true) others))
 
     -- a law of each entry, and of what stands before it, of a line that is left alone
@@ -183,7 +184,8 @@ module _ (b : BoardSeen) (is : IsBoard b) (long : IsBoard (slept b)) (free : has
           unkilled = r.unkilled;
         })).1
 
-    pub through : are_runs_calm b ≡ true → (g : List SleepEntry) (at : Phase) → IsMade (sleep_order (slept b) armed) (Picking b.picks) g at → SleepsThrough (past_of g)
+    pub through : are_runs_calm b ≡ true → (g : List SleepEntry) (at : Phase)
+        → IsMade (sleep_order (slept b) armed) (Picking b.picks) g at → SleepsThrough (past_of g)
     through calm g at made =
         record {
           alone = each calm (λ e past. is_suspended last_driver (e ∷ past) ≡ true

@@ -197,7 +197,8 @@ module _ (b : BoardSeen) (is : IsBoard b) (long : IsBoard (slept b)) (free : has
           let s = line_stands (slept b) lines (actors.Driver last_driver) x here in
           let its : due_call x.def last_driver x.past ≡ Some (calls.Disable, c.1) = due ∙ ap (λ (k : Call). due_at k c.1) (is_disable c.0 disabling) in
           not_none (next_past x.def x.past (actors.Driver last_driver)) x.def.line
-          (disable_moves (slept b) long lines k threads cpus s.place x s.at (calm_def b calm s.place x.def (def_at (slept b) lines k s.place x s.at)) last_driver c.1 its)
+          (disable_moves (slept b) long lines k threads cpus s.place x s.at
+          (calm_def b calm s.place x.def (def_at (slept b) lines k s.place x s.at)) last_driver c.1 its)
           (ap (λ (o : Option BoardLine). due_on o (actors.Driver last_driver)) (sym here) ∙ none)
 
       by_line : (o : Option BoardLine) → current_line (slept b).calls lines last_driver ≡ o → is_disable_due (call_on o last_driver) ≡ true → ⊥

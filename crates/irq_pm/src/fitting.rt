@@ -16,8 +16,8 @@ use std::alloc::Global;
 const SYSTEM: DriverNo = DriverNo(65_535);
 
 /// Whether the board can sleep with these lines armed: each of them takes part and is disabled
-/// lazily; the system's driver can be added with its calls; and no run disables or enables its line,
-/// frees a device or waits.
+/// lazily; the system's driver can be added with its calls; and no run disables or enables its
+/// line, frees a device or waits.
 pub fn fits_sleep(board: &Board, layout: &Layout, armed: &[LineNo]) -> bool
     requires layout { layout.now ≡ layout_of board.now }
     ensures { result ≡ is_for_sleep board.now armed.now }

@@ -57,8 +57,8 @@ pub fn flow_goes_on()
         → NeverWaits def → flow def (reverse h) ≡ Some c → IsSome (next def h (actors.Cpu c)) }
 {}
 
-/// Where no run waits: if after a legal history neither a processor nor a thread has a due entry, no
-/// flow is in progress, and no thread is woken or in a run.
+/// Where no run waits: if after a legal history neither a processor nor a thread has a due entry,
+/// no flow is in progress, and no thread is woken or in a run.
 pub fn still_is_idle()
     ensures no_flow { (def : LineDef) (h : List Entry) → HasValidRuns def → NeverWaits def
         → ((c : CpuNo) → next def h (actors.Cpu c) ≡ None) → has_flow def (reverse h) ≡ false }
