@@ -123,8 +123,8 @@ impl Threads {
         self.replace(dev, row, row.woken(oneshot));
     }
 
-    /// A call asks for the device's thread (`irq_wake_thread`), and answers whether it wakes it: not
-    /// if it is to run already. `may`: the device is linked and has a thread.
+    /// A call asks for the device's thread (`irq_wake_thread`), and answers whether it wakes it:
+    /// not if it is to run already. `may`: the device is linked and has a thread.
     pub fn wake_by_call(&mut self, dev: DevNo, may: bool, oneshot: bool) -> bool
         ensures woken { result ≡ wakes_at may self.old dev }
         ensures rows { self.new ≡ called_at result oneshot self.old dev }

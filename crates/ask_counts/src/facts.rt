@@ -9,7 +9,7 @@ ghost use Rattle.irq_model.specs.Valid.{HasDistinctDevices};
 ghost use Rattle.device_table.specs.Rows.{at};
 ghost use Rattle.ask_counts.specs.Facts.{all_facts, facts_at};
 
-use device_table::DeviceTable;
+use device_table::{DeviceTable, same_part};
 use irq_base::{Call, DevNo, Kind, LineDef, NoMemory, Part, RunCallList};
 use std::alloc::Global;
 use std::marker::Model;
@@ -141,16 +141,6 @@ fn is_own_serve(dev: DevNo, part: Part, owner: DevNo, its_part: Part, call: Call
         && serves_itself dev call) }
 {
     dev == owner && same_part(part, its_part) && serves_this(dev, call)
-}
-
-/// Whether both are the same part.
-fn same_part(first: Part, second: Part) -> bool
-    ensures { result ≡ same_part first second }
-{
-    matches!(
-        (first, second),
-        (Part::Primary, Part::Primary) | (Part::Thread, Part::Thread)
-    )
 }
 
 /// Whether the call serves the device.

@@ -45,9 +45,9 @@ impl Model for Board {
 }
 
 impl Board {
-    /// A board of version 1 with nothing declared. `cpus`: the number of processors (1 to 32); `window` (1 to
-    /// 1,000,000) and `limit` (below the window): of the rule on spurious interrupts; `log`: the
-    /// greatest length of a line's history (1 to 1,000,000).
+    /// A board of version 1 with nothing declared. `cpus`: the number of processors (1 to 32);
+    /// `window` (1 to 1,000,000) and `limit` (below the window): of the rule on spurious
+    /// interrupts; `log`: the greatest length of a line's history (1 to 1,000,000).
     pub fn new(alloc: Global, cpus: u32, window: u32, limit: u32, log: u32) -> Board
         requires cpus { (1 ≤ cpus) × (cpus ≤ 32) }
         requires window { window ≤ 1000000 }

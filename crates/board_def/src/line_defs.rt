@@ -14,8 +14,8 @@ use std::alloc::Global;
 
 impl Board {
     /// The definitions of all lines, in the board's order, including the lines that the layout
-    /// refuses. It goes over the devices, the calls and the answers once, and finds the line of each
-    /// in constant time. The only error is `NoMemory`.
+    /// refuses. It goes over the devices, the calls and the answers once, and finds the line of
+    /// each in constant time. The only error is `NoMemory`.
     pub fn line_defs(&self, alloc: Global) -> Result<Vec<LineDef>, NoMemory>
         ensures defs { IfOk result (λ defs. defs.items ≡ line_defs_of self.now) }
         ensures valid { IfOk result (λ defs. All IsValid defs.items) }

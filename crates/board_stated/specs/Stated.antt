@@ -32,7 +32,8 @@ use Rattle.board_stated.specs.Sections.{writer_of}
 use Rattle.board_stated.specs.declared.writers.Writer.{Writer}
 use Rattle.board_stated.specs.declared.writers.Writer.TheVariants as writers
 
--- version 1, one processor, the default window and limit, the default log limit, and nothing declared
+-- version 1, one processor, the default window and limit, the default log limit, and nothing
+-- declared
 abbrev pub first_board : BoardSeen
 first_board = record {
   version = 1;

@@ -256,8 +256,8 @@ fn is_mask_empty(board: &Board, mask: Option<u32>) -> bool
     }
 }
 
-/// Whether the statement declares one more of its kind than a board may have; `writer`: whose script
-/// is written.
+/// Whether the statement declares one more of its kind than a board may have; `writer`: whose
+/// script is written.
 pub fn is_one_too_many(board: &Board, writer: Writer, statement: &Statement) -> bool
     ensures { result ≡ is_one_too_many writer board.now statement.now }
 {

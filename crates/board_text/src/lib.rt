@@ -2,8 +2,8 @@
 //!
 //! A text is read once, line by line, in time linear in its bytes and its picks, but for counts of
 //! the answers and the calls of runs so far; a first look at it only finds whether it has a
-//! statement at all. Each statement is judged against the board that the statements before it state,
-//! and then added to it.
+//! statement at all. Each statement is judged against the board that the statements before it
+//! state, and then added to it.
 #![tactic(auto)]
 
 pub mod adding;

@@ -161,8 +161,8 @@ impl Reader {
         }
     }
 
-    /// Takes a statement that is no call, unless it has a fault after the statements so far. It stands
-    /// apart: most statements are calls.
+    /// Takes a statement that is no call, unless it has a fault after the statements so far. It
+    /// stands apart: most statements are calls.
     #[inline(never)]
     fn take(&mut self, alloc: Global, statement: &Statement) -> Result<(), StatementRefused>
         requires told { IsTold self.old statement.now }
@@ -212,7 +212,8 @@ impl Reader {
         }
     }
 
-    /// Takes a call of the runs of that part of the device. It stands apart: most calls are drivers'.
+    /// Takes a call of the runs of that part of the device. It stands apart: most calls are
+    /// drivers'.
     #[inline(never)]
     fn take_run_call(
         &mut self,
@@ -278,7 +279,8 @@ impl Reader {
         None
     }
 
-    /// Whether the statement is of an earlier section, misplaced within its section, or out of turn.
+    /// Whether the statement is of an earlier section, misplaced within its section, or out of
+    /// turn.
     fn is_out_of_order(&self, statement: &Statement) -> bool
         requires { IsNoCall statement.now }
         ensures { (past : List Statement) → Agrees past self.now

@@ -121,8 +121,8 @@ fn may_stand(kind: Kind, part: Part, dev: DevNo, call: Call) -> bool
     }
 }
 
-/// Whether a run of the device may arm the other: it is itself, and the run is a thread's or a direct
-/// device's.
+/// Whether a run of the device may arm the other: it is itself, and the run is a thread's or a
+/// direct device's.
 fn may_arm(kind: Kind, part: Part, dev: DevNo, armed: DevNo) -> bool
     ensures { result ≡ may_stand kind part dev (Call.Arm armed) }
 {

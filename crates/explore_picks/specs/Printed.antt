@@ -39,8 +39,8 @@ pub record IsPlayTo (b : BoardSeen) (line : LineNo) (es : List Entry) (picks : L
   pub stated : AreStated picks
 
 -- such a play's moves and its picks are printed, or a beginning of them; `check` says of all of it,
--- behind a board that has what its version has, that it is lawful; and the runs that the moves ended
--- were heard
+-- behind a board that has what its version has, that it is lawful; and the runs that the moves
+-- ended were heard
 pub record PrintsPlayTo (b : BoardSeen) (line : LineNo) (es : List Entry)
     (heard : List Run → Type 0) (old new : Option (List ℕ)) (end : Result Unit WriteFailed)
     : Type 0 where
@@ -56,8 +56,8 @@ pub record PrintsPlayTo (b : BoardSeen) (line : LineNo) (es : List Entry)
 abbrev pub HeardSome : BoardSeen → (List Run → Type 0) → Type 0
 HeardSome b heard = (g : List Move) × IsHeardPlay b heard g
 
--- A play was found, and it is printed, or a beginning of it. Or nothing is, and what was heard is of
--- a play that was tried.
+-- A play was found, and it is printed, or a beginning of it. Or nothing is, and what was heard is
+-- of a play that was tried.
 abbrev pub PlaysTo : BoardSeen → LineNo → List Entry → (List Run → Type 0) → Option (List ℕ)
     → Option (List ℕ) → Result Bool ExploreFailed → Type 0
 PlaysTo b line es heard old new (Ok true) = PrintsPlayTo b line es heard old new (Ok tt)

@@ -27,9 +27,9 @@ use text_row::TextRow;
 /// lines: it surveys all lines, or one, or looks for a shortest log of a line that ends with the
 /// row, or that leaves the line so, and prints it, or a play of the board that comes to it: the
 /// maker makes the lines that are played, and these handlers are called for the runs that the play
-/// ends. Other words are refused before anything is read, and a row that the board's logs can't have
-/// once it is read. What went wrong is told on `err`, in one
-/// row; a fault of `err` itself changes nothing.
+/// ends. Other words are refused before anything is read, and a row that the board's logs can't
+/// have once it is read. What went wrong is told on `err`, in one row; a fault of `err` itself
+/// changes nothing.
 pub fn explore_main<S: Source, O: Sink, E: Sink, M: MakesDomainLine, H: Handler>(
     alloc: Global,
     words: &[&str],

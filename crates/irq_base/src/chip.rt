@@ -77,8 +77,8 @@ pub trait Chip {
         ensures aimed { aimed self.new ≡ aimed self.old }
         ensures wiring { wiring self.new ≡ wiring self.old };
 
-    /// Sends the interrupt again, and answers whether the chips can (`irq_retrigger`). The interrupt
-    /// is active, and the mask open.
+    /// Sends the interrupt again, and answers whether the chips can (`irq_retrigger`). The
+    /// interrupt is active, and the mask open.
     fn retrigger(&mut self) -> bool
         requires activated { active self.old ≡ true }
         requires open { (cell self.old).masked ≡ false }

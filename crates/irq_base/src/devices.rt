@@ -1,6 +1,6 @@
 //! Devices: what raises interrupts, and how a device's handlers answer.
 ghost use Rattle.std.specs.Prelude.{◌≡◌};
-ghost use Rattle.irq_base.specs.Handlers.{has_thread};
+ghost use Rattle.irq_base.specs.Handlers.{answer_of, answer_of_run, answer_of_told, has_thread};
 
 use crate::lists::ItemList;
 use crate::numbers::{DevNo, LineNo};
@@ -69,6 +69,33 @@ impl Kind {
             Kind::Told { threaded } => threaded,
         }
     }
+
+    /// What a run of that part answers that began with so many unserved asks; `told`: what a told
+    /// device is to answer.
+    #[inline(always)]
+    pub fn answer(self, part: Part, unserved: u32, told: Option<ToldAnswer>) -> Answer
+        ensures { result ≡ answer_of self part unserved told }
+    {
+        match (self, part) {
+            (Kind::Told { .. }, _) => answer_of_told(told),
+            (Kind::Null, Part::Primary) => Answer::Wake,
+            (Kind::Check, Part::Primary) if unserved > 0 => Answer::Wake,
+            (Kind::Direct, Part::Primary) | (Kind::Check | Kind::Null, Part::Thread)
+                if unserved > 0 => { Answer::Handled }
+            _ => Answer::Nothing,
+        }
+    }
+}
+
+/// What a told device answers; nothing after its last answer.
+fn answer_of_told(told: Option<ToldAnswer>) -> Answer
+    ensures { result ≡ answer_of_told told }
+{
+    match told {
+        Some(ToldAnswer::Handled | ToldAnswer::Claims) => Answer::Handled,
+        Some(ToldAnswer::Wake) => Answer::Wake,
+        Some(ToldAnswer::Nothing) | None => Answer::Nothing,
+    }
 }
 
 /// A device, the line it raises, and its kind.
@@ -80,8 +107,8 @@ pub struct DeviceDef {
     pub line: LineNo,
     /// How its handlers work.
     pub kind: Kind,
-    /// On an edge line its signal stays until all is served: an ask makes an edge only if nothing of
-    /// it was unserved.
+    /// On an edge line its signal stays until all is served: an ask makes an edge only if nothing
+    /// of it was unserved.
     pub held: bool,
     /// On an edge line no edge comes as its own interrupt is turned on.
     pub forgets: bool,
@@ -98,6 +125,15 @@ pub struct Run {
     pub unserved: u32,
     /// What a told device is to answer in this run; none for others.
     pub told: Option<ToldAnswer>,
+}
+
+impl Run {
+    /// What it answers by the kind of its device.
+    pub fn answer(self) -> Answer
+        ensures { result ≡ answer_of_run self }
+    {
+        self.def.kind.answer(self.part, self.unserved, self.told)
+    }
 }
 
 /// The devices of a line, in order.

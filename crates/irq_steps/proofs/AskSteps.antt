@@ -1,5 +1,5 @@
 -- What one more entry makes of the unserved asks.
-use Rattle.std.proofs.Common.{Bool, true, ◌≡◌, ℕ, ◌+◌, min, Option, Some, None, List, ◌∷◌, nat_lt, refl, ap, ap₂, ◌∙◌, arith}
+use Rattle.std.proofs.Common.{Bool, true, ◌≡◌, ℕ, ◌+◌, min, Option, Some, None, List, ◌∷◌, nat_lt, refl, ap₂, ◌∙◌, arith}
 use Rattle.irq_base.specs.declared.devices.Answer.{Answer}
 use Rattle.irq_base.specs.declared.devices.Part.{Part}
 use Rattle.irq_base.specs.declared.devices.Part.TheVariants as parts

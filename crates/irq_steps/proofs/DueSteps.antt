@@ -7,9 +7,6 @@ use Rattle.std.proofs.lemmas.List.{drop-append-le, drop_all, reverse-append}
 use Rattle.irq_base.specs.declared.calls.Call.{Call}
 use Rattle.irq_base.specs.declared.calls.Call.TheVariants as calls
 use Rattle.irq_base.specs.declared.entries.Entry.{Entry}
-use Rattle.irq_base.specs.declared.entries.Entry.TheVariants as by
-use Rattle.irq_base.specs.declared.entries.CallEntry.TheVariants as called
-use Rattle.irq_base.specs.declared.entries.UnlinkAnswer.TheVariants as unlinks
 use Rattle.irq_base.specs.declared.numbers.DriverNo.{DriverNo}
 use Rattle.irq_model.specs.Due.{begins_not_there, entries_of_call, due_of, calls_by, entries_by}
 use Rattle.irq_model.specs.Kinds.{same_driver, is_by_driver}

@@ -59,7 +59,14 @@ impl Scratch {
         ensures read { OnOk result (IsRead def.now words.now self.new) }
         ensures room { OnOk result (1 ≤ self.new.state.spare) }
     {
-        read_into(&mut self.state, def, more, drivers, &mut self.scripts, words)?;
+        read_into(
+            &mut self.state,
+            def,
+            more,
+            drivers,
+            &mut self.scripts,
+            words,
+        )?;
         self.state.reserve()
     }
 

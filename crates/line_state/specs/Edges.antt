@@ -1,4 +1,5 @@
--- Whether an ask makes an edge, by what was unserved of its device before, and whether it was quiet.
+-- Whether an ask makes an edge, by what was unserved of its device before, and whether it was
+-- quiet.
 use Rattle.std.specs.Prelude.{◌==◌, Bool, true, not, ◌||◌, ◌&&◌, Option, Some, None}
 use Rattle.irq_base.specs.declared.lines.LineDef.{LineDef}
 use Rattle.irq_model.specs.Lines.{is_edge_line}

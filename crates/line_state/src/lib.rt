@@ -5,10 +5,10 @@
 //! `LineState` decides which step is due of a thread, of a processor and of a driver's call, and
 //! `make` makes it: one act a kind, in the kernel's order, which changes the parts and answers the
 //! entry that it came to. So each rule stands once. What a call does is the same whoever makes it,
-//! a driver, a handler or a thread. It keeps no history: what it is after an entry follows from what
-//! it was before. Each call looks at a few rows of tables, and goes over the actions only as one is
-//! linked or unlinked. No call takes memory but `new` and `reserve`, which makes the room that a
-//! request needs.
+//! a driver, a handler or a thread. It keeps no history: what it is after an entry follows from
+//! what it was before. Each call looks at a few rows of tables, and goes over the actions only as
+//! one is linked or unlinked. No call takes memory but `new` and `reserve`, which makes the room
+//! that a request needs.
 #![tactic(auto)]
 
 pub mod call_due;

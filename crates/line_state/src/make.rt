@@ -1,6 +1,5 @@
 //! One step of the line.
 ghost use Rattle.std.specs.Prelude.{◌≡◌, ◌≤◌, ◌+◌, ◌-◌, ◌<◌, ◌^◌, true};
-ghost use Rattle.irq_base.specs.Handlers.{answer_of_run};
 ghost use Rattle.irq_base.specs.declared.devices.Part.TheVariants as parts;
 ghost use Rattle.irq_base.specs.declared.entries.Entry.TheVariants as by;
 ghost use Rattle.irq_base.specs.declared.lines.LineDef.{LineDef};
@@ -20,11 +19,8 @@ ghost use Rattle.line_state.specs.Seen.{IsAimOf, IsScripted, HasCall, runs_seen}
 ghost use Rattle.line_state.specs.declared.due.CpuStep.TheVariants as cpus;
 
 use crate::due::{CallStep, CpuStep, DriverStep, DueStep, ThreadStep};
-use crate::run_due::answer_of;
 use crate::state::LineState;
-use irq_base::{
-    Actor, Answer, Chip, CpuNo, DevNo, DriverNo, Entry, LineDef, LinkAnswer, Part, Run,
-};
+use irq_base::{Actor, Chip, CpuNo, DevNo, DriverNo, Entry, LineDef, LinkAnswer, Part};
 use line_scripts::completes;
 
 impl<C: Chip> LineState<C> {
@@ -99,7 +95,7 @@ impl<C: Chip> LineState<C> {
         ensures fixed { self.new.fixed ≡ self.old.fixed }
     {
         let there = self.run_there(def, Part::Primary, dev);
-        let answer = answer_of_run(there.run);
+        let answer = there.run.answer();
         self.returned(def, cpu, there, answer)
     }
 
@@ -172,7 +168,7 @@ impl<C: Chip> LineState<C> {
         ensures fixed { self.new.fixed ≡ self.old.fixed }
     {
         let there = self.run_there(def, Part::Thread, dev);
-        let answer = answer_of_run(there.run);
+        let answer = there.run.answer();
         self.thread_returned(def, there, answer)
     }
 
@@ -230,12 +226,4 @@ impl<C: Chip> LineState<C> {
         let call = self.make_call(def, Actor::Driver(driver), step);
         Entry::DriverCall(driver, call)
     }
-}
-
-/// What the run answers by the kind of its device.
-#[inline(always)]
-fn answer_of_run(run: Run) -> Answer
-    ensures { result ≡ answer_of_run run }
-{
-    answer_of(run.def.kind, run.part, run.unserved, run.told)
 }

@@ -1,6 +1,5 @@
 //! The call that is due in a run, and what the run answers.
 ghost use Rattle.std.specs.Prelude.{◌≡◌, true, IfSome};
-ghost use Rattle.irq_base.specs.Handlers.{answer_of, answer_of_told};
 ghost use Rattle.irq_base.specs.declared.lines.LineDef.{LineDef};
 ghost use Rattle.irq_model.specs.Lines.{has_device};
 ghost use Rattle.irq_model.specs.Runs.{is_recognised};
@@ -10,7 +9,7 @@ ghost use Rattle.line_state.specs.Seen.{HasCall, runs_seen};
 
 use crate::runs::met_in;
 use crate::state::LineState;
-use irq_base::{Answer, Call, Chip, DevNo, Kind, Part, ToldAnswer};
+use irq_base::{Answer, Call, Chip, DevNo, Part, ToldAnswer};
 
 impl<C: Chip> LineState<C> {
     /// The first call that isn't complete of the run that is there, and how many entries it has
@@ -48,7 +47,7 @@ impl<C: Chip> LineState<C> {
             → has_device def dev ≡ true → result ≡ answer_at def self.now.state part dev }
     {
         let told = self.runs.told(dev, part);
-        answer_of(self.kind(dev), part, self.met(dev, part), told)
+        self.kind(dev).answer(part, self.met(dev, part), told)
     }
 
     /// The asks of the device that were unserved as the run of that part last began.
@@ -74,30 +73,4 @@ fn is_recognised(answer: Answer) -> bool
     ensures { result ≡ is_recognised answer }
 {
     answer != Answer::Nothing
-}
-
-/// What a run of that part answers that began with so many unserved asks.
-#[inline(always)]
-pub(crate) fn answer_of(kind: Kind, part: Part, unserved: u32, told: Option<ToldAnswer>) -> Answer
-    ensures { result ≡ answer_of kind part unserved told }
-{
-    match (kind, part) {
-        (Kind::Told { .. }, _) => answer_of_told(told),
-        (Kind::Null, Part::Primary) => Answer::Wake,
-        (Kind::Check, Part::Primary) if unserved > 0 => Answer::Wake,
-        (Kind::Direct, Part::Primary) | (Kind::Check | Kind::Null, Part::Thread) if unserved > 0 =>
-            { Answer::Handled }
-        _ => Answer::Nothing,
-    }
-}
-
-/// What the kernel is told.
-fn answer_of_told(told: Option<ToldAnswer>) -> Answer
-    ensures { result ≡ answer_of_told told }
-{
-    match told {
-        Some(ToldAnswer::Handled | ToldAnswer::Claims) => Answer::Handled,
-        Some(ToldAnswer::Wake) => Answer::Wake,
-        Some(ToldAnswer::Nothing) | None => Answer::Nothing,
-    }
 }

@@ -62,8 +62,8 @@ impl<C: Chip> LineState<C> {
     }
 
     /// Whether an ask of the device would make an edge, as each counts on a level line: not while
-    /// the device is quiet, nor, if it is held, while something of it is unserved. `was`: the counts
-    /// of its asks before.
+    /// the device is quiet, nor, if it is held, while something of it is unserved. `was`: the
+    /// counts of its asks before.
     #[inline(always)]
     fn asks_with_edge(&self, def: &LineDef, dev: DevNo, was: Option<AskRow>) -> bool
         ensures { result ≡ asks_by_row def.now (facts_at self.now.state.facts dev).held was }
@@ -215,8 +215,8 @@ impl<C: Chip> LineState<C> {
     }
 
     /// The thread's handler returns from this run with this answer: what it met is served if it
-    /// serves (`irq_thread_fn`, `kernel/irq/manage.c`). What the run says of its device isn't looked
-    /// up again.
+    /// serves (`irq_thread_fn`, `kernel/irq/manage.c`). What the run says of its device isn't
+    /// looked up again.
     #[inline(always)]
     pub fn thread_returned(&mut self, def: &LineDef, there: RunThere, answer: Answer) -> Entry
         requires is_of { IsOf def.now self.old.state }

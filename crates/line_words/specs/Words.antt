@@ -123,9 +123,9 @@ abbrev pub has_some : {A : Type 0} → List A → Bool
 has_some [] = false
 has_some (x ∷ xs) = true
 
--- the line's runs make calls, or are told what to answer, or a driver turns a device's own interrupt
--- off. Of another line no device is ever quiet, and there is nothing to say of the runs: its numbers
--- have no words for that
+-- the line's runs make calls, or are told what to answer, or a driver turns a device's own
+-- interrupt off. Of another line no device is ever quiet, and there is nothing to say of the runs:
+-- its numbers have no words for that
 abbrev pub has_more : LineDef → Bool
 has_more def = has_some def.runs
     || (has_some def.told || list_any (λ c. is_quiet_call c.1) def.calls)

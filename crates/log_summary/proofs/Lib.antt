@@ -2,4 +2,3 @@ pub mod Digits
 pub mod LastLaws
 pub mod Passing
 pub mod RowWords
-pub mod WordKinds

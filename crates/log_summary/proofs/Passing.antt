@@ -27,7 +27,7 @@ use Rattle.irq_model.specs.Places.{EachEntry}
 use Rattle.irq_steps.proofs.LinkSteps.{linked_request}
 use Rattle.irq_steps.proofs.ListSteps.{linked_refused, linked_not_there}
 use Rattle.irq_steps.proofs.DepthSteps.{raised_reset, raised_more}
-use Rattle.log_summary.specs.Counted.{is_run, is_thread_run, served_by, served_by_a_call}
+use Rattle.log_summary.specs.Counted.{is_run, is_thread_run, served_by}
 use Rattle.log_summary.specs.Gained.{AreCountsOf, one_if, asks_of, takes_of, runs_of, thread_runs_of, served_of, counts_with}
 use Rattle.log_summary.specs.Lasts.{TellsLast, TellsLasts}
 use Rattle.log_summary.specs.Standings.{StandsAfter, raised, lowered, resets, standing_with}
@@ -66,35 +66,35 @@ record IsCountedAs (e : Entry) (k : EntryKind) : Type 0 where
   takes : cond (is_take e) 1 0 ≡ takes_of k
   runs : cond (is_run e) 1 0 ≡ runs_of k
   threads : cond (is_thread_run e) 1 0 ≡ thread_runs_of k
-  served : served_by e ≡ served_of k + served_by_a_call e
+  served : served_by e ≡ served_of k
 
 call_counted : (r : DriverNo) (call : CallEntry) → IsCountedAs (by.DriverCall r call) (kind_of_call call)
-call_counted r called.Disable = record { asks = refl; takes = refl; runs = refl; threads = refl; served = omega arith }
-call_counted r called.HardClear = record { asks = refl; takes = refl; runs = refl; threads = refl; served = omega arith }
-call_counted r called.Synced = record { asks = refl; takes = refl; runs = refl; threads = refl; served = omega arith }
-call_counted r (called.Enable a) = record { asks = refl; takes = refl; runs = refl; threads = refl; served = omega arith }
-call_counted r (called.Unlink a b) = record { asks = refl; takes = refl; runs = refl; threads = refl; served = omega arith }
-call_counted r (called.Freed a) = record { asks = refl; takes = refl; runs = refl; threads = refl; served = omega arith }
-call_counted r (called.Wake a b) = record { asks = refl; takes = refl; runs = refl; threads = refl; served = omega arith }
-call_counted r (called.Quiet a) = record { asks = refl; takes = refl; runs = refl; threads = refl; served = omega arith }
-call_counted r (called.Arm a b) = record { asks = refl; takes = refl; runs = refl; threads = refl; served = omega arith }
-call_counted r (called.Serve a b) = record { asks = refl; takes = refl; runs = refl; threads = refl; served = omega arith }
+call_counted r called.Disable = record { asks = refl; takes = refl; runs = refl; threads = refl; served = refl }
+call_counted r called.HardClear = record { asks = refl; takes = refl; runs = refl; threads = refl; served = refl }
+call_counted r called.Synced = record { asks = refl; takes = refl; runs = refl; threads = refl; served = refl }
+call_counted r (called.Enable a) = record { asks = refl; takes = refl; runs = refl; threads = refl; served = refl }
+call_counted r (called.Unlink a b) = record { asks = refl; takes = refl; runs = refl; threads = refl; served = refl }
+call_counted r (called.Freed a) = record { asks = refl; takes = refl; runs = refl; threads = refl; served = refl }
+call_counted r (called.Wake a b) = record { asks = refl; takes = refl; runs = refl; threads = refl; served = refl }
+call_counted r (called.Quiet a) = record { asks = refl; takes = refl; runs = refl; threads = refl; served = refl }
+call_counted r (called.Arm a b) = record { asks = refl; takes = refl; runs = refl; threads = refl; served = refl }
+call_counted r (called.Serve a b) = record { asks = refl; takes = refl; runs = refl; threads = refl; served = refl }
 
 counted : (e : Entry) → IsCountedAs e (kind_of_entry e)
-counted (by.Driver a (drivers.Ask edge b)) = record { asks = refl; takes = refl; runs = refl; threads = refl; served = omega arith }
-counted (by.Cpu a (cpus.Take b c)) = record { asks = refl; takes = refl; runs = refl; threads = refl; served = omega arith }
-counted (by.Cpu a (cpus.Begin b)) = record { asks = refl; takes = refl; runs = refl; threads = refl; served = omega arith }
-counted (by.Cpu a (cpus.Return c b d)) = record { asks = refl; takes = refl; runs = refl; threads = refl; served = omega arith }
-counted (by.Cpu a (cpus.End b c notes.Quiet)) = record { asks = refl; takes = refl; runs = refl; threads = refl; served = omega arith }
-counted (by.Cpu a (cpus.End b c notes.Counted)) = record { asks = refl; takes = refl; runs = refl; threads = refl; served = omega arith }
-counted (by.Cpu a (cpus.End b c notes.Killed)) = record { asks = refl; takes = refl; runs = refl; threads = refl; served = omega arith }
-counted (by.Thread a threads.Begin) = record { asks = refl; takes = refl; runs = refl; threads = refl; served = omega arith }
-counted (by.Thread a (threads.Return handled b)) = record { asks = refl; takes = refl; runs = refl; threads = refl; served = omega arith }
-counted (by.Thread a (threads.Finish b c)) = record { asks = refl; takes = refl; runs = refl; threads = refl; served = omega arith }
-counted (by.Thread a threads.Done) = record { asks = refl; takes = refl; runs = refl; threads = refl; served = omega arith }
-counted (by.Driver a (drivers.Request c d f b)) = record { asks = refl; takes = refl; runs = refl; threads = refl; served = omega arith }
-counted (by.Driver a (drivers.Affinity c b)) = record { asks = refl; takes = refl; runs = refl; threads = refl; served = omega arith }
-counted (by.Driver a (drivers.Moment b)) = record { asks = refl; takes = refl; runs = refl; threads = refl; served = omega arith }
+counted (by.Driver a (drivers.Ask edge b)) = record { asks = refl; takes = refl; runs = refl; threads = refl; served = refl }
+counted (by.Cpu a (cpus.Take b c)) = record { asks = refl; takes = refl; runs = refl; threads = refl; served = refl }
+counted (by.Cpu a (cpus.Begin b)) = record { asks = refl; takes = refl; runs = refl; threads = refl; served = refl }
+counted (by.Cpu a (cpus.Return c b d)) = record { asks = refl; takes = refl; runs = refl; threads = refl; served = refl }
+counted (by.Cpu a (cpus.End b c notes.Quiet)) = record { asks = refl; takes = refl; runs = refl; threads = refl; served = refl }
+counted (by.Cpu a (cpus.End b c notes.Counted)) = record { asks = refl; takes = refl; runs = refl; threads = refl; served = refl }
+counted (by.Cpu a (cpus.End b c notes.Killed)) = record { asks = refl; takes = refl; runs = refl; threads = refl; served = refl }
+counted (by.Thread a threads.Begin) = record { asks = refl; takes = refl; runs = refl; threads = refl; served = refl }
+counted (by.Thread a (threads.Return handled b)) = record { asks = refl; takes = refl; runs = refl; threads = refl; served = refl }
+counted (by.Thread a (threads.Finish b c)) = record { asks = refl; takes = refl; runs = refl; threads = refl; served = refl }
+counted (by.Thread a threads.Done) = record { asks = refl; takes = refl; runs = refl; threads = refl; served = refl }
+counted (by.Driver a (drivers.Request c d f b)) = record { asks = refl; takes = refl; runs = refl; threads = refl; served = refl }
+counted (by.Driver a (drivers.Affinity c b)) = record { asks = refl; takes = refl; runs = refl; threads = refl; served = refl }
+counted (by.Driver a (drivers.Moment b)) = record { asks = refl; takes = refl; runs = refl; threads = refl; served = refl }
 counted (by.CpuCall a call) =
     let k = call_counted (record { 0 = 0 }) call in record { asks = k.asks; takes = k.takes; runs = k.runs; threads = k.threads; served = k.served }
 counted (by.ThreadCall a call) =
@@ -102,7 +102,7 @@ counted (by.ThreadCall a call) =
 counted (by.DriverCall a call) = call_counted a call
 
 pub counts_more : (h : List Entry) (n : ℕ) (e : Entry) (c : Counts) → slice_get h n ≡ Some e → AreCountsOf (take n h) c
-    → AreCountsOf (take (n + 1) h) (counts_with c (kind_of_entry e) (served_by_a_call e))
+    → AreCountsOf (take (n + 1) h) (counts_with c (kind_of_entry e))
 counts_more h n e c at k =
     let told = counted e in
     let one : (p : Entry → Bool) (m x : ℕ) → cond (p e) 1 0 ≡ x → m ≡ count_by p (take n h) → m + x ≡ count_by p (take (n + 1) h) =

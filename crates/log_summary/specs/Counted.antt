@@ -22,15 +22,11 @@ abbrev pub served_by_call : CallEntry → ℕ
 served_by_call (called.Serve dev served) = served
 served_by_call _ = 0
 
--- the same of an entry, if it is a call, whoever makes it
-abbrev pub served_by_a_call : Entry → ℕ
-served_by_a_call (by.CpuCall cpu call) = served_by_call call
-served_by_a_call (by.ThreadCall dev call) = served_by_call call
-served_by_a_call (by.DriverCall driver call) = served_by_call call
-served_by_a_call _ = 0
-
 -- how many asks an entry has served: a run that returns, of a handler or of a thread, or a call
 abbrev pub served_by : Entry → ℕ
 served_by (by.Cpu cpu (cpus.Return answer dev served)) = served
 served_by (by.Thread dev (threads.Return handled served)) = served
-served_by e = served_by_a_call e
+served_by (by.CpuCall cpu call) = served_by_call call
+served_by (by.ThreadCall dev call) = served_by_call call
+served_by (by.DriverCall driver call) = served_by_call call
+served_by _ = 0

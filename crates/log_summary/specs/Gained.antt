@@ -39,17 +39,18 @@ thread_runs_of _ = 0
 abbrev pub served_of : EntryKind → ℕ
 served_of (kinds.Return served) = served
 served_of (kinds.ThreadReturn served) = served
+served_of (kinds.Serve served) = served
 served_of _ = 0
 
--- the counts with one entry more, of this kind; a call has served so many asks
-abbrev pub counts_with : Counts → EntryKind → ℕ → Counts
-counts_with c k called =
+-- the counts with one entry more, of this kind
+abbrev pub counts_with : Counts → EntryKind → Counts
+counts_with c k =
     record {
       asks = c.asks + asks_of k;
       takes = c.takes + takes_of k;
       runs = c.runs + runs_of k;
       threads = c.threads + thread_runs_of k;
-      served = c.served + (served_of k + called);
+      served = c.served + served_of k;
     }
 
 -- the counts as words of a row, each behind its name

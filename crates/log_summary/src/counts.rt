@@ -33,23 +33,22 @@ impl Counts {
         }
     }
 
-    /// Counts one more entry of this kind. `called`: how many asks a call has served.
-    pub(crate) fn add(&mut self, kind: EntryKind, called: u32)
+    /// Counts one more entry of this kind.
+    pub(crate) fn add(&mut self, kind: EntryKind)
         requires runs { (self.old.runs < 2 ^ 32) × (self.old.threads < 2 ^ 32) }
         requires others { (self.old.asks < 2 ^ 32) × (self.old.takes < 2 ^ 32) }
         requires served { self.old.served < 2 ^ 63 }
-        ensures with { self.new ≡ counts_with self.old kind called }
-        ensures few { self.new.served < self.old.served + 2 ^ 33 }
+        ensures with { self.new ≡ counts_with self.old kind }
+        ensures few { self.new.served < self.old.served + 2 ^ 32 }
     {
-        self.served += u64::from(called);
         match kind {
             EntryKind::Ask => self.asks += 1,
             EntryKind::Take => self.takes += 1,
             EntryKind::Begin => self.runs += 1,
             EntryKind::ThreadBegin => self.threads += 1,
-            EntryKind::Return { served } | EntryKind::ThreadReturn { served } => {
-                self.served += u64::from(served);
-            }
+            EntryKind::Return { served }
+            | EntryKind::ThreadReturn { served }
+            | EntryKind::Serve { served } => self.served += u64::from(served),
             EntryKind::Standing | EntryKind::Other => {}
         }
     }

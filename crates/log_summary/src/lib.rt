@@ -8,7 +8,6 @@
 mod counts;
 mod lasts;
 mod pieces;
-mod serving;
 mod standing;
 mod summaries;
 

@@ -1,5 +1,5 @@
 //! The row of a line's summary, and the row of the total.
-ghost use Rattle.std.specs.Prelude.{◌≡◌, ◌+◌, ◌≤◌, [], ◌∷◌, ◌++◌, length};
+ghost use Rattle.std.specs.Prelude.{◌≡◌, ◌+◌, ◌<◌, ◌≤◌, [], ◌∷◌, ◌++◌, length, Some, slice_get};
 ghost use Rattle.std.specs.Prelude.{reverse, codes, decimal};
 ghost use Rattle.log_text.specs.Spaced.{spaced};
 ghost use Rattle.log_summary.specs.Gained.{AreCountsOf, count_words};
@@ -9,9 +9,8 @@ ghost use Rattle.log_summary.specs.Texts.{summary_text, total_text};
 
 use crate::counts::Counts;
 use crate::pieces::{push_count, push_number, push_word};
-use crate::serving::{entry_at, served_by_call_at};
 use crate::standing::Standing;
-use irq_base::{EntryKind, History, LineNo};
+use irq_base::{Entry, EntryKind, History, LineNo};
 use text_row::TextRow;
 
 /// Writes the summary row of the line: how many entries its history has, how many of each kind, and
@@ -55,12 +54,23 @@ fn summarize(history: &History) -> (Counts, Standing)
         let Some(kind) = history.kind(i) else {
             unreachable!();
         };
-        counts.add(kind, served_by_call_at(history, i, kind));
+        counts.add(kind);
         if kind == EntryKind::Standing {
             standing.add(entry_at(history, i));
         }
     }
     (counts, standing)
+}
+
+// The entry at the place.
+fn entry_at(history: &History, place: usize) -> Entry
+    requires { place < length history.now.entries }
+    ensures { slice_get history.now.entries place ≡ Some result }
+{
+    let Some(entry) = history.get(place) else {
+        unreachable!();
+    };
+    entry
 }
 
 // Adds the counts, each behind its name.

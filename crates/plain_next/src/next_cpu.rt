@@ -152,8 +152,8 @@ fn begin_or_end(
     }
 }
 
-/// A handler that is at work makes its next call, or returns; else the first handler that is left is
-/// called; else the round ends.
+/// A handler that is at work makes its next call, or returns; else the first handler that is left
+/// is called; else the round ends.
 fn next_in_flow(
     alloc: Global,
     def: &LineDef,

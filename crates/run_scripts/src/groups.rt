@@ -11,7 +11,7 @@ ghost use Rattle.irq_model.specs.Valid.{HasDistinctDevices};
 ghost use Rattle.device_table.specs.Rows.{at};
 ghost use Rattle.run_scripts.specs.Groups.{group_in, group_of, span_of, spans_from};
 
-use device_table::DeviceTable;
+use device_table::{DeviceTable, same_part};
 use irq_base::{DevNo, DeviceList, ItemList, NoMemory, Part};
 use std::alloc::Global;
 use std::marker::Model;
@@ -171,14 +171,4 @@ fn is_own(dev: DevNo, part: Part, owner: DevNo, its_part: Part) -> bool
     ensures { result ≡ (same_dev dev owner && same_part part its_part) }
 {
     dev == owner && same_part(part, its_part)
-}
-
-/// Whether both are the same part.
-fn same_part(first: Part, second: Part) -> bool
-    ensures { result ≡ same_part first second }
-{
-    matches!(
-        (first, second),
-        (Part::Primary, Part::Primary) | (Part::Thread, Part::Thread)
-    )
 }

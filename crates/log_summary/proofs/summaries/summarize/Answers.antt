@@ -1,12 +1,10 @@
 use Rattle.std.proofs.Common.{rules, ◌≡◌, ◌+◌, ◌<◌, ◌≤◌, Option, Some, length, get_or, sym, ap, ◌∙◌, take, reverse, subst, arith}
 use Rattle.std.specs.List.{slice_get}
-use Rattle.std.specs.Prelude.{IfSome}
 use Rattle.std.specs.Option.{option_map}
 use Rattle.std.proofs.lemmas.Option.{slice_get-get_or}
 use Rattle.irq_base.specs.declared.entries.Entry.{Entry}
 use Rattle.irq_base.specs.EntryKinds.{kind_of_entry}
 use Rattle.irq_base.specs.Packed.{nothing}
-use Rattle.log_summary.specs.Counted.{served_by_a_call}
 use Rattle.log_summary.specs.Gained.{AreCountsOf, counts_with}
 use Rattle.log_summary.specs.Standings.{StandsAfter, standing_with}
 use Rattle.log_summary.specs.declared.counts.Counts.{Counts}
@@ -25,12 +23,8 @@ loop-i-preserved c =
     let k = c.loop-i.invariant in
     let named : option_map kind_of_entry (slice_get h i) ≡ Some (kind_of_entry e) = ap (option_map kind_of_entry) at in
     let kind : c.in-Some.kind ≡ kind_of_entry e = (let told = c.in-Some.ensures in cc) in
-    let called : c.served_by_call_at.result ≡ served_by_a_call e
-    = (let told = subst (λ (o : Option Entry). IfSome o (λ x. c.served_by_call_at.result ≡ served_by_a_call x)) at
-    c.served_by_call_at.ensures in told) in
-    let counted : counts_with c.loop-i.counts (kind_of_entry e) (served_by_a_call e) ≡ c.add.new.self =
-    ap (λ k. counts_with c.loop-i.counts k (served_by_a_call e)) (sym kind)
-    ∙ (ap (counts_with c.loop-i.counts c.in-Some.kind) (sym called) ∙ sym c.add.ensures.with) in
+    let counted : counts_with c.loop-i.counts (kind_of_entry e) ≡ c.add.new.self =
+    ap (counts_with c.loop-i.counts) (sym kind) ∙ sym c.add.ensures.with in
     let stood : standing_with c.loop-i.standing e ≡ c.if-eq.standing =
     elim c.if-eq.branch [
       | then-eq w ↦

@@ -8,7 +8,7 @@ abbrev pub invariant-loop-i : goal.invariant-loop-i
 invariant-loop-i l =
     record {
       counts : AreCountsOf (take l.i l.history.entries) l.counts;
-      served : l.counts.served ≤ 8589934591 * l.i;
+      served : l.counts.served ≤ 4294967295 * l.i;
       standing : StandsAfter (reverse (take l.i l.history.entries)) l.standing;
       raised : l.standing.raised ≤ l.i + 1;
       lowered : l.standing.lowered ≤ l.i + 1;
