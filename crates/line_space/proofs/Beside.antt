@@ -1,10 +1,8 @@
 -- A state that was read stands beside a line's history.
-use Rattle.std.proofs.Common.{◌≡◌, ◌<◌, ◌≤◌, ℕ, ◌+◌, ◌^◌, true, List, length, reverse, refl, sym, ap, subst, ◌∙◌, arith}
+use Rattle.std.proofs.Common.{◌≡◌, ◌<◌, ◌+◌, ◌^◌, List, reverse, refl, sym, ap, subst, ◌∙◌, arith}
 use Rattle.std.proofs.lemmas.List.{reverse-reverse, length-reverse}
-use Rattle.irq_base.specs.declared.devices.Part.{Part}
 use Rattle.irq_base.specs.declared.entries.Entry.{Entry}
 use Rattle.irq_base.specs.declared.lines.LineDef.{LineDef}
-use Rattle.irq_base.specs.declared.numbers.DevNo.{DevNo}
 use Rattle.irq_base.specs.declared.numbers.DriverNo.{DriverNo}
 use Rattle.irq_model.specs.Legal.{IsLegalPast}
 use Rattle.irq_model.specs.ValidRuns.{HasValidRuns}
@@ -21,7 +19,7 @@ use Rattle.line_marks.specs.Scripts.{IsAt}
 use Rattle.line_marks.specs.State.{StateSeen, state_of}
 use Rattle.line_state.specs.Entries.{IsActivated}
 use Rattle.line_state.specs.Seen.{LineStateSeen, FixedSeen, IsScripted, runs_seen}
-use Rattle.line_core.proofs.More.{Beside, line_scripted}
+use Rattle.line_core.proofs.More.{line_scripted}
 use Rattle.line_futures.proofs.Actions.{has_same}
 use Rattle.line_futures.proofs.RunsAfter.{place_same}
 use Rattle.line_futures.specs.Canon.{is_working, is_thread_working}

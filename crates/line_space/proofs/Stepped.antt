@@ -1,6 +1,6 @@
 -- One more entry: the drivers' places after it.
 use Rattle.std.proofs.Common.{◌≡◌, ℕ, zero, suc, ◌<◌, ◌≤◌, ◌^◌, Bool, true, false, cond, Some, List, [], ◌∷◌, ◌++◌}
-use Rattle.std.proofs.Common.{length, drop, reverse, refl, sym, ap, subst, ◌∙◌, arith}
+use Rattle.std.proofs.Common.{length, drop, reverse, refl, ap, subst, ◌∙◌, arith}
 use Rattle.std.proofs.lemmas.List.{reverse-reverse, length-reverse}
 use Rattle.irq_base.specs.declared.calls.Call.{Call}
 use Rattle.irq_base.specs.declared.entries.Actor.{Actor}
@@ -9,7 +9,7 @@ use Rattle.irq_base.specs.declared.lines.LineDef.{LineDef}
 use Rattle.irq_base.specs.declared.numbers.DriverNo.{DriverNo}
 use Rattle.irq_model.specs.Due.{calls_by, entries_by, entries_of_call}
 use Rattle.irq_model.specs.Kinds.{same_driver}
-use Rattle.irq_model.specs.Legal.{IsDue, IsLegalPast}
+use Rattle.irq_model.specs.Legal.{IsDue}
 use Rattle.irq_model.specs.Next.{next, next_past}
 use Rattle.irq_model.specs.Valid.{IsValid}
 use Rattle.irq_steps.specs.Laid.{Laid}
