@@ -190,7 +190,8 @@ count_both test (x ∷ xs) ys = by (test x) (count_both test xs ys)
     by false rest = rest
 
 -- a device has at most as many of them as there are, and another has none
-count_within : (dev d : DevNo) (rows : List ToldRow) → AreOf dev rows → count_of (λ (r : ToldRow). same_dev d r.dev) rows ≤ cond (same_dev d dev) (length rows) 0
+count_within : (dev d : DevNo) (rows : List ToldRow) → AreOf dev rows
+    → count_of (λ (r : ToldRow). same_dev d r.dev) rows ≤ cond (same_dev d dev) (length rows) 0
 count_within dev d [] of = by (same_dev d dev)
   where
     by : (b : Bool) → 0 ≤ cond b 0 0
@@ -209,7 +210,8 @@ count_within dev d (r ∷ rows) of =
     by false true same rest = absurd cc
 
 few_of : (dev : DevNo) (told rows : List ToldRow) → AreOf dev rows → count_of (λ (r : ToldRow). same_dev dev r.dev) told + length rows ≤ 4096
-    → ((d : DevNo) → count_of (λ (r : ToldRow). same_dev d r.dev) told ≤ 4096) → (d : DevNo) → count_of (λ (r : ToldRow). same_dev d r.dev) (told ++ rows) ≤ 4096
+    → ((d : DevNo) → count_of (λ (r : ToldRow). same_dev d r.dev) told ≤ 4096) → (d : DevNo)
+    → count_of (λ (r : ToldRow). same_dev d r.dev) (told ++ rows) ≤ 4096
 few_of dev told rows of room short d = by (same_dev d dev) refl
   where
     by : (b : Bool) → same_dev d dev ≡ b → count_of (λ (r : ToldRow). same_dev d r.dev) (told ++ rows) ≤ 4096

@@ -69,7 +69,8 @@ script_count d part (r ∷ rs) = by (is_call_of d part r) (script_count d part r
 
 -- and the answers of both parts are those of the device
 answers_count : (d : DevNo) (told : List ToldRow)
-    → length (told_in (map of_told told) d parts.Primary) + length (told_in (map of_told told) d parts.Thread) ≡ count_of (λ (r : ToldRow). same_dev d r.dev) told
+    → length (told_in (map of_told told) d parts.Primary) + length (told_in (map of_told told) d parts.Thread)
+    ≡ count_of (λ (r : ToldRow). same_dev d r.dev) told
 answers_count d [] = refl
 answers_count d (r ∷ rs) = by (same_dev d r.dev) r.part (answers_count d rs)
   where
@@ -167,7 +168,8 @@ module _ (b : BoardSeen) (h : IsBoard b) (row : LineRow) where
   on_line : (l m : LineNo) → (l.0 == m.0) ≡ true → (m.0 == row.line.0) ≡ true → (l.0 == row.line.0) ≡ true
   on_line l m e f = grind (arith, nat_tests)
 
-  run_of : (r : RunCall) (o : Option DeviceDef) → find_device b.devices r.dev ≡ o → is_allowed_run b.runs r o ≡ true → keep_run r ≡ true → IsOfRun def (of_run r)
+  run_of : (r : RunCall) (o : Option DeviceDef) → find_device b.devices r.dev ≡ o → is_allowed_run b.runs r o ≡ true
+      → keep_run r ≡ true → IsOfRun def (of_run r)
   run_of r None found allowed kept = absurd cc
   run_of r (Some x) found allowed kept =
       let first = on_its_line (x.line.0 == r.line.0) _ allowed in

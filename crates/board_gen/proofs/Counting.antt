@@ -31,9 +31,17 @@ numbered_more line first [] kind =
     let named : ℕ → List DeviceDef = λ n. record { dev = record { 0 = n }; line = record { 0 = line }; kind = kind; held = false; forgets = false } ∷ [] in
     ap named (omega arith)
 numbered_more line first (k ∷ ks) kind =
-    let named : ℕ → List DeviceDef = λ n. numbered line (first + 1) ks ++ record { dev = record { 0 = n }; line = record { 0 = line }; kind = kind; held = false; forgets = false } ∷ [] in
+    let named : ℕ → List DeviceDef = λ n. numbered line (first + 1) ks
+    ++ record { dev = record { 0 = n }; line = record { 0 = line }; kind = kind; held = false; forgets = false }
+    ∷ [] in
     let e : first + 1 + length ks ≡ first + length (k ∷ ks) = omega arith in
-    ap (λ devices. record { dev = record { 0 = first }; line = record { 0 = line }; kind = k; held = false; forgets = false } ∷ devices) (numbered_more line (first + 1) ks kind ∙ ap named e)
+    ap (λ devices. record {
+      dev = record { 0 = first };
+      line = record { 0 = line };
+      kind = k;
+      held = false;
+      forgets = false;
+    } ∷ devices) (numbered_more line (first + 1) ks kind ∙ ap named e)
 
 pub numbered_length : (line first : ℕ) (kinds : List Kind) → length (numbered line first kinds) ≡ length kinds
 numbered_length line first [] = refl

@@ -1,5 +1,6 @@
 -- A board that is being generated may get the next domain, line or device.
-use Rattle.std.proofs.Common.{◌≡◌, ℕ, ◌+◌, ◌*◌, ◌<◌, ◌≤◌, ◌==◌, Bool, true, false, cond, not, None, List, [], ◌∷◌, ◌++◌, length, All, IsSome, refl, sym, ap, subst, ◌∙◌, arith}
+use Rattle.std.proofs.Common.{◌≡◌, ℕ, ◌+◌, ◌*◌, ◌<◌, ◌≤◌, ◌==◌, Bool, true, false, cond, not, None, List, [], ◌∷◌, ◌++◌}
+use Rattle.std.proofs.Common.{length, All, IsSome, refl, sym, ap, subst, ◌∙◌, arith}
 use Rattle.std.specs.List.{list_any}
 use Rattle.std.proofs.lemmas.List.{length-append, append_assoc}
 use Rattle.std.proofs.lemmas.List.Elements.{All-append}
@@ -64,7 +65,8 @@ abbrev device_of : ℕ → ℕ → Kind → DeviceDef
 device_of dev line kind = record { dev = record { 0 = dev }; line = record { 0 = line }; kind = kind; held = false; forgets = false }
 
 pub device_grows : (a b : BoardSeen) (line first devices n x : ℕ) (kind : Kind) → b ≡ with_devices a line first n x
-    → IsBoard b → ((wakes : Bool) → fits_wakes wakes kind ≡ true) → has_line a.lines (record { 0 = line }) ≡ true → 1 ≤ first → first + devices ≤ 256 → n < devices
+    → IsBoard b → ((wakes : Bool) → fits_wakes wakes kind ≡ true) → has_line a.lines (record { 0 = line }) ≡ true
+    → 1 ≤ first → first + devices ≤ 256 → n < devices
     → length a.devices + 1 ≡ first → All (λ e. e.dev.0 < first + n) b.devices
     → IsBoard (record b { devices = b.devices ++ device_of (first + n) line kind ∷ [] })
 device_grows a b line first devices n x kind is board untold there some few within count rises =

@@ -44,7 +44,8 @@ set_kept b version cpus window limit log board some spurious logged entries line
       entries = entries;
       domains = board.domains;
       lines = lines;
-      devices = each_from (IsDeviceAfter b) (IsDeviceAfter next) (λ earlier x p. record { number = p.number; rises = p.rises; line = p.line; thread = p.thread })
+      devices = each_from (IsDeviceAfter b) (IsDeviceAfter next)
+          (λ earlier x p. record { number = p.number; rises = p.rises; line = p.line; thread = p.thread })
           b.devices board.devices;
       told = board.told;
       runs = board.runs;
@@ -81,7 +82,8 @@ pub spurious_kept : (b : BoardSeen) (window limit : ℕ) → IsBoard b → IsWel
 spurious_kept b window limit board fits = counts_kept b b.version window limit b.log board fits (board.some_log, board.small_log) board.entries
 
 pub version_kept : (b : BoardSeen) (version : ℕ) → IsBoard b → IsBoard (record b { version = version })
-version_kept b version board = counts_kept b version b.window b.limit b.log board (board.small_window, board.limit) (board.some_log, board.small_log) board.entries
+version_kept b version board = counts_kept b version b.window b.limit b.log board (board.small_window, board.limit)
+    (board.some_log, board.small_log) board.entries
 
 -- ---- the log limit
 

@@ -71,7 +71,8 @@ one_call whose c b old h off = record {
   whose_is = off;
 }
 
-call_more : (whose : Writer) (c : CallWords) (b : BoardSeen) → has_old_row (call_of_words c) ≡ true → IsOldBoard b whose → IsOldBoard (with_call whose c b) whose
+call_more : (whose : Writer) (c : CallWords) (b : BoardSeen) → has_old_row (call_of_words c) ≡ true → IsOldBoard b whose
+    → IsOldBoard (with_call whose c b) whose
 call_more (writers.Runs dev part) c b old h = absurd (let no : true ≡ false = h.whose_is in cc)
 call_more writers.Nobody c b old h = one_call writers.Nobody c b old h refl
 call_more writers.Driver c b old h = one_call writers.Driver c b old h refl
@@ -82,7 +83,8 @@ version_of_call writers.Driver c b = refl
 version_of_call (writers.Runs dev part) c b = refl
 
 -- the first statement makes a board with nothing in it
-first : (past : List Statement) (version : _) → past ≡ [] → IsOldBoard (board_of (statements.Board version ∷ past)) (writer_of (statements.Board version ∷ past))
+first : (past : List Statement) (version : _) → past ≡ []
+    → IsOldBoard (board_of (statements.Board version ∷ past)) (writer_of (statements.Board version ∷ past))
 first past version e = subst (λ (p : List Statement). IsOldBoard (board_of (statements.Board version ∷ p)) (writer_of (statements.Board version ∷ p))) (sym e)
     (record { runs = refl; told = refl; calls = All-nil _; kinds = All-nil _; held = All-nil _; whose_is = refl })
 

@@ -171,7 +171,8 @@ no_new version word early h = by (is word (codes "moment")) refl h
     not_listed true false e f = absurd cc
     not_listed false runs e f = refl
 
-    by : (t : Bool) → is word (codes "moment") ≡ t → cond t (not (has_moments version)) (list_any (is word) run_words && not (has_runs version)) ≡ false → IsNone word
+    by : (t : Bool) → is word (codes "moment") ≡ t → cond t (not (has_moments version))
+        (list_any (is word) run_words && not (has_runs version)) ≡ false → IsNone word
     by true e h = of_moment word (same_word word (codes "moment") e)
     by false e h = none_of word (not_listed (list_any (is word) run_words) (has_runs version) early h)
 

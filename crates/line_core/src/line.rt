@@ -50,7 +50,8 @@ impl<C: Chip> Model for Line<C> {
       wiring = l.state.fixed.wiring;
     } };
 
-    ghost invariant = { λ l. IsLine l.def l.history.entries l.state.state l.scripts (runs_seen l.state) };
+    ghost invariant = { λ l. IsLine l.def l.history.entries l.state.state l.scripts
+        (runs_seen l.state) };
 }
 
 impl<C: Chip + Drop> Line<C> {

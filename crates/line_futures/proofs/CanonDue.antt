@@ -1,5 +1,6 @@
 -- What is due is read off the canonical state alike.
-use Rattle.std.proofs.Common.{◌≡◌, ℕ, Bool, true, false, not, ◌&&◌, ◌||◌, cond, ◌==◌, ltb, is_some, Option, Some, None, List, option_map, slice_get, refl, ap, ◌∙◌}
+use Rattle.std.proofs.Common.{◌≡◌, ℕ, Bool, true, false, not, ◌&&◌, ◌||◌, cond, ◌==◌, ltb, is_some, Option, Some, None}
+use Rattle.std.proofs.Common.{List, option_map, slice_get, refl, ap, ◌∙◌}
 use Rattle.irq_base.specs.Cell.{signals}
 use Rattle.irq_base.specs.Handlers.{answer_of, has_thread}
 use Rattle.irq_base.specs.declared.calls.Call.{Call}
@@ -55,7 +56,8 @@ use Rattle.run_scripts.specs.declared.rows.RunPlace.{RunPlace}
 use Rattle.run_scripts.specs.declared.rows.Turn.{Turn}
 use Rattle.line_marks.specs.Acts.{killed_if, left_by}
 use Rattle.line_marks.specs.Calls.{clear_by, freed_by, wake_by, ask_edge_by, arm_edge_by, step_by}
-use Rattle.line_marks.specs.CpuDue.{is_held, return_by, note_by, end_with, end_by, begin_or_end_by, handler_or_return_by, in_flow_by, take_by, next_take_by, cpu_due}
+use Rattle.line_marks.specs.CpuDue.{is_held, return_by, note_by, end_with, end_by, begin_or_end_by}
+use Rattle.line_marks.specs.CpuDue.{handler_or_return_by, in_flow_by, take_by, next_take_by, cpu_due}
 use Rattle.line_marks.specs.DriversDue.{opened_by, request_to, driver_due}
 use Rattle.line_marks.specs.Due.{call_or_return_by, due_at_stage, due_of_row, thread_due, thread_return_by}
 use Rattle.line_marks.specs.Facts.{kind_at, serves_in}

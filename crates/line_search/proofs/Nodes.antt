@@ -322,8 +322,10 @@ module _ (def : LineDef) (valid : IsValid def) (g h : List Entry) (legal : IsLeg
             ∙ (ap (λ x. made_of t.desc t.cell x s.aim.waiting s.list s.threads s.asks s.places s.round s.counts.counts s.freeing) r.0.mask
             ∙ (ap (λ (x : Option ℕ). made_of t.desc t.cell t.aim.mask x s.list s.threads s.asks s.places s.round s.counts.counts s.freeing) r.0.waiting
             ∙ (ap (λ (x : ListSeen). made_of t.desc t.cell t.aim.mask t.aim.waiting x s.threads s.asks s.places s.round s.counts.counts s.freeing) list
-            ∙ (ap (λ (x : List (DevNo × ThreadRow)). made_of t.desc t.cell t.aim.mask t.aim.waiting t.list x s.asks s.places s.round s.counts.counts s.freeing) w.0
-            ∙ (ap (λ (x : List (DevNo × AskRow)). made_of t.desc t.cell t.aim.mask t.aim.waiting t.list t.threads x s.places s.round s.counts.counts s.freeing) m.0
+            ∙ (ap (λ (x : List (DevNo × ThreadRow)). made_of t.desc t.cell t.aim.mask t.aim.waiting t.list x s.asks
+            s.places s.round s.counts.counts s.freeing) w.0
+            ∙ (ap (λ (x : List (DevNo × AskRow)). made_of t.desc t.cell t.aim.mask t.aim.waiting t.list t.threads x
+            s.places s.round s.counts.counts s.freeing) m.0
             ∙ (ap (λ (x : PlacesSeen). made_of t.desc t.cell t.aim.mask t.aim.waiting t.list t.threads t.asks x s.round s.counts.counts s.freeing) m.1
             ∙ (ap (λ (x : RoundSeen). made_of t.desc t.cell t.aim.mask t.aim.waiting t.list t.threads t.asks t.places x s.counts.counts s.freeing) round
             ∙ (ap (λ (x : Counts). made_of t.desc t.cell t.aim.mask t.aim.waiting t.list t.threads t.asks t.places t.round x s.freeing) counts

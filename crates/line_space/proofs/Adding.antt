@@ -118,7 +118,8 @@ module _ {def : LineDef} {g : List Entry} {l : LineStateSeen} {scripts : List (D
       none_if (Some e) h = absurd (true≢false h)
 
       by : (b : Bool) → is_due_in def l.state scripts a ≡ b → all_steps def g (filter (is_due_in def l.state scripts) xs) ≡ all_steps def g xs
-          → all_steps def g (cond b (a ∷ filter (is_due_in def l.state scripts) xs) (filter (is_due_in def l.state scripts) xs)) ≡ steps_of def g a ++ all_steps def g xs
+          → all_steps def g (cond b (a ∷ filter (is_due_in def l.state scripts) xs)
+          (filter (is_due_in def l.state scripts) xs)) ≡ steps_of def g a ++ all_steps def g xs
       by true is rest = ap (λ (x : List (Entry × List ℕ)). steps_of def g a ++ x) rest
       by false is rest =
           let none : next_past def g a ≡ None = sym (due_again read a) ∙ none_if (due_by def l.state scripts a) is in

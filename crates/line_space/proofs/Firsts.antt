@@ -49,7 +49,8 @@ pub reached_is : (def : LineDef) (ws : List ℕ) → IsReachedBy (IsDue def) (no
 reached_is def ws r = (r.0, path_is_legal def r.0 r.1, sym r.2, r.3)
 
 -- the steps after the past that was reached are those after each path with these numbers
-pub steps_all : (def : LineDef) → IsValid def → HasValidRuns def → NeverWaits def → (ws : List ℕ) → IsReached def ws → (scripts : List (DriverNo × RowSeen)) → AreScripts def scripts
+pub steps_all : (def : LineDef) → IsValid def → HasValidRuns def → NeverWaits def → (ws : List ℕ) → IsReached def ws
+    → (scripts : List (DriverNo × RowSeen)) → AreScripts def scripts
     → (found new : List (Entry × List ℕ)) (asked : List Actor) → found ≡ []
     → ((past : List Entry) → IsLegalPast def past → ws ≡ node def past
     → asked ≡ actors_by def (state_of def past).desc.flow (taker_of (state_of def past)) (drivers_in def.calls))

@@ -101,7 +101,8 @@ module _ (def : LineDef) (g : List Entry) where
       by_due None due rest = rest
       by_due (Some e) due rest = once_more e (entries_in (all_steps def g xs)) (new e due) rest
 
-  module _ (valid : IsValid def) (runs : HasValidRuns def) (waits : NeverWaits def) (legal : IsLegalPast def g) (scripts : List (DriverNo × RowSeen)) (are : AreScripts def scripts)
+  module _ (valid : IsValid def) (runs : HasValidRuns def) (waits : NeverWaits def) (legal : IsLegalPast def g)
+      (scripts : List (DriverNo × RowSeen)) (are : AreScripts def scripts)
       (at_places : (r : DriverNo) → IsAt def g r (place_of scripts r) (within_of scripts r)) where
     pub are_steps : AreSteps (IsDue def) (node def) g (all_steps def g
         (actors_by def (state_of def g).desc.flow (taker_of (state_of def g)) (drivers_in def.calls)))

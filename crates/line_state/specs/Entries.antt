@@ -146,7 +146,7 @@ pub record IsActivated (s : StateSeen) : Type 0 where
   pub enabled : s.desc.depth ≡ 0 → s.active ≡ true
   pub linked : is_bare s.list.actions ≡ false → s.active ≡ true
 
--- a step of a call: each count that it raises has room for one more, and what it opens is active
+-- a step of a call: each count that it raises has room for one more
 abbrev pub CanCall : CallStep → StateSeen → Type 0
 CanCall call_steps.Disable s = HasDepth s
 CanCall _ s = Unit {0}

@@ -50,7 +50,8 @@ module _ (def : LineDef) (asked : IsUnwaiting def) where
   pub none_settled : (p : List Entry) → IsLegalPast def p → NoneDue p → IsAtRest def (reverse p)
   none_settled p legal none =
       let back : IsLegal def (reverse p) = subst (λ (x : List Entry). IsLegalPast def x) (sym (reverse-reverse p)) legal in
-      unwaiting_rests def (reverse p) asked.valid asked.runs asked.waits back (λ a one. ap (λ (x : List Entry). next_past def x a) (reverse-reverse p) ∙ at_rest p none a)
+      unwaiting_rests def (reverse p) asked.valid asked.runs asked.waits back
+      (λ a one. ap (λ (x : List Entry). next_past def x a) (reverse-reverse p) ∙ at_rest p none a)
 
   -- a past that is alike leaves the line alike
   pub leaves_alike : (left : Left) (g h : List Entry) → IsLegalPast def g → IsLegalPast def h → node def g ≡ node def h → Leaves def left g → Leaves def left h

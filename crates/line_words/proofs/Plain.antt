@@ -1,6 +1,7 @@
 -- Of a line whose runs make no calls and are told nothing, and whose drivers turn no device's own
 -- interrupt off, no device is ever quiet, and there is nothing to say of the runs.
-use Rattle.std.proofs.Common.{◌≡◌, ℕ, min, Bool, true, false, not, ◌||◌, ◌&&◌, cond, ltb, Option, Some, None, List, [], ◌∷◌, drop, length, refl, sym, ap, ◌∙◌, arith}
+use Rattle.std.proofs.Common.{◌≡◌, ℕ, min, Bool, true, false, not, ◌||◌, ◌&&◌, cond, ltb, Option, Some, None, List, []}
+use Rattle.std.proofs.Common.{◌∷◌, drop, length, refl, sym, ap, ◌∙◌, arith}
 use Rattle.std.specs.List.{list_any}
 use Rattle.irq_base.specs.declared.calls.Call.{Call}
 use Rattle.irq_base.specs.declared.calls.Call.TheVariants as calls
@@ -210,7 +211,8 @@ module _ (def : LineDef) (plain : has_more def ≡ false) where
   row_plain : (past : List Entry) (d : DevNo) → run_row def past d ≡ first_row
   row_plain past d =
       let made : RunPlace → Turn → Turn → RunRow = λ c h t. record { calls = c; handler = h; thread = t } in
-      ap (λ (cs : List Call). made (laid_at cs (thread_calls d past)) (turn_of def parts.Primary past d) (turn_of def parts.Thread past d)) (no_script d parts.Thread)
+      ap (λ (cs : List Call). made (laid_at cs (thread_calls d past)) (turn_of def parts.Primary past d)
+      (turn_of def parts.Thread past d)) (no_script d parts.Thread)
       ∙ (ap (λ (h : Turn). made first_place h (turn_of def parts.Thread past d)) (no_turn parts.Primary past d)
       ∙ ap (λ (t : Turn). made first_place first_turn t) (no_turn parts.Thread past d))
 

@@ -74,7 +74,8 @@ asked_has_valid_runs =
       named_by_drivers = alone (λ c. names_own_device asked_line c.1 ≡ true) _ refl;
       told_arms = λ d told woken. refl;
       answers = All-nil _;
-      threads = λ d. runs_nothing (is_device d (record { dev = record { 0 = 3 }; line = asked_line.line; kind = kinds.Direct; held = false; forgets = false })) d;
+      threads = λ d. runs_nothing (is_device d (record
+          { dev = record { 0 = 3 }; line = asked_line.line; kind = kinds.Direct; held = false; forgets = false })) d;
     }
 
 pub asked_never_waits : NeverWaits asked_line

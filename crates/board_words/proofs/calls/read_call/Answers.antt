@@ -71,7 +71,8 @@ returns-in_err-line-in-SyncHard c =
     (sym c.in_err-line-in-SyncHard.was ∙ c.line-in-SyncHard.ensures))
 
 pub returns-in_ok-line-in-SyncHard : goal.returns-in_ok-line-in-SyncHard
-returns-in_ok-line-in-SyncHard c = rw c.in-SyncHard.is (outcome_ok (λ x. calls.SyncHard x) _ _ _ (sym c.in_ok-line-in-SyncHard.was ∙ c.line-in-SyncHard.ensures))
+returns-in_ok-line-in-SyncHard c = rw c.in-SyncHard.is
+    (outcome_ok (λ x. calls.SyncHard x) _ _ _ (sym c.in_ok-line-in-SyncHard.was ∙ c.line-in-SyncHard.ensures))
 
 pub returns-in_err-line-in-DisableHard : goal.returns-in_err-line-in-DisableHard
 returns-in_err-line-in-DisableHard c =
@@ -80,7 +81,8 @@ returns-in_err-line-in-DisableHard c =
     (sym c.in_err-line-in-DisableHard.was ∙ c.line-in-DisableHard.ensures))
 
 pub returns-in_ok-line-in-DisableHard : goal.returns-in_ok-line-in-DisableHard
-returns-in_ok-line-in-DisableHard c = rw c.in-DisableHard.is (outcome_ok (λ x. calls.DisableHard x) _ _ _ (sym c.in_ok-line-in-DisableHard.was ∙ c.line-in-DisableHard.ensures))
+returns-in_ok-line-in-DisableHard c = rw c.in-DisableHard.is
+    (outcome_ok (λ x. calls.DisableHard x) _ _ _ (sym c.in_ok-line-in-DisableHard.was ∙ c.line-in-DisableHard.ensures))
 
 pub returns-in_err-dev-in-Wake : goal.returns-in_err-dev-in-Wake
 returns-in_err-dev-in-Wake c =

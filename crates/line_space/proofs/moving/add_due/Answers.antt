@@ -86,7 +86,8 @@ kept c left state_is scripts_are =
     let R : List (DriverNo × RowSeen) → Type 0 = λ x. AreScripts c.args.def.now x in
     record {
       tables = subst S (sym state_is) (tables_after m c.make-entry.new.self.state c.make-entry.ensures.state);
-      runs = subst T (sym state_is) (same_runs c.args.def.now c.args.scratch.now.state c.make-entry.new.self c.make-entry.ensures.fixed c.requires.read.kept.runs);
+      runs = subst T (sym state_is) (same_runs c.args.def.now c.args.scratch.now.state c.make-entry.new.self
+          c.make-entry.ensures.fixed c.requires.read.kept.runs);
       scripts = subst R (sym scripts_are) (are_after m);
     }
 
@@ -101,4 +102,5 @@ returns-clause-found c =
     one_added m c.args.found.now c.add.new.found
     (state_told c.args.more c.args.def.now (canon c.make-entry.new.self.state) (places_told c.advance.new.scripts c.args.drivers.now))
     added
-    (words_after m c.make-entry.new.self.state c.make-entry.ensures.state c.args.more c.requires.more c.args.drivers.now c.requires.drivers)) c.add.ensures.found
+    (words_after m c.make-entry.new.self.state c.make-entry.ensures.state c.args.more c.requires.more c.args.drivers.now
+    c.requires.drivers)) c.add.ensures.found

@@ -15,7 +15,8 @@ loop-i-preserved c =
           rows_next (run_told (canon c.args.state.now.state)) (λ d rest. refl) c.args.devices.now c.loop-i.i w.in-Some.device (sym w.in-Some.ensures)
           c.loop-i.words.items c.match-get.words.items
           (ap (λ (v : Vec ℕ Global). v.items) w.words-is
-          ∙ (w.in_ok-extend_from_slice.ensures.items ∙ ap (λ (k : List ℕ). c.loop-i.words.items ++ k) (w.run_words.ensures ∙ ap (λ (r : RunRow). run_words r []) w.run_row.ensures)))
+          ∙ (w.in_ok-extend_from_slice.ensures.items ∙ ap (λ (k : List ℕ). c.loop-i.words.items ++ k)
+          (w.run_words.ensures ∙ ap (λ (r : RunRow). run_words r []) w.run_row.ensures)))
           ∙ c.loop-i.invariant
       | in_default w ↦ none_left c.args.devices.now c.loop-i.i (omega (arith, c.loop-i-test.true, c.len-i-end.ensures)) (sym w.in_default.ensures)
     ]

@@ -12,7 +12,8 @@ returns-in-Some c =
     let s = c.args.state.now.state in
     let d = c.args.dev in
     let there : at s.asks d ≡ Some c.in-Some.row = sym (ap (λ (t : List (DevNo × AskRow)). at t d) c.asks.ensures) ∙ (sym c.get.ensures ∙ c.in-Some.is) in
-    row_there s d c.in-Some.row c.canon_row.result c.is_serving-serving.result c.is_working-handler.result c.is_thread_working-thread.result c.get-facts.result.serving
+    row_there s d c.in-Some.row c.canon_row.result c.is_serving-serving.result c.is_working-handler.result
+    c.is_thread_working-thread.result c.get-facts.result.serving
     there c.canon_row.ensures c.is_serving-serving.ensures c.is_working-handler.ensures c.is_thread_working-thread.ensures
     (ap (λ (f : DeviceFacts). f.serving) (c.get-facts.ensures ∙ ap (λ (t : List (DevNo × DeviceFacts)). facts_at t d) c.facts.ensures))
 

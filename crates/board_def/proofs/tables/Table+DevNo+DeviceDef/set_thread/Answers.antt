@@ -18,7 +18,8 @@ unreachable-requires c =
     let key_of = λ (x : DeviceDef). x.dev in
     let there = row_found key_of same_dev c.args.dev c.self.inside.rows.entries c.self.invariant
     ∙ (device_found c.args.dev (values_of c.self.inside.rows.entries)
-    ∙ (ap (λ (xs : List DeviceDef). find_device xs c.args.dev) c.self.view_is ∙ (sym (device_found c.args.dev c.args.self.now) ∙ (sym c.find.ensures ∙ c.in-Some.is)))) in
+    ∙ (ap (λ (xs : List DeviceDef). find_device xs c.args.dev) c.self.view_is
+    ∙ (sym (device_found c.args.dev c.args.self.now) ∙ (sym c.find.ensures ∙ c.in-Some.is)))) in
     let absent : None ≡ Some c.in-Some.device = sym c.in-Err.ensures.absent ∙ there in
     cc
 
@@ -33,6 +34,7 @@ pub returns : goal.returns
 returns c =
     let entries = c.self.inside.rows.entries in
     let rises = subst (EachAfter (λ earlier x. All (λ e. e.dev.0 < x.dev.0) earlier)) (sym c.self.view_is) c.requires.rises in
-    let there = ap (λ (xs : List DeviceDef). find_device xs c.args.dev) c.self.view_is ∙ (sym (device_found c.args.dev c.args.self.now) ∙ (sym c.find.ensures ∙ c.in-Some.is)) in
+    let there = ap (λ (xs : List DeviceDef). find_device xs c.args.dev) c.self.view_is
+    ∙ (sym (device_found c.args.dev c.args.self.now) ∙ (sym c.find.ensures ∙ c.in-Some.is)) in
     ap values_of c.in-Ok.ensures.entries
     ∙ (thread_put c.args.dev entries c.in-Some.device c.self.invariant rises there ∙ ap (with_thread c.args.dev) c.self.view_is)

@@ -22,7 +22,9 @@ returns-in-Call c = λ past line h e good.
     let words = words_left c.args.words in
     line_taken past line words (statements.Call c.in-Call.call) c.take_call.new.self c.take_call.result e good
     (sym c.is_empty.ensures ∙ c.if-is_empty.false) (sym (c.lacks_header.ensures past h.agrees) ∙ c.if-lacks_header.false)
-    (own_fault past c.args.self.now words None h.agrees (subst (λ n. fault_of_words n words ≡ None) c.version.ensures exact.0)) (sym c.in-Call.is ∙ exact.1) h.sound (c.take_call.ensures past h.agrees)
+    (own_fault past c.args.self.now words None h.agrees
+    (subst (λ n. fault_of_words n words ≡ None) c.version.ensures exact.0)) (sym c.in-Call.is ∙ exact.1) h.sound
+    (c.take_call.ensures past h.agrees)
 
 pub returns-in_default : goal.returns-in_default
 returns-in_default c = λ past line h e good.
@@ -30,4 +32,6 @@ returns-in_default c = λ past line h e good.
     let words = words_left c.args.words in
     line_taken past line words c.in_ok-statement.statement c.take.new.self c.take.result e good
     (sym c.is_empty.ensures ∙ c.if-is_empty.false) (sym (c.lacks_header.ensures past h.agrees) ∙ c.if-lacks_header.false)
-    (own_fault past c.args.self.now words None h.agrees (subst (λ n. fault_of_words n words ≡ None) c.version.ensures exact.0)) exact.1 h.sound (c.take.ensures past h.agrees)
+    (own_fault past c.args.self.now words None h.agrees
+    (subst (λ n. fault_of_words n words ≡ None) c.version.ensures exact.0)) exact.1 h.sound
+    (c.take.ensures past h.agrees)

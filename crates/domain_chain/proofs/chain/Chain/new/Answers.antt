@@ -13,7 +13,8 @@ pub made-requires-clause-open : goal.made-requires-clause-open
 made-requires-clause-open c =
     let kinds = c.args.kinds.now in
     let m = by_messages kinds c.requires.path c.requires.masks (sym c.masks_by_message.ensures ∙ c.if-masks_by_message.true) in
-    open_behind (root_kind kinds) _ _ (root_after kinds _ c.requires.path c.root_of-root.ensures.cell) c.opened.ensures.cell (edges_of kinds c.requires.edges m.1)
+    open_behind (root_kind kinds) _ _ (root_after kinds _ c.requires.path c.root_of-root.ensures.cell)
+    c.opened.ensures.cell (edges_of kinds c.requires.edges m.1)
 
 pub returns-then-masks_by_message : goal.returns-then-masks_by_message
 returns-then-masks_by_message c =

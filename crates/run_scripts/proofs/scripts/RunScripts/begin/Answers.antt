@@ -7,5 +7,8 @@ use Rattle.run_scripts.proofs.scripts.RunScripts.begin.Goals as goal
 
 pub returns-then-self : goal.returns-then-self
 returns-then-self c =
-    subst (λ (s : RunsSeen). s ≡ record s { places = after_begin (length (answers_of s c.args.dev c.args.part)) c.args.dev c.args.part s.places }) c.self.view_is
+    subst (λ (s : RunsSeen). s ≡ record s {
+      places = after_begin (length (answers_of s c.args.dev c.args.part))
+          c.args.dev c.args.part s.places;
+    }) c.self.view_is
     (begin_stands _ (c.self.invariant c.if-self.true) c.args.dev c.args.part)
