@@ -4,11 +4,12 @@
 Three shapes take turns. `wide` has 3 to 8 lines over paths of several levels and up to four drivers; `busy` has one
 line whose target changes while flows are in progress; `small` has 1 to 3 lines and a free script. Two more are had by
 name alone: `hotplug` is `wide` with processors that go offline and come online, `sleep` is one that sleeps, with some
-lines that may wake it. Others are of version 3. Five of them go by bench/random3.py: `runs` have calls in handlers and threads, `pairs`
-handlers that disable and threads that enable, `waits` runs that may wait for themselves, `long` is `runs` with longer
-scripts of drivers, each on one line; `several` have two or three such lines, of any kind. `rare` is made here, of what
-seldom comes in those: runs that disable twice and enable, arm a quiet device, wake, and free other devices. Their picks
-are the actors of a play in random order. With `any` all shapes of version 3 take turns, `rare` twice.
+lines that may wake it. Others are of version 3. Five of them go by bench/random3.py: `runs` have calls in handlers and
+threads, `pairs` handlers that disable and threads that enable, `waits` runs that may wait for themselves, `long` is
+`runs` with longer scripts of drivers, each on one line; `several` have two or three such lines, of any kind. `rare` is
+of what seldom comes in those: runs that disable twice and enable, that arm a quiet device, that serve and wake; `frees`
+has beside that threads that free devices. Their picks are the actors of a play in random order. Of version 3 those of
+which no run waits take turns with `calm`, and all with `any`.
 """
 import random
 
@@ -19,8 +20,9 @@ STYLES = ("", "shared", "shared oneshot", "shared oneshot", "oneshot", "mix", "n
 MOMENTS = (50, 100, 101, 200, 201, 300, 302, 1000)
 SHAPES = ("wide", "busy", "small")
 NAMED = ("hotplug", "sleep")
-OF_RUNS = ("runs", "pairs", "waits", "long", "several", "rare")
-TURNS = (*OF_RUNS, "rare")  # of `any`
+OF_RUNS = ("runs", "pairs", "long", "rare", "waits", "several", "frees")
+CALM = ("runs", "pairs", "long", "rare", "rare")
+TURNS = {"calm": CALM, "any": (*CALM, "waits", "several", "frees")}
 OF_LINES = ("disable", "disable_nosync", "enable", "sync", "affinity", "moment", "sync_hard", "disable_hard")
 ROWS = 1200  # where a play stops; a level line that nobody serves has more
 PICKED = 200  # of a board of version 3 so many steps at most are picked
@@ -341,11 +343,11 @@ class Rare:
     enable the line, so that an interrupt waits to be sent again.
     """
 
-    def __init__(self, r, cpus, busy):
-        self.r, self.cpus, self.busy = r, cpus, busy
-        self.root = r.choice(("latch", "latch", "latch", "pin", "pin", "plain", "plain", *(["lpi"] if busy else ["lpi", "level"])))
+    def __init__(self, r, cpus, busy=False, frees=False):
+        self.r, self.cpus, self.busy, self.frees = r, cpus, busy, frees
+        roots = ["latch"] * 3 + ["pin", "pin", "plain", "plain", "lpi"] + ["level"] * (not busy)
+        self.root = r.choice(roots)
         self.numbers = list(range(1, 1 + r.choice((2, 2, 3))))
-        self.frees = not busy and self.chance(0.5)
         self.flags = " shared" + " oneshot" * self.chance(0.3)
 
     def chance(self, part):
@@ -363,8 +365,9 @@ class Rare:
     def nested(self, dev):
         """A handler disables, and enables again; now and then it enables once more."""
         down = self.some("disable_nosync 1")
-        down += [f"serve {self.other(dev)}" for _ in range(self.r.randint(0, 3) if self.busy else 0)]
-        return self.r.choice(("direct", "check")), down + ["enable 1"] * (down.count("disable_nosync 1") + self.chance(0.2)), []
+        between = [f"serve {self.other(dev)}" for _ in range(self.r.randint(0, 3) if self.busy else 0)]
+        up = ["enable 1"] * (len(down) + self.chance(0.2))
+        return self.r.choice(("direct", "check")), down + between + up, []
 
     def across(self, dev):
         """A handler disables, and its thread enables."""
@@ -432,7 +435,8 @@ class Rare:
         """The text rows."""
         recipes = {dev: self.recipe(dev) for dev in self.numbers}
         options = " unlazy" * (self.root != "plain" and not self.busy and self.chance(0.15))
-        rows = ["board 3", f"cpus {self.cpus}", "spurious 60 50", f"domain root linear 4 {self.root}", f"line 1 root 0{options}"]
+        rows = ["board 3", f"cpus {self.cpus}", "spurious 60 50", f"domain root linear 4 {self.root}"]
+        rows += [f"line 1 root 0{options}"]
         rows += [f"device {dev} 1 {kind}" for dev, (kind, _, _) in recipes.items()]
         for dev, (kind, handler, thread) in recipes.items():
             rows += [f"handler {dev}", *handler] if handler else []
@@ -444,19 +448,21 @@ class Rare:
         return rows
 
 
-def rare_lines(seed, index):
+def rare_lines(seed, index, shape):
     """The text rows of a board of version 3 of one to three lines of what seldom comes."""
-    r = random.Random(f"{seed} {index} rare")
-    if r.random() < 0.5:
-        return Rare(r, 2, True).rows()
+    r = random.Random(f"{seed} {index} {shape}")
+    if shape == "rare" and r.random() < 0.5:
+        return Rare(r, 2, busy=True).rows()
     cpus = r.choice((1, 2, 2, 2, 3))
-    return Joined(r, [Rare(r, cpus, False).rows() for _ in range(r.choice((2, 2, 3)))]).rows()
+    return Joined(r, [Rare(r, cpus, frees=shape == "frees").rows() for _ in range(r.choice((2, 2, 3)))]).rows()
 
 
 def board_of_runs(seed, index, shape):
     """One board of version 3."""
-    made = {"several": several_lines, "rare": rare_lines}
-    first, *rest = made[shape](seed, index) if shape in made else one_line(seed, f"{index} {shape}", shape)
+    if shape in ("rare", "frees"):
+        first, *rest = rare_lines(seed, index, shape)
+    else:
+        first, *rest = several_lines(seed, index) if shape == "several" else one_line(seed, f"{index} {shape}", shape)
     r = random.Random(f"{seed} {index} {shape} picks")
     picks = " ".join(reference.picks_of("\n".join((first, *rest)), r, PICKED))
     rows = [first, "#kernel profile", f"#kernel rows {reference.MOST}", *rest]
@@ -465,8 +471,8 @@ def board_of_runs(seed, index, shape):
 
 def random_board(seed, index, shape=None):
     """The text of one board of a seed, of a shape, or of the one whose turn it is."""
-    if shape == "any":
-        shape = TURNS[index % len(TURNS)]
+    if shape in TURNS:
+        shape = TURNS[shape][index % len(TURNS[shape])]
     if shape in OF_RUNS:
         return board_of_runs(seed, index, shape)
     return Maker(seed, index, shape).text()
