@@ -7,9 +7,9 @@ name alone: `hotplug` is `wide` with processors that go offline and come online,
 lines that may wake it. Others are of version 3. Five of them go by bench/random3.py: `runs` have calls in handlers and
 threads, `pairs` handlers that disable and threads that enable, `waits` runs that may wait for themselves, `long` is
 `runs` with longer scripts of drivers, each on one line; `several` have two or three such lines, of any kind. `rare` is
-of what seldom comes in those: runs that disable twice and enable, that arm a quiet device, that serve and wake; `frees`
-has beside that threads that free devices. Their picks are the actors of a play in random order. Of version 3 those of
-which no run waits take turns with `calm`, and all with `any`.
+of what seldom comes in those: runs that disable twice and enable, that arm a quiet device, serve and wake, and threads
+that free devices; `seldom` is `rare` without these. Their picks are the actors of a play in random order. With `any`
+those of version 3 take turns, and with `calm` those of which no run waits.
 """
 import random
 
@@ -20,9 +20,11 @@ STYLES = ("", "shared", "shared oneshot", "shared oneshot", "oneshot", "mix", "n
 MOMENTS = (50, 100, 101, 200, 201, 300, 302, 1000)
 SHAPES = ("wide", "busy", "small")
 NAMED = ("hotplug", "sleep")
-OF_RUNS = ("runs", "pairs", "long", "rare", "waits", "several", "frees")
-CALM = ("runs", "pairs", "long", "rare", "rare")
-TURNS = {"calm": CALM, "any": (*CALM, "waits", "several", "frees")}
+OF_RUNS = ("runs", "pairs", "waits", "long", "several", "rare", "seldom")
+TURNS = {
+    "any": ("runs", "pairs", "waits", "long", "several", "rare", "rare"),
+    "calm": ("runs", "pairs", "long", "seldom", "seldom"),
+}
 OF_LINES = ("disable", "disable_nosync", "enable", "sync", "affinity", "moment", "sync_hard", "disable_hard")
 ROWS = 1200  # where a play stops; a level line that nobody serves has more
 PICKED = 200  # of a board of version 3 so many steps at most are picked
@@ -343,11 +345,12 @@ class Rare:
     enable the line, so that an interrupt waits to be sent again.
     """
 
-    def __init__(self, r, cpus, busy=False, frees=False):
-        self.r, self.cpus, self.busy, self.frees = r, cpus, busy, frees
+    def __init__(self, r, cpus, busy, may_wait):
+        self.r, self.cpus, self.busy = r, cpus, busy
         roots = ["latch"] * 3 + ["pin", "pin", "plain", "plain", "lpi"] + ["level"] * (not busy)
         self.root = r.choice(roots)
         self.numbers = list(range(1, 1 + r.choice((2, 2, 3))))
+        self.frees = not busy and self.chance(0.5) and may_wait
         self.flags = " shared" + " oneshot" * self.chance(0.3)
 
     def chance(self, part):
@@ -366,8 +369,8 @@ class Rare:
         """A handler disables, and enables again; now and then it enables once more."""
         down = self.some("disable_nosync 1")
         between = [f"serve {self.other(dev)}" for _ in range(self.r.randint(0, 3) if self.busy else 0)]
-        up = ["enable 1"] * (len(down) + self.chance(0.2))
-        return self.r.choice(("direct", "check")), down + between + up, []
+        kind = self.r.choice(("direct", "check"))
+        return kind, down + between + ["enable 1"] * (len(down) + self.chance(0.2)), []
 
     def across(self, dev):
         """A handler disables, and its thread enables."""
@@ -451,15 +454,15 @@ class Rare:
 def rare_lines(seed, index, shape):
     """The text rows of a board of version 3 of one to three lines of what seldom comes."""
     r = random.Random(f"{seed} {index} {shape}")
-    if shape == "rare" and r.random() < 0.5:
-        return Rare(r, 2, busy=True).rows()
+    if r.random() < 0.5:
+        return Rare(r, 2, True, False).rows()
     cpus = r.choice((1, 2, 2, 2, 3))
-    return Joined(r, [Rare(r, cpus, frees=shape == "frees").rows() for _ in range(r.choice((2, 2, 3)))]).rows()
+    return Joined(r, [Rare(r, cpus, False, shape == "rare").rows() for _ in range(r.choice((2, 2, 3)))]).rows()
 
 
 def board_of_runs(seed, index, shape):
     """One board of version 3."""
-    if shape in ("rare", "frees"):
+    if shape in ("rare", "seldom"):
         first, *rest = rare_lines(seed, index, shape)
     else:
         first, *rest = several_lines(seed, index) if shape == "several" else one_line(seed, f"{index} {shape}", shape)
