@@ -398,7 +398,7 @@ static bool let_go(struct actor *actor)
 	raw_spin_unlock_irqrestore(&state_lock, flags);
 	wake_up(&actor->wait);
 	wait_for_gates();
-	return the_board->total != total || the_board->moves != moves;
+	return the_board->total != total || the_board->moves != moves || the_board->full;
 }
 
 static bool step_thread(struct actor *thread)
