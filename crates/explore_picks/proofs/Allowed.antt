@@ -1,8 +1,8 @@
 -- The log of a board of an earlier version may have each row of a history of its lines.
-use Rattle.std.proofs.Common.{◌≡◌, ℕ, ◌==◌, Bool, true, false, not, ◌||◌, ◌&&◌, cond, ltb, true≢false, Option, Some, None, List, [], ◌∷◌, refl, sym, ap, subst, ◌∙◌}
+use Rattle.std.proofs.Common.{◌≡◌, ℕ, ◌==◌, Bool, true, false, not, ◌||◌, ◌&&◌, cond, ltb, true≢false, Option, Some, None, List, [], ◌∷◌, refl, sym, ap, ◌∙◌}
 use Rattle.std.specs.Prelude.{All}
 use Rattle.std.specs.List.{list_any}
-use Rattle.std.proofs.lemmas.List.Elements.{All-head, All-tail, All-nil, All-cons}
+use Rattle.std.proofs.lemmas.List.Elements.{All-head, All-tail}
 use Rattle.irq_base.specs.Handlers.{answer_of, serving_part}
 use Rattle.irq_base.specs.declared.calls.Call.{Call}
 use Rattle.irq_base.specs.declared.calls.Call.TheVariants as calls
@@ -26,7 +26,7 @@ use Rattle.irq_base.specs.declared.numbers.CpuNo.{CpuNo}
 use Rattle.irq_base.specs.declared.numbers.DevNo.{DevNo}
 use Rattle.irq_base.specs.declared.numbers.DriverNo.{DriverNo}
 use Rattle.irq_model.specs.Asks.{begins_run, is_quiet, serves_itself, serving, taken_away, unless_by_script, unserved_asks}
-use Rattle.irq_model.specs.Due.{calls_by, due_of}
+use Rattle.irq_model.specs.Due.{due_of}
 use Rattle.irq_model.specs.Kinds.{is_handled, is_serve, made_by, quiets, serves_this, turns_off, turns_on}
 use Rattle.irq_model.specs.Legal.{IsDue, IsLegalPast}
 use Rattle.irq_model.specs.Lines.{is_device, is_edge_line, is_held, kind_in, kind_of, run_script, script_in}
@@ -34,7 +34,7 @@ use Rattle.irq_model.specs.Next.{ask_makes_edge}
 use Rattle.irq_model.specs.Places.{before, since}
 use Rattle.irq_model.specs.Rounds.{at_work, flow, is_cpu}
 use Rattle.irq_model.specs.RunLaws.{is_in_run}
-use Rattle.irq_model.specs.Runs.{answer_of_run_now, is_that_part, makes_calls, met_by, served_by_run, serves_by_word, told_of}
+use Rattle.irq_model.specs.Runs.{is_that_part, makes_calls, met_by, served_by_run, serves_by_word, told_of}
 use Rattle.board_words.specs.Versions.{has_runs}
 use Rattle.irq_laws.proofs.ImpliesCall.{Row, step_row, unlink, free_clear, freed, disable, disable_clear, disable_synced, nosync, enable, sync_clear, synced}
 use Rattle.irq_laws.proofs.ImpliesCall.{hard, hard_disable, hard_disable_clear, wake, quiet, arm, serve}
