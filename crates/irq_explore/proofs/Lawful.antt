@@ -4,16 +4,18 @@ use Rattle.std.proofs.Common.{Vec, Global, length, map, slice_get, reverse, code
 use Rattle.std.specs.List.{AllZip, filter, join_with_byte}
 use Rattle.std.specs.Option.{option_map}
 use Rattle.std.proofs.lemmas.Bool.{and_parts, ltb-true, ne_eqb, eqb-true}
-use Rattle.std.proofs.lemmas.List.{reverse-reverse}
+use Rattle.std.proofs.lemmas.List.{length-map, reverse-reverse}
 use Rattle.std.proofs.lemmas.List.Elements.{All-cons, All-head, All-nil, All-tail}
 use Rattle.std.proofs.lemmas.Option.{same_Some, slice_get-map}
 use Rattle.board_def.specs.Layout.{layout_of}
 use Rattle.board_def.specs.LineOf.{line_defs_of, line_of_row}
 use Rattle.board_def.specs.Rules.{has_line}
 use Rattle.board_def.specs.Seen.{BoardSeen}
+use Rattle.board_def.specs.Unnamed.{defs_of, leaf_of, leaves_of}
 use Rattle.board_def.specs.declared.rows.LineRow.{LineRow}
 use Rattle.board_report.proofs.Printable.{printable, turned}
 use Rattle.board_words.specs.Versions.{has_runs}
+use Rattle.domain_rules.proofs.Placed.{laid_all}
 use Rattle.domain_rules.specs.declared.layouts.Placement.{Placement}
 use Rattle.domain_rules.specs.declared.layouts.Placement.TheVariants as placements
 use Rattle.irq_base.specs.Seen.{HistorySeen}
@@ -34,7 +36,6 @@ use Rattle.log_read.specs.Adding.{IsPlaceOf}
 use Rattle.log_read.specs.LogOf.{IsRowOn, LineEntry, Tell, begins_with_hash, entries_of, entries_on, is_feed}
 use Rattle.log_read.specs.LogOf.{is_passed_over, is_whole, onto_first, rows_of, saying}
 use Rattle.log_read.specs.Versions.{may_have, needs_runs}
-use Rattle.log_text.proofs.Levels.{layout_length}
 use Rattle.log_text.proofs.Splitting.{are_above, row_within, row_words}
 use Rattle.log_text.specs.EntryWords.{IsPrintable}
 use Rattle.log_text.specs.Formed.{HasSmallNumbers, IsSmall, IsWritable}
@@ -224,15 +225,20 @@ there_at [] i within = absurd (omega (arith, within))
 there_at (x ∷ xs) zero within = (x, refl)
 there_at (x ∷ xs) (suc i) within = there_at xs i (omega (arith, within))
 
+-- there is a place in the layout for each line
+layout_length : (b : BoardSeen) → length (layout_of b) ≡ length b.lines
+layout_length b = laid_all (defs_of b.domains) [] (leaves_of b.lines) ∙ length-map b.lines leaf_of
+
 -- the place of a line that the board has
 place_of : (lines : List LineRow) (line : LineNo) → has_line lines line ≡ true → (i : ℕ) × IsPlaceOf lines line i × (i < length lines)
 place_of [] line there = cc
-place_of (row ∷ rows) line there = by (eqb row.line.0 line.0) refl
+place_of (row ∷ rows) line there = by (eqb row.line.0 line.0) refl (place_of rows line)
   where
-    by : (t : Bool) → eqb row.line.0 line.0 ≡ t → (i : ℕ) × IsPlaceOf (row ∷ rows) line i × (i < length (row ∷ rows))
-    by true is = (0, (row, refl, ap line_no (eqb-true row.line.0 line.0 is)), omega (arith))
-    by false is =
-        let rest = place_of rows line (sym (ap (λ t. t || has_line rows line) is) ∙ there) in
+    by : (t : Bool) → eqb row.line.0 line.0 ≡ t → (has_line rows line ≡ true → (i : ℕ) × IsPlaceOf rows line i × (i < length rows))
+        → (i : ℕ) × IsPlaceOf (row ∷ rows) line i × (i < length (row ∷ rows))
+    by true is behind = (0, (row, refl, ap line_no (eqb-true row.line.0 line.0 is)), omega arith)
+    by false is behind =
+        let rest = behind (sym (ap (λ t. t || has_line rows line) is) ∙ there) in
         (suc rest.0, rest.1, omega (arith, rest.2))
 
 pub lawful : (states : ℕ) (b : BoardSeen) (line : LineNo) (wanted : Wanted) (answer : Answer) → Answered states b line wanted answer
@@ -240,7 +246,7 @@ pub lawful : (states : ℕ) (b : BoardSeen) (line : LineNo) (wanted : Wanted) (a
 lawful states b line wanted (answers.Found v) answered there number printable small own =
     let o = place_of b.lines line there in
     let row = o.1.0 in
-    let placed = there_at (layout_of b) o.0 (omega (arith, o.2, layout_length b (layout_of b) refl)) in
+    let placed = there_at (layout_of b) o.0 (omega (arith, o.2, layout_length b)) in
     checks states b line wanted (answers.Found v) answered v.items refl there number (all_writable v.items printable small)
     (found_allowed states b row o.0 own o.1.1 placed.0 wanted v (answered o.0 row placed.0 o.1.1 o.1.2 placed.1))
 lawful states b line wanted answers.Never answered there number printable small own = tt
