@@ -1,9 +1,9 @@
 -- A log that was found is lawful: its text is that of a log of the board, on which `check` says so.
-use Rattle.std.proofs.Common.{◌≡◌, ℕ, zero, suc, ◌<◌, Bool, true, false, not, ◌&&◌, ◌||◌, cond, eqb, ltb, Some, None, List, [], ◌∷◌, ◌++◌}
+use Rattle.std.proofs.Common.{◌≡◌, ℕ, zero, suc, ◌<◌, Bool, true, false, not, ◌&&◌, ◌||◌, cond, eqb, Some, None, List, [], ◌∷◌}
 use Rattle.std.proofs.Common.{Vec, Global, length, map, slice_get, reverse, codes, All, refl, sym, ap, subst, ◌∙◌, append_assoc, arith}
 use Rattle.std.specs.List.{AllZip, filter, join_with_byte}
 use Rattle.std.specs.Option.{option_map}
-use Rattle.std.proofs.lemmas.Bool.{and_parts, ltb-true, ne_eqb, eqb-true}
+use Rattle.std.proofs.lemmas.Bool.{eqb-true}
 use Rattle.std.proofs.lemmas.List.{length-map, reverse-reverse}
 use Rattle.std.proofs.lemmas.List.Elements.{All-cons, All-head, All-nil, All-tail}
 use Rattle.std.proofs.lemmas.Option.{same_Some, slice_get-map}
@@ -33,10 +33,10 @@ use Rattle.log_check.specs.Judging.{logs_of}
 use Rattle.log_check.specs.Verdicts.{ChecksLog, JudgedAt, JudgedLine}
 use Rattle.log_check.specs.declared.verdict.Verdict.TheVariants as verdicts
 use Rattle.log_read.specs.Adding.{IsPlaceOf}
-use Rattle.log_read.specs.LogOf.{IsRowOn, LineEntry, Tell, begins_with_hash, entries_of, entries_on, is_feed}
-use Rattle.log_read.specs.LogOf.{is_passed_over, is_whole, onto_first, rows_of, saying}
+use Rattle.log_read.specs.LogOf.{IsRowOn, LineEntry, Tell, entries_of, entries_on}
+use Rattle.log_read.specs.LogOf.{is_passed_over, is_whole, rows_of, saying}
 use Rattle.log_read.specs.Versions.{may_have, needs_runs}
-use Rattle.log_text.proofs.Splitting.{are_above, row_within, row_words}
+use Rattle.log_text.proofs.Splitting.{row_within, row_words}
 use Rattle.log_text.specs.EntryWords.{IsPrintable}
 use Rattle.log_text.specs.Formed.{HasSmallNumbers, IsSmall, IsWritable}
 use Rattle.log_text.specs.Rows.{entry_text, history_text}
