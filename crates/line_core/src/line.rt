@@ -6,7 +6,7 @@ ghost use Rattle.irq_model.specs.Lines.{serves};
 ghost use Rattle.irq_model.specs.Signal.{target};
 ghost use Rattle.irq_model.specs.Up.{is_up};
 ghost use Rattle.irq_model.specs.Valid.{IsValid};
-ghost use Rattle.irq_model.specs.ValidRuns.{HasValidRuns, NeverWaits};
+ghost use Rattle.irq_model.specs.ValidRuns.{HasValidRuns};
 ghost use Rattle.irq_laws.specs.Driven.{cell_after};
 ghost use Rattle.callbacks.specs.Heard.{Heard};
 ghost use Rattle.irq_line.specs.Answers.{Answers};
@@ -62,7 +62,6 @@ impl<C: Chip + Drop> Line<C> {
     pub fn new(alloc: Global, def: &LineDef, chip: C) -> Result<Line<C>, NoMemory>
         requires valid { IsValid def.now }
         requires runs { HasValidRuns def.now }
-        requires waits { NeverWaits def.now }
         requires cell { C.cell chip
             ≡ fresh_cell def.now.trigger def.now.keeps def.now.recalls def.now.retriggers
             (serves def.now) }
