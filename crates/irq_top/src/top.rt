@@ -109,7 +109,10 @@ fn is_printed(ending: Ending) -> bool
     ensures { result ≡ is_printed ending }
 {
     match ending {
-        Ending::Done | Ending::Unlawful { .. } | Ending::Malformed { .. } => true,
+        Ending::Done
+        | Ending::Unlawful { .. }
+        | Ending::Malformed { .. }
+        | Ending::Hung { .. } => true,
         _ => false,
     }
 }

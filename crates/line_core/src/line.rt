@@ -15,6 +15,7 @@ ghost use Rattle.irq_line.specs.Memory.{WantsMemory};
 ghost use Rattle.line_core.specs.Blocking.{freed_in, blocks_by};
 ghost use Rattle.line_core.specs.Room.{HasRoom, IsFullOf, RoomFor, links_next};
 
+use crate::hanging::lowest_hung;
 use crate::room::make_place;
 use callbacks::Hears;
 use irq_base::{Actor, Blocks, Chip, CpuNo, DevNo, History, LineDef, NoMemory};
@@ -258,6 +259,11 @@ impl<C: Chip + Drop> IrqLine for Line<C> {
     }
 
     #[inline(always)]
+    fn spins(&self) -> bool {
+        self.state.spins()
+    }
+
+    #[inline(always)]
     fn taker(&self) -> Option<CpuNo> {
         self.state.taker()
     }
@@ -270,5 +276,9 @@ impl<C: Chip + Drop> IrqLine for Line<C> {
     #[inline(always)]
     fn blocks(&self) -> Blocks {
         blocks_by(&self.state)
+    }
+
+    fn lowest_hung(&self) -> Option<Actor> {
+        lowest_hung(&self.state, &self.scripts)
     }
 }

@@ -183,6 +183,10 @@ impl IrqLine for PlainLine {
         self.looked.flow
     }
 
+    fn spins(&self) -> bool {
+        self.looked.spins
+    }
+
     fn taker(&self) -> Option<CpuNo> {
         self.looked.taker
     }
@@ -193,5 +197,9 @@ impl IrqLine for PlainLine {
 
     fn blocks(&self) -> Blocks {
         self.looked.blocks
+    }
+
+    fn lowest_hung(&self) -> Option<Actor> {
+        self.looked.hung
     }
 }
