@@ -83,6 +83,13 @@ is_printed (endings.Malformed row) = true
 is_printed (endings.Hung line actor) = true
 is_printed _ = false
 
+-- the ending has a row on the error sink
+abbrev pub is_told : Ending → Bool
+is_told endings.Done = false
+is_told (endings.Unlawful line entry) = false
+is_told (endings.Malformed row) = false
+is_told _ = true
+
 -- the ending at which something may have been printed
 abbrev pub is_printing : Ending → Bool
 is_printing endings.WriteFault = true
