@@ -17,7 +17,7 @@ ghost use Rattle.irq_model.specs.Threads.{is_woken, is_running};
 ghost use Rattle.irq_model.specs.Valid.{IsValid};
 ghost use Rattle.irq_model.specs.ValidRuns.{HasValidRuns, NeverWaits};
 ghost use Rattle.irq_model.specs.Waits.{IsAtRest, IsHungPast, IsLowestHungPast};
-ghost use Rattle.irq_model.specs.Waits.{NobodyEndsWaits, NoStandstillPast};
+ghost use Rattle.irq_model.specs.Waits.{NobodyEndsWaits};
 ghost use Rattle.play_laws.specs.Actors.{actors_of, IsOneOf};
 
 /// Only the line's own actors ever have a due entry.
@@ -52,27 +52,19 @@ pub fn unwaiting_rests()
         → HasValidRuns def → NeverWaits def → IsLegal def h → IsHungPast def (reverse h) a → ⊥ }
 {}
 
-/// The processor of the flow in progress has a due entry, or waits for itself.
+/// After a legal history the processor of the flow in progress has a due entry, or waits for itself.
 pub fn flow_goes_on()
-    ensures law { (def : LineDef) (h : List Entry) (c : CpuNo) → HasValidRuns def
-        → flow def (reverse h) ≡ Some c
+    ensures law { (def : LineDef) (h : List Entry) (c : CpuNo) → IsValid def
+        → HasValidRuns def → IsLegal def h → flow def (reverse h) ≡ Some c
         → IsSome (next def h (actors.Cpu c)) ⊎ IsHungPast def (reverse h) (actors.Cpu c) }
-{}
-
-/// No standstill, of a line on whose board others may stand still: if after a legal history neither
-/// a thread nor the flow's processor nor who frees a device has a due entry, whoever isn't done and
-/// has none is hung or held up.
-pub fn no_standstill()
-    ensures law { (def : LineDef) (h : List Entry) → IsValid def → HasValidRuns def
-        → IsLegal def h → NoStandstillPast def (reverse h) }
 {}
 
 /// If after a legal history neither a thread nor the flow's processor has a due entry, and none of
 /// them is hung, no flow is in progress; and where nobody at all is hung, no thread is woken or in
 /// a run.
 pub fn still_is_idle()
-    ensures no_flow { (def : LineDef) (h : List Entry) → HasValidRuns def
-        → ((c : CpuNo) → next def h (actors.Cpu c) ≡ None)
+    ensures no_flow { (def : LineDef) (h : List Entry) → IsValid def → HasValidRuns def
+        → IsLegal def h → ((c : CpuNo) → next def h (actors.Cpu c) ≡ None)
         → ((c : CpuNo) → IsHungPast def (reverse h) (actors.Cpu c) → ⊥)
         → has_flow def (reverse h) ≡ false }
     ensures no_thread { (def : LineDef) (h : List Entry) → IsValid def → HasValidRuns def
