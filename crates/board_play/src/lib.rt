@@ -42,8 +42,8 @@ pub fn parts_are_legal()
         → part line g ≡ [] }
 {}
 
-/// Each history is legal, and the drivers' calls are made in the order of their scripts, over all
-/// lines: every move of an actor keeps this, so it holds of every play.
+/// Each history is legal, the drivers' calls are made in the order of their scripts, over all lines,
+/// and no processor has two flows: every move of an actor keeps this, so it holds of every play.
 pub fn play_keeps()
     ensures step { (board : BoardSeen) (lines : List BoardLine) (a : Actor) (m : Move)
         → IsBoard board → AreKept board lines → due_move board lines a ≡ Some m

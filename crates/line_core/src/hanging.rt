@@ -1,6 +1,7 @@
 //! Who is hung: who waits for himself, at once or through others.
 ghost use Rattle.std.specs.Prelude.{◌≡◌};
 ghost use Rattle.irq_base.specs.declared.lines.LineDef.{LineDef};
+ghost use Rattle.irq_model.specs.ValidRuns.{HasValidRuns};
 ghost use Rattle.line_state.specs.Seen.{IsScripted};
 ghost use Rattle.line_core.specs.Hanging.{is_thread_hung, lowest_hung_by, spinning_in};
 ghost use Rattle.line_core.specs.Hanging.{lowest_hung_thread, wait_of_actor, way_from};
@@ -20,7 +21,7 @@ const LONGEST_WAY: usize = 3;
 /// scripts. Threads come first. It is no driver: a driver that waits for itself does so through the
 /// thread of the device that it frees, and that thread is hung as well.
 pub fn lowest_hung<C: Chip>(state: &LineState<C>, scripts: &Scripts) -> Option<Actor>
-    ensures { (def : LineDef) → IsScripted def state.now
+    ensures { (def : LineDef) → HasValidRuns def → IsScripted def state.now
         → result ≡ lowest_hung_by def state.now.state scripts.now }
 {
     if !state.runs().may_wait() {
@@ -48,7 +49,7 @@ fn lowest_hung_thread<C: Chip>(state: &LineState<C>, scripts: &Scripts) -> Optio
 
 /// The flow's processor, if it has no entry due.
 fn spinning<C: Chip>(state: &LineState<C>) -> Option<CpuNo>
-    ensures { (def : LineDef) → IsScripted def state.now
+    ensures { (def : LineDef) → HasValidRuns def → IsScripted def state.now
         → result ≡ spinning_in def state.now.state }
 {
     if state.spins() { state.in_flow() } else { None }

@@ -157,7 +157,7 @@ impl<C: Chip> LineState<C> {
     /// Whether the processor of the flow in progress has no entry due: a handler of it waits for
     /// the end of the flow.
     pub fn spins(&self) -> bool
-        ensures { (def : LineDef) → IsScripted def self.now
+        ensures { (def : LineDef) → HasValidRuns def → IsScripted def self.now
             → result ≡ spins_in def self.now.state self.now.state.desc.flow }
     {
         if !self.runs.may_wait() {
@@ -172,7 +172,7 @@ impl<C: Chip> LineState<C> {
     /// The device of the lowest number whose thread has an entry due, if there is one. Only where
     /// runs may wait are other threads looked at than the lowest that could step.
     pub fn lowest_thread(&self) -> Option<DevNo>
-        ensures { (def : LineDef) → IsScripted def self.now
+        ensures { (def : LineDef) → HasValidRuns def → IsScripted def self.now
             → result ≡ lowest_due def self.now.state }
     {
         let goes_on = !self.desc.oneshot() || self.desc.flow().is_none();

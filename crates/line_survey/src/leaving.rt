@@ -1,6 +1,7 @@
 //! How a state leaves the line.
 ghost use Rattle.std.specs.Prelude.{◌≡◌, ◌<◌, ◌^◌};
 ghost use Rattle.irq_model.specs.Valid.{IsValid};
+ghost use Rattle.irq_model.specs.ValidRuns.{HasValidRuns};
 ghost use Rattle.device_table.specs.Rows.{at};
 ghost use Rattle.line_state.specs.Seen.{IsScripted};
 ghost use Rattle.line_survey.specs.LeftSeen.{left_seen, standing_seen, unserved_in, unserved_seen};
@@ -57,6 +58,7 @@ fn unserved(def: &LineDef, state: &LineState<Cell>) -> u64
 /// How the state, and the drivers' places in their scripts, leave the line.
 pub(crate) fn left_in(def: &LineDef, state: &LineState<Cell>, scripts: &Scripts) -> Left
     requires valid { IsValid def.now }
+    requires runs { HasValidRuns def.now }
     requires scripted { IsScripted def.now state.now }
     ensures { result ≡ left_seen def.now state.now.state scripts.now }
 {
