@@ -1,5 +1,5 @@
 //! How a play ends at which nobody can move.
-ghost use Rattle.std.specs.Prelude.{◌≡◌, Some, None, List, map};
+ghost use Rattle.std.specs.Prelude.{◌≡◌, map};
 ghost use Rattle.board_core.specs.Hung.{IsEndOf, SaysEnd, stop_of};
 ghost use Rattle.board_core.specs.Seen.{board_lines};
 

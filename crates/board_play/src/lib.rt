@@ -20,8 +20,8 @@ ghost use Rattle.board_def.specs.Seen.{BoardSeen};
 ghost use Rattle.board_play.specs.Current.{current_line};
 ghost use Rattle.board_play.specs.Hanging.{IsUntouched, MayBeDue, NobodyHangs, NobodyMoves};
 ghost use Rattle.board_play.specs.Kept.{AreKept};
-ghost use Rattle.board_play.specs.Lines.{BoardLine, Move, defs_of, find_line, lines_after, lines_of};
-ghost use Rattle.board_play.specs.Lines.{part};
+ghost use Rattle.board_play.specs.Lines.{BoardLine, Move, defs_of, find_line, lines_after};
+ghost use Rattle.board_play.specs.Lines.{lines_of, part};
 ghost use Rattle.board_play.specs.Order.{due_move};
 ghost use Rattle.board_play.specs.Play.{End, Done, Plays};
 
@@ -42,8 +42,9 @@ pub fn parts_are_legal()
         → part line g ≡ [] }
 {}
 
-/// Each history is legal, the drivers' calls are made in the order of their scripts, over all lines,
-/// and no processor has two flows: every move of an actor keeps this, so it holds of every play.
+/// Each history is legal, the drivers' calls are made in the order of their scripts, over all
+/// lines, and no processor has two flows: every move of an actor keeps this, so it holds of every
+/// play.
 pub fn play_keeps()
     ensures step { (board : BoardSeen) (lines : List BoardLine) (a : Actor) (m : Move)
         → IsBoard board → AreKept board lines → due_move board lines a ≡ Some m
@@ -52,9 +53,9 @@ pub fn play_keeps()
         → IsBoard board → Plays board picks g end → AreKept board (lines_of board g) }
 {}
 
-/// No standstill: if none of the board's actors can move, and none is hung on any line, every script
-/// is at its end, and each line is settled; more than that, it is at rest: no flow is in progress,
-/// and no thread is to run or in a run.
+/// No standstill: if none of the board's actors can move, and none is hung on any line, every
+/// script is at its end, and each line is settled; more than that, it is at rest: no flow is in
+/// progress, and no thread is to run or in a run.
 pub fn no_standstill()
     ensures complete { (board : BoardSeen) (lines : List BoardLine) → IsBoard board
         → AreKept board lines → NobodyMoves board lines → NobodyHangs lines → (r : DriverNo)

@@ -27,8 +27,8 @@ pub record KeepsChain (b : BoardSeen) (g : List ChainEntry) : Type 0 where
 abbrev pub ChainHeadline : BoardSeen → List ChainEntry → List LineReport → Type 0
 ChainHeadline b = IsDone b (chain_order b) b.picks (KeepsChain b)
 
--- the board was played until nobody could move, and some actor is hung: a chain in which processor 0
--- spins stays open
+-- the board was played until nobody could move, and some actor is hung: a chain in which processor
+-- 0 spins stays open
 abbrev pub ChainHung : BoardSeen → List ChainEntry → List LineReport → LineNo → Actor → Type 0
 ChainHung b = IsHung b (chain_order b) b.picks (KeepsChain b)
 
@@ -42,8 +42,8 @@ abbrev pub ChainCut : BoardSeen → List ChainEntry → List LineReport → Type
 ChainCut b = IsCut b (chain_order b) b.picks (KeepsChain b)
 
 -- what the reports hand out, by how the play ended: one of these four
-abbrev pub ChainHandsOut : BoardSeen → List ChainEntry → Result PlayEnd StepRefused → List LineReport
-    → Type 0
+abbrev pub ChainHandsOut : BoardSeen → List ChainEntry → Result PlayEnd StepRefused
+    → List LineReport → Type 0
 ChainHandsOut b = HandsOut b (chain_order b) b.picks (KeepsChain b)
 
 -- The step that was refused memory: whose it was, and on which child. An enter and an exit want

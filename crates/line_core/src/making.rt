@@ -10,8 +10,8 @@ use irq_line::MakesLine;
 use line_cell::Cell;
 use std::alloc::Global;
 
-/// Makes a line of every valid definition with valid runs, whatever its virq, over the cell that the
-/// definition describes.
+/// Makes a line of every valid definition with valid runs, whatever its virq, over the cell that
+/// the definition describes.
 #[derive(Clone, Copy)]
 pub struct MakesCellLine;
 

@@ -57,10 +57,9 @@ fn unserved(def: &LineDef, state: &LineState<Cell>) -> u64
 
 /// How the state, and the drivers' places in their scripts, leave the line.
 pub(crate) fn left_in(def: &LineDef, state: &LineState<Cell>, scripts: &Scripts) -> Left
-    requires valid { IsValid def.now }
-    requires runs { HasValidRuns def.now }
-    requires scripted { IsScripted def.now state.now }
-    ensures { result ≡ left_seen def.now state.now.state scripts.now }
+    requires { IsValid def.now }
+    ensures { HasValidRuns def.now → IsScripted def.now state.now
+        → result ≡ left_seen def.now state.now.state scripts.now }
 {
     let edge = def.trigger == Trigger::Edge;
     Left {

@@ -48,12 +48,12 @@ impl Reader {
     /// `NoMemory`.
     pub(crate) fn left(&mut self, def: &LineDef, words: &[u32]) -> Result<Left, NoMemory>
         requires valid { IsValid def.now }
-        requires runs { HasValidRuns def.now }
         requires reader { IsReader def.now self.old }
         requires past { (past : List Entry) × IsLegalPast def.now past
             × (words.now ≡ node def.now past) × (length past ≤ 100000000) }
         ensures reader { IsReader def.now self.new }
-        ensures left { IfOk result (λ left. (past : List Entry) → IsLegalPast def.now past
+        ensures left { IfOk result (λ left. (past : List Entry) → HasValidRuns def.now
+            → IsLegalPast def.now past
             → words.now ≡ node def.now past → IsStill def.now past
             → Leaves def.now left past) }
     {

@@ -2,7 +2,8 @@
 
 use irq_base::Actor;
 
-/// How a line stands on which nobody moves any more: whether something is linked, and whether it is enabled.
+/// How a line stands on which nobody moves any more: whether something is linked, and whether it is
+/// enabled.
 #[derive(Clone, Copy, PartialEq, Eq)]
 pub enum Standing {
     /// No device is linked: the line is shut down (`desc->action` is `NULL`; `irq_shutdown`,

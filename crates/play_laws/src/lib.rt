@@ -52,7 +52,8 @@ pub fn unwaiting_rests()
         → HasValidRuns def → NeverWaits def → IsLegal def h → IsHungPast def (reverse h) a → ⊥ }
 {}
 
-/// After a legal history the processor of the flow in progress has a due entry, or waits for itself.
+/// After a legal history the processor of the flow in progress has a due entry, or waits for
+/// itself.
 pub fn flow_goes_on()
     ensures law { (def : LineDef) (h : List Entry) (c : CpuNo) → IsValid def
         → HasValidRuns def → IsLegal def h → flow def (reverse h) ≡ Some c

@@ -1,5 +1,5 @@
 -- What a worker's attempt comes to.
-use Rattle.std.specs.Prelude.{◌≡◌, ℕ, ◌+◌, ◌≤◌, ◌⊎◌, true, false, ◌&&◌, ◌||◌, Option, Some}
+use Rattle.std.specs.Prelude.{◌≡◌, ℕ, ◌+◌, ◌≤◌, ◌⊎◌, true, ◌&&◌, ◌||◌, Option, Some}
 use Rattle.std.specs.Prelude.{None, Result, Ok, IfErr, List, length, slice_get, slice_set}
 use Rattle.std.specs.Prelude.{if◌then◌else◌}
 use Rattle.irq_base.specs.declared.entries.Actor.TheVariants as actors
