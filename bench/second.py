@@ -1,4 +1,5 @@
-"""The rules of docs/DEFINITIONS.md once more: what is due on a line, and whole plays by `play`, `chained`, `hotplug` and `sleep`.
+"""The rules of docs/DEFINITIONS.md once more: what is due on a line, and whole plays by `play`, `chained`,
+`hotplug` and `sleep`.
 
 It is written from the documents, to be compared with the program and with what cases/ has, and knows nothing of either. All is
 looked up in histories; nothing is kept beside them. An entry is the words of its row, who made it first. Boards with domains
@@ -15,9 +16,12 @@ CONTROLLERS = {
     "level": ("level", "level", False, False, False),
     "eoi": ("level", "eoi", False, False, False),
     "lpi": ("edge", "eoi", True, True, True),
+    "pin": ("edge", "edge", True, True, False),
 }
 # How many entries a call makes, of the calls that make several.
-SEVERAL = {"sync": 2, "disable": 3, "free": 3}
+SEVERAL = {"sync": 2, "disable": 3, "free": 3, "disable_hard": 2}
+# The calls that name a device; the others name a line.
+OF_DEVICES = ("request", "free", "ask", "quiet", "arm", "serve", "wake")
 # All is looked up, so a long play takes long.
 MOST_ROWS = 300
 FLAGS = {"shared": "s", "oneshot": "o", "noauto": "n"}
@@ -79,6 +83,43 @@ def goes_again(e):
     return e[1] == "end" and e[2] == "again"
 
 
+def makes_edge(e):
+    """Whether a device makes an edge, on an edge line."""
+    return e[1] == "ask" and e[-1] != "no" or e[1] == "arm" and e[-1] == "yes"
+
+
+def wakes(dev):
+    """Whether an entry wakes the device's thread."""
+    return lambda e: is_return(e) and e[2:4] == (dev, "wake") or e[1:] == ("wake", dev, "yes")
+
+
+def is_handled(e):
+    """Whether a thread's return answers Handled."""
+    return e[3] == "handled" if len(e) > 3 else e[2] != "0"
+
+
+def place_in(calls, entries):
+    """How many of the calls are complete by the entries that were made for them, and how many entries the next one has made."""
+    complete = 0
+    for call in calls:
+        needs = 1 if entries and entries[0][-1] == "notthere" else SEVERAL.get(call[0], 1)
+        if len(entries) < needs:
+            break
+        entries, complete = entries[needs:], complete + 1
+    return complete, len(entries)
+
+
+def left_of(calls, entries):
+    """The first call that isn't complete, with how many entries it has made; None if there is none."""
+    complete, made = place_in(calls, entries)
+    return (calls[complete], made) if complete < len(calls) else None
+
+
+def times(words):
+    """The words, each as often as its `*N` says."""
+    return [word for word, _, often in (it.partition("*") for it in words) for _ in range(int(often or 1))]
+
+
 def since(past, is_it):
     """What stands after the last such entry; all of it where there is none."""
     return next((past[at + 1 :] for at in range(len(past) - 1, -1, -1) if is_it(past[at])), past)
@@ -86,7 +127,12 @@ def since(past, is_it):
 
 def after_last(past, sets, clears):
     """Whether an entry that sets something stands with none after it that clears it."""
-    return next((bool(sets(e)) for e in reversed(past) if sets(e) or clears(e)), False)
+    for e in reversed(past):
+        if sets(e):
+            return True
+        if clears(e):
+            return False
+    return False
 
 
 @dataclass
@@ -108,7 +154,7 @@ class Line:
     # -- links and depth
 
     def devices(self):
-        return [dev for dev, (line, _) in self.board.devices.items() if line == self.number]
+        return [dev for dev, (line, *_) in self.board.devices.items() if line == self.number]
 
     def linked(self, past):
         found = []
@@ -145,20 +191,23 @@ class Line:
     # -- asks
 
     def unserved(self, past, dev):
-        """The asks after the beginning of the device's last serving run that returned."""
-        runs = {"direct": is_begin, "check": by("t" + dev, "begin"), "null": by("t" + dev, "begin"), "stuck": lambda e: False}
-        begins = runs[self.board.devices[dev][1]]
-        returns = is_return if begins is is_begin else by("t" + dev, "return")
-        begun = served = 0
+        """The asks since the last Serve of the device, and since the beginning of its last run that returned and served."""
+        who, begun, served = "t" + dev, 0, 0
+        in_thread = self.board.serving_part(dev) == "thread"
         for at, e in enumerate(past):
-            if begins(e) and (begins is not is_begin or e[2] == dev):
+            if e[:2] == (who, "begin") if in_thread else is_begin(e) and e[2] == dev:
                 begun = at + 1
-            elif returns(e) and (begins is not is_begin or e[2] == dev):
-                served = begun
-        return sum(1 for e in past[served:] if e[1:] == ("ask", dev))
+            elif (e[:2] == (who, "return") and e[2] != "0") if in_thread else (is_return(e) and e[2] == dev and e[4] != "0"):
+                served = max(served, begun)
+            elif e[1:3] == ("serve", dev):
+                served = at + 1
+        return sum(1 for e in past[served:] if e[1:3] == ("ask", dev))
+
+    def is_quiet(self, past, dev):
+        return after_last(past, lambda e: e[1:3] == ("quiet", dev), lambda e: e[1:3] == ("arm", dev))
 
     def is_high(self, past):
-        return self.trigger == "level" and any(self.unserved(past, dev) for dev in self.devices())
+        return self.trigger == "level" and any(self.unserved(past, dev) for dev in self.devices() if not self.is_quiet(past, dev))
 
     # -- flow, rounds, what waits
 
@@ -214,7 +263,7 @@ class Line:
         for at, e in enumerate(past):
             if is_take(e):
                 sent = False
-            if e[1] == "ask":
+            if makes_edge(e):
                 sent, stored = sent or not masked, stored or masked and self.keeps
             if self.masks(e, past[:at]):
                 masked = True
@@ -247,7 +296,7 @@ class Line:
     # -- threads
 
     def is_woken(self, past, dev):
-        return after_last(past, lambda e: is_return(e) and e[2:4] == (dev, "wake"), by("t" + dev, "begin"))
+        return after_last(past, wakes(dev), by("t" + dev, "begin"))
 
     def is_running(self, past, dev):
         return after_last(past, by("t" + dev, "begin"), by("t" + dev, "done"))
@@ -257,10 +306,7 @@ class Line:
             return False
         linked = since(past, lambda e: is_linked(e) and e[2] == dev)
         finished = lambda e: e[:3] == ("t" + dev, "finish", "cleared")  # noqa: E731
-        return after_last(linked, lambda e: is_return(e) and e[2:4] == (dev, "wake"), finished)
-
-    def is_active(self, past):
-        return any(self.is_woken(past, dev) or self.is_running(past, dev) for dev in self.devices())
+        return after_last(linked, wakes(dev), finished)
 
     # -- scripts
 
@@ -269,28 +315,84 @@ class Line:
 
     def place(self, driver, past):
         """How many of the driver's calls on the line are complete, and how many entries its next one has made."""
-        own, complete = [e for e in past if e[0] == driver], 0
-        for call in self.calls(driver):
-            needs = 1 if own and own[0][-1] == "notthere" else SEVERAL.get(call[0], 1)
-            if len(own) < needs:
-                break
-            own, complete = own[needs:], complete + 1
-        return complete, len(own)
+        return place_in(self.calls(driver), [e for e in past if e[0] == driver])
 
     def due_call(self, driver, past):
         """The driver's first call on the line that isn't complete, with how many entries it has made."""
-        complete, made = self.place(driver, past)
-        calls = self.calls(driver)
-        return (calls[complete], made) if complete < len(calls) else None
+        return left_of(self.calls(driver), [e for e in past if e[0] == driver])
 
-    def is_mutex_held(self, past):
+    # -- runs of handlers and threads
+
+    def told_word(self, past, dev, part):
+        """What the board says a told device's run answers that begins after the past: the next answer, and behind the last nothing."""
+        begins = by("t" + dev, "begin") if part == "thread" else lambda e: is_begin(e) and e[2] == dev
+        answers = self.board.answers.get((part, dev), [])
+        begun = sum(map(begins, past))
+        return answers[begun] if begun < len(answers) else "nothing"
+
+    def run_word(self, past, dev, part):
+        """What a run of the part that begins after the past answers, `claims` among it."""
+        kind = self.board.kind(dev)
+        if kind == "told":
+            return self.told_word(past, dev, part)
+        if kind in ("null", "stuck", "odd") and part == "handler":
+            return "wake" if kind == "null" else "nothing"
+        recognises = "wake" if kind == "check" and part == "handler" else "handled"
+        return recognises if self.unserved(past, dev) else "nothing"
+
+    def returned(self, past, dev, part, run):
+        """The answer of a run that began after the past, and how many asks it serves, by what came since its begin."""
+        word = self.run_word(past, dev, part)
+        serves = part == self.board.serving_part(dev) and (word == "handled" or self.board.kind(dev) == "odd")
+        serves = serves and ("serve", dev) not in self.board.run_calls(part, dev)
+        serves = serves and not any(e[1:3] == ("serve", dev) for e in run)
+        return "handled" if word == "claims" else word, str(self.unserved(past, dev) if serves else 0)
+
+    def call_of_run(self, who, past):
+        """The call that a run of the thread or of the processor's handler has left, with how many entries it has made."""
+        if who[0] == "t":
+            if not self.is_running(past, who[1:]) or any(map(by(who, "return"), since(past, by(who, "begin")))):
+                return None
+            return left_of(self.board.run_calls("thread", who[1:]), [e for e in since(past, by(who, "begin")) if e[0] == who])
+        dev, run = self.at_work(past), since(past, is_begin)
+        if self.flow(past) != who or not dev or self.run_word(past[: len(past) - len(run) - 1], dev, "handler") == "nothing":
+            return None
+        return left_of(self.board.run_calls("handler", dev), [e for e in run if e[0] == who])
+
+    def mutex_holder(self, past):
+        """Who made the last unlink, if it has no Freed of the same."""
         freed = set()
         for e in reversed(past):
             if is_unlink(e):
-                return e[0] not in freed
+                return None if e[0] in freed else e[0]
             if e[1] == "freed":
                 freed.add(e[0])
-        return False
+        return None
+
+    # -- who waits for whom
+
+    def waits_for(self, who, past):
+        """The actors that an actor waits for that has something left to do here, and no entry due."""
+        if self.due(who, past):
+            return set()
+        if left := self.due_call(who, past) if who[0] == "d" else self.call_of_run(who, past):
+            return self.in_the_way(*left, past)
+        return {self.flow(past)} - {None} if who[0] == "t" and self.is_running(past, who[1:]) else set()
+
+    def reached(self, who, past):
+        """All that the actor waits for, at once or through others."""
+        found, left = set(), [who]
+        while left:
+            new = self.waits_for(left.pop(), past) - found
+            found |= new
+            left += new
+        return found
+
+    def is_hung(self, who, past):
+        return who in self.reached(who, past)
+
+    def is_held_up(self, who, past):
+        return any(self.is_hung(other, past) for other in self.reached(who, past))
 
     # -- the note
 
@@ -309,7 +411,7 @@ class Line:
             elif is_linked(e):
                 counts["irqs"] = counts["unhandled"] = 0
             elif e[0][0] == "t" and e[1] == "return":
-                counts["handled"] += e[2] != "0"
+                counts["handled"] += is_handled(e)
         return counts
 
     def judge(self, counts, past):
@@ -348,9 +450,11 @@ class Line:
         if not self.is_running(past, dev):
             return (who, "begin") if self.is_woken(past, dev) else None
         run = since(past, by(who, "begin"))
+        if left := self.call_of_run(who, past):
+            return self.due_of_call(who, *left, past)
         if not any(map(by(who, "return"), run)):
-            before = past[: len(past) - len(run) - 1]
-            return who, "return", str(self.unserved(before, dev))
+            answer, served = self.returned(past[: len(past) - len(run) - 1], dev, "thread", run)
+            return who, "return", served, *(() if (answer == "handled") == (served != "0") else (answer,))
         if self.is_oneshot(past) and not any(map(by(who, "finish"), since(run, by(who, "return")))):
             return None if self.flow(past) else self.finish(who, dev, past)
         return who, "done"
@@ -371,18 +475,14 @@ class Line:
         return who, "take", way, "busy" if flow else "off" if self.is_off(past) or not self.linked(past) else "handle"
 
     def due_in_flow(self, who, past):
+        if left := self.call_of_run(who, past):
+            return self.due_of_call(who, *left, past)
         if dev := self.at_work(past):
             run = since(past, is_begin)
-            return who, "return", dev, *self.answer(dev, self.unserved(past[: len(past) - len(run) - 1], dev))
+            return who, "return", dev, *self.returned(past[: len(past) - len(run) - 1], dev, "handler", run)
         if ahead := self.ahead(past):
             return who, "begin", ahead[0]
         return self.end(who, past)
-
-    def answer(self, dev, unserved):
-        kind = self.board.devices[dev][1]
-        if kind == "null" or kind == "check" and unserved:
-            return "wake", "0"
-        return ("handled", str(unserved)) if kind == "direct" and unserved else ("nothing", "0")
 
     def end(self, who, past):
         note = self.note(past)
@@ -399,34 +499,64 @@ class Line:
 
     def due_of_driver(self, who, past):
         due = self.due_call(who, past)
-        if due is None:
-            return None
-        (verb, *words), made = due
-        if (verb, made) in (("disable", 1), ("sync", 0), ("free", 1)):
-            return None if self.flow(past) else (who, "hardclear")
-        if (verb, made) in (("disable", 2), ("sync", 1)):
-            return None if self.is_active(past) else (who, "synced")
-        if (verb, made) == ("free", 2):
-            dev = words[0]
-            return None if self.is_woken(past, dev) or self.is_running(past, dev) else (who, "freed", dev)
-        if verb in ("free", "request") and self.is_mutex_held(past):
-            return None
-        return self.first_entry(who, verb, words, past)
+        return self.due_of_call(who, *due, past) if due else None
 
-    def first_entry(self, who, verb, words, past):
-        if verb == "free":
+    def due_of_call(self, who, call, made, past):
+        """The next entry of a call that has made so many; None if it waits."""
+        return self.entry_of_call(who, call, made, past) if not self.in_the_way(call, made, past) else None
+
+    def step_of_call(self, call, made):
+        """The verb of the call's next entry."""
+        verbs = {"sync": ["hardclear", "synced"], "sync_hard": ["hardclear"], "disable_hard": ["disable", "hardclear"]}
+        verbs |= {"disable": ["disable", "hardclear", "synced"], "free": ["unlink", "hardclear", "freed"], "disable_nosync": ["disable"]}
+        return verbs[call[0]][made] if call[0] in verbs else call[0]
+
+    def in_the_way(self, call, made, past):
+        """The actors that the call's next entry waits for."""
+        verb = self.step_of_call(call, made)
+        if verb == "hardclear":
+            return {self.flow(past)} - {None}
+        if verb in ("unlink", "request"):
+            return {self.mutex_holder(past)} - {None}
+        devices = self.devices() if verb == "synced" else [call[1]] if verb == "freed" else []
+        return {"t" + dev for dev in devices if self.is_woken(past, dev) or self.is_running(past, dev)}
+
+    def entry_of_call(self, who, call, made, past):
+        verb, words = self.step_of_call(call, made), call[1:]
+        if verb in ("disable", "hardclear", "synced"):
+            return who, verb
+        if verb in ("freed", "quiet"):
+            return who, verb, words[0]
+        if verb in ("ask", "arm", "serve", "wake"):
+            return who, verb, words[0], *getattr(self, verb + "_answer")(words[0], past)
+        return self.other_entry(who, verb, words, past)
+
+    def other_entry(self, who, verb, words, past):
+        if verb == "unlink":
             linked = self.linked(past)
-            return who, "unlink", words[0], "notthere" if words[0] not in linked else "last" if len(linked) == 1 else "more"
+            return who, verb, words[0], "notthere" if words[0] not in linked else "last" if len(linked) == 1 else "more"
         if verb == "request":
             flags = "".join(letter for word, letter in FLAGS.items() if word in words) or "-"
-            return who, "request", words[0], flags, *self.request_answer(words[0], flags, past)
+            return who, verb, words[0], flags, *self.request_answer(words[0], flags, past)
         if verb == "enable":
-            return who, "enable", *self.enable_answer(past)
-        if verb == "affinity":
-            return who, "affinity", words[1], *self.affinity_answer(int(words[1]))
-        if verb == "moment":
-            return who, "moment", words[1]
-        return (who, "ask", words[0]) if verb == "ask" else (who, "disable")
+            return who, verb, *self.enable_answer(past)
+        return who, verb, words[1], *(self.affinity_answer(int(words[1])) if verb == "affinity" else ())
+
+    def ask_answer(self, dev, past):
+        """Nothing, where an ask makes an edge; on a level line it counts as one that does."""
+        is_silent = self.is_quiet(past, dev) or "held" in self.board.options(dev) and self.unserved(past, dev)
+        return ("no",) if self.trigger == "edge" and is_silent else ()
+
+    def arm_answer(self, dev, past):
+        rises = self.is_quiet(past, dev) and self.unserved(past, dev) and "forgets" not in self.board.options(dev)
+        return ("yes" if self.trigger == "edge" and rises else "no",)
+
+    def serve_answer(self, dev, past):
+        return (str(self.unserved(past, dev)),)
+
+    def wake_answer(self, dev, past):
+        can = dev in self.linked(past) and self.board.has_thread(dev) and not self.is_woken(past, dev)
+        return ("yes" if can else "no",)
 
     def affinity_answer(self, mask):
         if not mask & (1 << self.board.cpus) - 1:
@@ -467,6 +597,7 @@ class Board:
     def __init__(self, text):
         self.cpus, self.window, self.limit, self.log = 1, 100_000, 99_900, 10_000
         self.domains, self.rows, self.devices, self.drivers, self.calls, self.picks = {}, [], {}, [], [], []
+        self.answers, self.runs, self.run = {}, {}, None
         for row in text.split("\n"):
             if words := row.partition("#")[0].split():
                 self.read(*words)
@@ -477,7 +608,7 @@ class Board:
         there = {line.number for line in self.lines}
         self.scripts = {driver: [] for driver in self.drivers}
         for driver, call in self.calls:
-            line = self.devices[call[1]][0] if call[0] in ("request", "free", "ask") else call[1]
+            line = self.devices[call[1]][0] if call[0] in OF_DEVICES else call[1]
             if line in there:
                 self.scripts[driver].append((line, call))
 
@@ -500,11 +631,34 @@ class Board:
             self.devices[words[0]] = words[1:]
         elif word == "driver":
             self.drivers.append("d" + words[0])
+            self.run = None
+        elif word in ("handler", "thread"):
+            self.run = self.runs.setdefault((word, words[0]), [])
+        elif word == "answers":
+            part = ("thread" if words[1:2] == ("thread",) else "handler", words[0])
+            self.answers[part] = times(words[1 + (part[0] == "thread") :])
         elif word == "picks":
-            for actor, _, times in (it.partition("*") for it in words):
-                self.picks += [actor] * int(times or 1)
+            self.picks += times(words)
+        elif word != "board" and self.run is not None:
+            self.run.append((word, *words))
         elif word != "board":
             self.calls.append((self.drivers[-1], (word, *words)))
+
+    def kind(self, dev):
+        return self.devices[dev][1]
+
+    def options(self, dev):
+        return self.devices[dev][2:]
+
+    def has_thread(self, dev):
+        return self.kind(dev) in ("check", "null") or self.kind(dev) == "told" and "wake" in self.answers.get(("handler", dev), ())
+
+    def serving_part(self, dev):
+        """The part whose runs serve the device; of a stuck one none does."""
+        return None if self.kind(dev) == "stuck" else "thread" if self.has_thread(dev) else "handler"
+
+    def run_calls(self, part, dev):
+        return self.runs.get((part, dev), [])
 
     def has_place(self, place, taken):
         """Whether the layout gives the line this place."""
@@ -579,6 +733,11 @@ class Play:
                 return next(line for line in self.board.lines if line.number == number), call
             done[number] -= 1
         return None
+
+    def hung(self):
+        """The first line on which an actor is hung, and the lowest such actor; None where none is."""
+        actors = self.board.actors("tcd")
+        return next(((line.number, who) for line in self.board.lines for who in actors if line.is_hung(who, line.past)), None)
 
     def take(self, step):
         line, entry = step

@@ -37,15 +37,38 @@ def counts_of(line, past):
 
 def device_state(line, past, dev, working):
     """What is kept of a device: of its asks, of its thread, and what a run that is at work has met."""
-    kind, thread = line.board.devices[dev][1], line.is_running(past, dev)
+    part, thread = line.board.serving_part(dev), line.is_running(past, dev)
+    # runs of a part whose script serves the device serve nothing as they return
+    part = None if f"serve {dev}" in map(" ".join, line.board.run_calls(part, dev)) else part
     run = since(past, by("t" + dev, "begin")) if thread else []
     stage = 0 if not thread else 1 + sum(any(map(by("t" + dev, verb), run)) for verb in ("return", "finish"))
     handler_begin = since(past, is_begin) if working == dev else []
     met = line.unserved(past[: len(past) - len(handler_begin) - 1], dev) if working == dev else 0
     met_by_thread = line.unserved(past[: len(past) - len(run) - 1], dev) if stage == 1 else 0
-    serving = handler_begin if kind == "direct" else run if kind in ("check", "null") and stage == 1 else []
-    fresh = sum(1 for e in serving if e[1:] == ("ask", dev))
-    return line.unserved(past, dev), fresh, met, met_by_thread, line.is_woken(past, dev), stage, line.is_unfinished(past, dev)
+    serving = handler_begin if part == "handler" else run if part == "thread" and stage == 1 else []
+    fresh = sum(1 for e in since(serving, lambda e: e[1:3] == ("serve", dev)) if e[1:3] == ("ask", dev))
+    asks = line.unserved(past, dev), fresh, met, met_by_thread, line.is_quiet(past, dev)
+    turns = runs_begun(line, past, dev, "handler", working == dev), runs_begun(line, past, dev, "thread", stage == 1)
+    return *asks, line.is_woken(past, dev), stage, line.is_unfinished(past, dev), *turns
+
+
+def runs_begun(line, past, dev, part, is_there):
+    """How many runs of the part have begun: of a told device at most as many as it has answers, and one more while a run is there
+    that may be past the last of them."""
+    begins = by("t" + dev, "begin") if part == "thread" else lambda e: is_begin(e) and e[2] == dev
+    answers = line.board.answers.get((part, dev))
+    return min(sum(map(begins, past)), len(answers) + is_there) if answers else 0
+
+
+def places_in_runs(line, past, flow):
+    """What the runs that are at work have left of their scripts."""
+    actors = [*(f"t{dev}" for dev in line.devices()), *([flow] if flow else [])]
+    return tuple(line.call_of_run(who, past) and (left_in_run(line, past, who)) for who in actors)
+
+
+def left_in_run(line, past, who):
+    begin = by(who, "begin") if who[0] == "t" else is_begin
+    return len([e for e in since(past, begin) if e[0] == who])
 
 
 def state_of(line, past):
@@ -61,7 +84,7 @@ def state_of(line, past):
         frozenset(e[2] for e in round_ if is_begin(e)), frozenset(e[3] for e in round_ if is_return(e)) - {"nothing"},
         freeing[:3] if freeing and freeing[1] == "unlink" else None,
         tuple(device_state(line, past, dev, working) for dev in line.devices()),
-        tuple(line.place(driver, past) for driver in line.board.scripts),
+        places_in_runs(line, past, flow), tuple(line.place(driver, past) for driver in line.board.scripts),
     )  # fmt: skip
 
 
@@ -71,6 +94,8 @@ def rest_of(line, past):
     standing = "stopped" if not line.linked(past) else "enabled" if not line.is_off(past) else "killed" if killed else "disabled"
     stored, pending = line.cell(past)[1], line.trigger == "edge" and line.is_pending(past)
     waits = {(False, False): "-", (True, False): "stored", (False, True): "pending", (True, True): "both"}[stored, pending]
+    hung = [who for who in line.board.actors("tcd") if line.is_hung(who, past)]
+    standing = f"hung {hung[0]} {standing}" if hung else standing
     return f"{line.number} rest {standing} {sum(line.unserved(past, dev) for dev in line.devices())} {waits}"
 
 

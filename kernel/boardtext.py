@@ -7,11 +7,22 @@ that genirq passes them over; kernel/README.md lists them. Everything is looked 
 import re
 
 MOST_CPUS = 16  # seabios writes no table of more for a kernel without ACPI
-DOMAIN_KINDS = ("latch", "plain", "level", "eoi", "lpi", "vector", "msi", "remap")
+DOMAIN_KINDS = ("latch", "plain", "level", "eoi", "lpi", "vector", "pin", "msi", "remap")
 CHILDREN = ("msi", "remap")
-DEVICE_KINDS = ("direct", "check", "null", "stuck")
-DEVICE_CALLS = ("request", "free", "ask")
-LINE_CALLS = ("disable", "disable_nosync", "enable", "sync", "affinity", "moment")
+DEVICE_KINDS = ("direct", "check", "null", "stuck", "odd", "told")
+DEVICE_OPTIONS = ("held", "forgets")
+DEVICE_CALLS = ("request", "free", "ask", "quiet", "arm", "serve", "wake")
+LINE_CALLS = ("disable", "disable_nosync", "enable", "sync", "affinity", "moment", "sync_hard", "disable_hard")
+# The version that a word came with; the others are in each.
+SINCE = {"moment": 2} | dict.fromkeys(
+    ("pin", "odd", "told", "answers", "handler", "thread", "quiet", "arm", "serve", "wake", "sync_hard", "disable_hard"), 3
+)
+SECTIONS = {"board": 0, "cpus": 1, "spurious": 1, "log": 1, "domain": 2, "line": 3, "device": 4, "answers": 5,
+            "handler": 5, "thread": 5, "driver": 6, "picks": 7}
+# What may stand in the script of a run; `arm` and `wake` within what read_run_call says.
+RUN_CALLS = ("disable_nosync", "enable", "disable", "sync", "quiet", "serve", "arm", "wake", "free")
+MOST_OF_RUN, MOST_OF_RUNS = 16, 256
+MOST_ANSWERS, MOST_OF_ANSWERS = 4096, 65536
 RULES = (
     "unlinked-enable", "depth-one", "unlazy-stays", "refuse-later", "empty-mask", "move-each-take", "fast-eoi-resend",
     "fast-eoi-open", "leave-full-mask", "keep-mask",
@@ -21,7 +32,7 @@ WORDS = {
     "profile": "rules", "rows": "number", "hz": "number", "domains": "", "nextfirst": "", "notefirst": "",
     "resendfirst": "", "maskfirst": "", "realsoft": "", "noaffinity": "", "noirqdebug": "", "oneshotsafe": "",
     "irqdisable": "", "onactivate": "line", "noautoen": "line", "polled": "line", "untyped": "line",
-    "enforced": "line", "wakefirst": "", "sentstays": "", "unaimed": "line", "unbalanced": "line",
+    "enforced": "line", "wakefirst": "", "loadfirst": "", "sentstays": "", "unaimed": "line", "unbalanced": "line",
     "hotplug": "vectors events", "sleep": "lines",
 }
 WORD_CALLS = {"poll": "", "busychip": "line number", "default": "mask"}
@@ -43,6 +54,10 @@ class Board:
         self.kinds, self.parents, self.lines, self.devices, self.drivers = {}, {}, {}, {}, set()
         self.owners, self.linked, self.picks, self.calls, self.section = {}, set(), 0, 0, 0
         self.unlazy, self.later, self.moves = [], False, 0
+        self.script = None  # whose calls come: ("driver", N), or a part and its device
+        self.runs, self.answers, self.turn, self.woken, self.arming = {}, {}, (0, 0), set(), set()
+        self.settings = set()
+        self.gates = False  # whether a run disables, enables or waits
         self.pure = []  # the text lines without the harness's words
         for at, row in enumerate(text.split("\n"), 1):
             self.read_row(at, row)
@@ -71,18 +86,25 @@ class Board:
         word, rest = words[0], words[1:]
         if self.version is None and word != "board":
             raise BadBoard(at, "no header")
-        call = word in DEVICE_CALLS + LINE_CALLS and (word != "moment" or self.version == 2)
-        if not call and not hasattr(self, f"read_{word}_statement"):
+        call = word in DEVICE_CALLS + LINE_CALLS
+        if not call and word not in SECTIONS or self.is_later(word):
             raise BadBoard(at, f"unknown word: {word}")
-        section = {"board": 0, "cpus": 1, "spurious": 1, "log": 1, "domain": 2, "line": 3, "device": 4, "driver": 5,
-                   "picks": 6}.get(word, 5)
-        if section < self.section or call and not self.drivers:
+        section = SECTIONS.get(word, self.section)
+        if section < self.section or call and (self.script is None or section == SECTIONS["picks"]):
             raise BadBoard(at, f"out of order: {word}")
         self.section = section
+        if section == SECTIONS["cpus"]:
+            if word in self.settings:
+                raise BadBoard(at, f"twice: {word}")
+            self.settings.add(word)
         if call:
             self.read_call(at, word, rest)
         else:
             getattr(self, f"read_{word}_statement")(at, rest)
+
+    def is_later(self, word):
+        """Whether a word came with a later version than the board's."""
+        return self.version is not None and SINCE.get(word, 1) > self.version
 
     # Words and numbers
 
@@ -122,7 +144,7 @@ class Board:
         self.count(at, rest, 1, 1)
         if self.version is not None:
             raise BadBoard(at, "twice: board")
-        self.version = self.number(at, rest[0], 1, 2)
+        self.version = self.number(at, rest[0], 1, 3)
 
     def read_cpus_statement(self, at, rest):
         """cpus N"""
@@ -154,7 +176,7 @@ class Board:
             raise BadBoard(at, f"unknown word: {form}")
         if form == "linear":
             self.number(at, rest.pop(0), 1, 1024)
-        if not rest or rest[0] not in DOMAIN_KINDS:
+        if not rest or rest[0] not in DOMAIN_KINDS or self.is_later(rest[0]):
             raise BadBoard(at, f"unknown word: {' '.join(rest[:1])} is no kind of domain")
         kind, rest = rest[0], rest[1:]
         self.count(at, rest, 0, 2)
@@ -199,22 +221,104 @@ class Board:
         masks = [self.kinds[it] for it in self.path(name) if self.kinds[it] not in ("vector", "remap")]
         self.unlazy += [number] * ("unlazy" in seen)
         self.later = self.later or "later" in seen
-        if "unlazy" in seen and masks[:1] not in (["latch"], ["lpi"], ["msi"], ["level"], ["eoi"]):
+        if "unlazy" in seen and masks[:1] in ([], ["plain"]):
             raise BadBoard(at, "bad unlazy")
 
     def read_device_statement(self, at, rest):
-        """device N LINE KIND"""
-        self.count(at, rest, 3, 3)
+        """device N LINE KIND, and held, forgets"""
+        self.count(at, rest, 3, 5 if self.version == 3 else 3)
         number = self.rising(at, rest[0], self.devices, 256)
         line = self.known(at, rest[1], self.lines, "line")
-        if rest[2] not in DEVICE_KINDS:
+        if rest[2] not in DEVICE_KINDS or self.is_later(rest[2]):
             raise BadBoard(at, f"unknown word: {rest[2]} is no kind of device")
+        if len(set(rest[3:])) < len(rest[3:]) or not set(rest[3:]) <= set(DEVICE_OPTIONS):
+            raise BadBoard(at, f"unknown word or twice: {' '.join(rest[3:])}")
         self.devices[number] = (line, rest[2])
+
+    # What runs of handlers and threads answer and call
+
+    def has_thread(self, device):
+        """Whether a device has a thread."""
+        kind = self.devices.get(device, (0, ""))[1]
+        return kind in ("check", "null") or kind == "told" and "wake" in self.answers.get((device, "handler"), {})
+
+    def next_part(self, at, device, rank):
+        """Fails unless the statements of devices' runs stand in their order."""
+        if (device, rank) <= self.turn:
+            raise BadBoard(at, "twice" if (device, rank) == self.turn else f"out of order: device {device}")
+        self.turn = device, rank
+
+    def read_answers_statement(self, at, rest):
+        """answers DEV ANSWER.., answers DEV thread ANSWER.."""
+        self.count(at, rest, 2, 2 + MOST_ANSWERS)
+        device, words = self.known(at, rest[0], self.devices, "device"), rest[1:]
+        part = "thread" if words[0] == "thread" else "handler"
+        words = words[part == "thread" :]
+        self.count(at, words, 1, MOST_ANSWERS)
+        self.next_part(at, device, 1 + (part == "thread"))
+        told = self.devices[device][1] == "told"
+        if part == "thread" and told and not self.has_thread(device):
+            raise BadBoard(at, f"not there: thread {device}")
+        if not told:
+            raise BadBoard(at, "bad run")
+        counts = self.answers.setdefault((device, part), {})
+        for word in words:
+            found = re.fullmatch(r"(handled|wake|nothing|claims)(?:\*([1-9][0-9]{0,4}))?", word)
+            if not found or found[1] == "wake" and part == "thread" or int(found[2] or 1) > 65535:
+                raise BadBoard(at, f"unknown word: {word}")
+            counts[found[1]] = counts.get(found[1], 0) + int(found[2] or 1)
+        of_device = [sum(it.values()) for (of, _), it in self.answers.items() if of == device]
+        if sum(of_device) > MOST_ANSWERS or sum(sum(it.values()) for it in self.answers.values()) > MOST_OF_ANSWERS:
+            raise BadBoard(at, "too many: answers")
+        self.script = None
+
+    def read_handler_statement(self, at, rest):
+        """handler DEV"""
+        device = self.begin_run(at, rest, "handler", 3)
+        if self.devices[device][1] in ("null", "stuck", "odd"):
+            raise BadBoard(at, "bad run")
+
+    def read_thread_statement(self, at, rest):
+        """thread DEV"""
+        device = self.begin_run(at, rest, "thread", 4)
+        if not self.has_thread(device):
+            raise BadBoard(at, f"not there: thread {device}")
+
+    def begin_run(self, at, rest, part, rank):
+        """The calls of a part's runs come."""
+        self.count(at, rest, 1, 1)
+        device = self.known(at, rest[0], self.devices, "device")
+        self.next_part(at, device, rank)
+        self.script = part, device
+        self.runs[self.script] = 0
+        return device
+
+    def read_run_call(self, at, word, of):
+        """A call of a run, of a line or a device."""
+        part, own = self.script
+        line = self.devices[of][0] if word in DEVICE_CALLS else of
+        kind = self.devices[own][1]
+        bad = word not in RUN_CALLS or line != self.devices[own][0]
+        bad |= word == "wake" and part == "thread" or word == "free" and part == "handler"
+        bad |= word == "arm" and (of != own or part == "handler" and kind != "direct")
+        if word == "wake" and self.devices[of][1] == "told":
+            self.woken.add(of)
+            bad |= of in self.arming
+        if word == "arm" and kind == "told" and part == "thread":
+            self.arming.add(own)
+            bad |= own in self.woken
+        if bad:
+            raise BadBoard(at, "bad run")
+        self.gates = self.gates or word in ("disable_nosync", "enable", "disable", "sync", "free")
+        self.runs[self.script] += 1
+        if self.runs[self.script] > MOST_OF_RUN or sum(self.runs.values()) > MOST_OF_RUNS:
+            raise BadBoard(at, "too many: calls of a run")
 
     def read_driver_statement(self, at, rest):
         """driver N"""
         self.count(at, rest, 1, 1)
         self.drivers.add(self.rising(at, rest[0], self.drivers, 64))
+        self.script = "driver", max(self.drivers)
 
     def read_picks_statement(self, at, rest):
         """picks PICK .."""
@@ -225,7 +329,7 @@ class Board:
                 raise BadBoard(at, f"bad name: {pick}")
             number = int(found[2])
             there = {"c": number < self.cpus, "d": number in self.drivers,
-                     "t": self.devices.get(number, (0, ""))[1] in ("check", "null")}
+                     "t": self.has_thread(number)}
             if not there[found[1]]:
                 raise BadBoard(at, f"not there: {pick}")
             self.picks += int(found[3] or 1)
@@ -233,26 +337,33 @@ class Board:
             raise BadBoard(at, "too many: 65536 picks are the most")
 
     def read_call(self, at, word, rest):
-        """A call of a driver's script."""
-        self.calls += 1
+        """A call of a script."""
+        in_run = self.script[0] != "driver"
+        self.calls += not in_run
         if self.calls > 16384:
             raise BadBoard(at, "too many: 16384 calls are the most")
         if word in DEVICE_CALLS:
             self.count(at, rest, 1, 4 if word == "request" else 1)
-            self.read_owner(at, word, self.known(at, rest[0], self.devices, "device"))
+            device = self.known(at, rest[0], self.devices, "device")
+            if in_run:
+                self.read_run_call(at, word, device)
+            else:
+                self.read_owner(at, word, device)
             flags = rest[1:]
             if len(set(flags)) < len(flags) or not set(flags) <= {"shared", "oneshot", "noauto"}:
                 raise BadBoard(at, f"unknown word or twice: {' '.join(flags)}")
             return
         self.moves += word == "affinity"
         self.count(at, rest, *((2, 2) if word in ("affinity", "moment") else (1, 1)))
-        self.known(at, rest[0], self.lines, "line")
+        line = self.known(at, rest[0], self.lines, "line")
         if rest[1:]:
             self.number(at, rest[1], 0, 4294967295)
+        if in_run:
+            self.read_run_call(at, word, line)
 
     def read_owner(self, at, word, device):
         """The requests and frees of a device are one driver's, and a free stands between two requests."""
-        if word == "ask":
+        if word not in ("request", "free"):
             return
         owner = max(self.drivers)
         if self.owners.setdefault(device, owner) != owner or word == "request" and device in self.linked:
@@ -312,6 +423,8 @@ class Board:
         """Fails if genirq's hotplug or sleep doesn't take the board, for other reasons than a line that is refused."""
         if set(self.words) >= {"hotplug", "sleep"}:
             raise BadBoard(0, "hotplug and sleep")
+        if self.gates and "sleep" in self.words:
+            raise BadBoard(0, "not for sleep: a run disables, enables or waits")
         for word in {"hotplug", "sleep"} & set(self.words):
             most = 12224 if word == "hotplug" else 16256
             if len(self.drivers) == 64 or 65535 in self.drivers or self.calls > most:

@@ -5,6 +5,7 @@ import os
 import subprocess
 from collections import namedtuple
 
+import reference
 from common import TOP, Failed
 
 KEPT = 5  # rows that are shown around the first differing one
@@ -53,6 +54,31 @@ def cut_rows(rows, limit):
     return rows if limit is None or len(ends) < limit else rows[: ends[limit - 1]]
 
 
+def log_of(rows):
+    """The rows that are entries."""
+    return [row for row in rows if not row.startswith("#")]
+
+
+def ended(rows, limit):
+    """A play's rows: those of who waits only where it came to its end."""
+    return rows if len(log_of(rows)) < limit else log_of(rows)
+
+
+def compare_by_rules(board, played):
+    """One board's result beside the play of bench/second.py, which lays nothing out."""
+    limit = min(board.row_limit() or reference.MOST, reference.MOST)
+    kernel = [row for row in played.rows if not row.startswith("# ") or row.startswith(reference.WAITS)]
+    rows, end = reference.play(board.pure_text())
+    kernel, rows = ended(cut_rows(kernel, limit), limit), ended(cut_rows(rows, limit), limit)
+    place = next((i for i, pair in enumerate(zip(kernel, rows)) if pair[0] != pair[1]), min(len(kernel), len(rows)))
+    fault = "; ".join(played.faults)
+    if kernel != rows or fault:
+        return Result(played.name, kernel, rows, place, reference.verdict(board.pure_text(), log_of(kernel)), fault)
+    if end not in ("full", "long") and len(log_of(rows)) < limit and (seen := reference.hung_by(kernel)) != end:
+        return Result(played.name, kernel, rows, place, end, f"by who waits for whom it is {seen}")
+    return Result(played.name, kernel, rows, None, end, fault)
+
+
 def compare(board, played):
     """One board's result."""
     kernel = cut_rows([row for row in played.rows if is_compared(row)], board.row_limit())
@@ -71,7 +97,7 @@ def compare(board, played):
 
 def shown(result):
     """The rows around the first differing one, side by side."""
-    rows = [f"    {'kernel':{WIDTH}} genirq"]
+    rows = [f"    {'kernel':{WIDTH}} the rules"]
     for i in range(max(0, result.place - KEPT), result.place + KEPT + 1):
         pair = [(rows[i] if i < len(rows) else "") for rows in (result.kernel, result.genirq)]
         if any(pair):

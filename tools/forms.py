@@ -11,20 +11,29 @@ LAST_NUMBER, MOST_STATES, MOST_WORDS, LONGEST_ROW = 2**32 - 1, 100_000_000, 64, 
 NUMBER = "(?:0|[1-9][0-9]*)"
 RESEND = "(?:no|chip|soft)"
 OPENED = f"(?:unbalanced|lowered|started {RESEND})"
+# The calls, of which handlers and threads make some on boards of version 3.
+CALLS = [
+    "disable|hardclear|synced",
+    f"(?:freed|quiet) {NUMBER}",
+    f"enable {OPENED}",
+    f"unlink {NUMBER} (?:notthere|last|more)",
+    f"(?:wake|arm) {NUMBER} (?:yes|no)",
+    f"serve {NUMBER} {NUMBER}",
+]
 ENTRIES = {
     "c": [
+        *CALLS,
         "take (?:line|resend) (?:handle|busy|off)",
         f"begin {NUMBER}",
         f"return {NUMBER} (?:nothing|handled|wake) {NUMBER}",
         "end (?:again|leave) (?:unmask|asis) (?:quiet|counted|killed)",
     ],
-    "t": ["begin", f"return {NUMBER}", "finish (?:kept|cleared) (?:unmask|asis)", "done"],
+    "t": [*CALLS, "begin", f"return (?:0(?: handled)?|{NUMBER}|[1-9][0-9]* nothing)", "finish (?:kept|cleared) (?:unmask|asis)", "done"],
     "d": [
-        f"(?:ask|freed|moment) {NUMBER}",
-        "disable|hardclear|synced",
-        f"enable {OPENED}",
+        *CALLS,
+        f"ask {NUMBER}(?: no)?",
+        f"moment {NUMBER}",
         f"request {NUMBER} (?:-|(?=[son])s?o?n?) (?:linked (?:no|{OPENED})|refused (?:22|16))",
-        f"unlink {NUMBER} (?:notthere|last|more)",
         f"affinity {NUMBER} (?:now|later|refused 22)",
     ],
 }

@@ -15,24 +15,33 @@ CHAIN = 0
 
 # The words after the entry's name, by entry, as docs/LOG.md has them.
 PLAIN = {
-    ("d", "ask"): ("dev",),
     ("c", "take"): ("way", "answer"),
     ("c", "begin"): ("dev",),
     ("c", "return"): ("dev", "answer", "served"),
     ("c", "end"): ("loop", "mask_change", "note"),
     ("t", "begin"): (),
-    ("t", "return"): ("served",),
     ("t", "finish"): ("bit", "mask_change"),
     ("t", "done"): (),
-    ("d", "disable"): (),
-    ("d", "hardclear"): (),
-    ("d", "synced"): (),
-    ("d", "unlink"): ("dev", "answer"),
-    ("d", "freed"): ("dev",),
     ("d", "moment"): ("at",),
     ("c", "enter"): ("status",),
     ("c", "exit"): (),
 }
+
+# Those of the steps of calls, which a driver makes, a handler on its processor, or a thread.
+CALLS = {
+    "disable": (),
+    "hardclear": (),
+    "synced": (),
+    "unlink": ("dev", "answer"),
+    "freed": ("dev",),
+    "wake": ("dev", "answer"),
+    "quiet": ("dev",),
+    "arm": ("dev", "answer"),
+    "serve": ("dev", "served"),
+}
+
+# Those whose last word may be missing: an ask that makes an edge, a thread's return whose number tells its answer.
+SHORT = {("d", "ask"): ("dev", "answer"), ("t", "return"): ("served", "answer")}
 
 # The first words of rows with `#` that tell what became of the whole machine. Others are the layout, or a comment.
 OF_MACHINE = {"asleep", "wake", "vector", "off", "on"}
@@ -85,10 +94,14 @@ def fields_of(actor, entry, rest):
         if rest[1] == "refused":
             yield "error", rest[2]
     else:
-        names = PLAIN[actor[0], entry]
-        if len(names) != len(rest):
-            raise ValueError(rest)
-        yield from zip(names, rest)
+        yield from zip(names_of(actor[0], entry, len(rest)), rest, strict=True)
+
+
+def names_of(actor, entry, count):
+    """What that many last words of an entry are, by who made it."""
+    if (actor, entry) in SHORT:
+        return SHORT[actor, entry] if count == 2 else SHORT[actor, entry][:1]
+    return CALLS[entry] if entry in CALLS else PLAIN[actor, entry]
 
 
 def read_rows(lines):

@@ -54,24 +54,11 @@ void pass_gate(struct actor *actor, enum gate gate)
 	set_actor_state(actor, RUNS);
 }
 
-/* ------------------------------------------------------------- drivers */
+/* --------------------------------------------------------------- calls */
 
 static const char *resent_by(struct board_line *line)
 {
 	return line->retriggered ? "chip" : line->scheduled ? "soft" : "no";
-}
-
-static void make_ask(struct actor *driver, struct board_call *call)
-{
-	struct board_line *line = call->line;
-
-	call->device->open++;
-	line->asks++;
-	if (line->cell.edge)
-		raise_edge(line);
-	else
-		set_high(line);
-	emit_row(line, "d%d ask %d", driver->no, call->device->no);
 }
 
 static void emit_linked(struct actor *driver, struct board_call *call, const char *flags)
@@ -93,7 +80,6 @@ static void emit_linked(struct actor *driver, struct board_call *call, const cha
 static void make_request(struct actor *driver, struct board_call *call)
 {
 	struct board_device *device = call->device;
-	bool has_thread = device->kind == DEVICE_CHECK || device->kind == DEVICE_NULL;
 	struct board_line *line = call->line;
 	unsigned long irqflags = 0;
 	char flags[4] = "";
@@ -117,7 +103,8 @@ static void make_request(struct actor *driver, struct board_call *call)
 	       mutex_is_locked(&line->desc->request_mutex))
 		pass_gate(driver, GATE_MUTEX);
 	ret = request_threaded_irq(line->virq, device->kind == DEVICE_NULL ? NULL : board_primary,
-				   has_thread ? board_thread : NULL, irqflags, device->name, device);
+				   has_thread(device) ? board_thread : NULL, irqflags, device->name,
+				   device);
 	if (ret) {
 		device->thread.task = NULL;
 		set_actor_state(&device->thread, DEAD);
@@ -127,57 +114,67 @@ static void make_request(struct actor *driver, struct board_call *call)
 	emit_linked(driver, call, flags);
 }
 
-static void make_free(struct actor *driver, struct board_call *call)
+static void make_free(struct actor *actor, struct board_call *call)
 {
-	driver->was_there = false;
+	actor->was_there = false;
 	free_irq(call->line->virq, call->device);
-	if (driver->was_there)
-		emit_row(call->line, "d%d freed %d", driver->no, call->device->no);
+	if (actor->was_there)
+		emit_row(call->line, "%c%d freed %d", WHO(actor), call->device->no);
 	else
-		emit_row(call->line, "d%d unlink %d notthere", driver->no, call->device->no);
+		emit_row(call->line, "%c%d unlink %d notthere", WHO(actor), call->device->no);
 }
 
 /* synchronize_irq(), with the gate before its second look. */
-static void make_sync(struct actor *driver, struct board_line *line)
+static void make_sync(struct actor *actor, struct board_line *line)
 {
-	driver->syncs = true;
+	actor->syncs = true;
 	synchronize_irq(line->virq);
 }
 
-/* disable_irq() is these two calls; the gate is between them. */
-static void make_disable(struct actor *driver, struct board_call *call)
+static void make_sync_hard(struct actor *actor, struct board_line *line)
+{
+	synchronize_hardirq(line->virq);
+	emit_row(line, "%c%d hardclear", WHO(actor));
+}
+
+/* disable_irq() and disable_hardirq() are two calls each; the gate is between them. */
+static void make_disable(struct actor *actor, struct board_call *call)
 {
 	disable_irq_nosync(call->line->virq);
-	emit_row(call->line, "d%d disable", driver->no);
-	note_down(driver, call->line);
+	emit_row(call->line, "%c%d disable", WHO(actor));
+	note_down(actor, call->line);
 	if (call->op == CALL_DISABLE_NOSYNC)
 		return;
 	emit_state(call->line);
-	pass_gate(driver, GATE_HARDCLEAR);
-	make_sync(driver, call->line);
+	pass_gate(actor, GATE_HARDCLEAR);
+	if (call->op == CALL_DISABLE_HARD)
+		make_sync_hard(actor, call->line);
+	else
+		make_sync(actor, call->line);
 }
 
-static void make_enable(struct actor *driver, struct board_line *line)
+static void make_enable(struct actor *actor, struct board_line *line)
 {
 	struct irq_desc *desc = line->desc;
 	unsigned int before = desc->depth;
 
 	if (has_rule(RULE_UNLINKED_ENABLE) && !desc->action) {
-		emit_row(line, "d%d enable unbalanced", driver->no);
+		emit_row(line, "%c%d enable unbalanced", WHO(actor));
 		return;
 	}
 	if (line->enforced)
 		irqd_set_handle_enforce_irqctx(&desc->irq_data);
 	enable_irq(line->virq);
-	wait_for_tasklet();
+	if (actor->letter == 'd')
+		wait_for_tasklet();
 	if (line->enforced)
 		irqd_clear(&desc->irq_data, IRQD_HANDLE_ENFORCE_IRQCTX);
 	if (!before)
-		emit_row(line, "d%d enable unbalanced", driver->no);
+		emit_row(line, "%c%d enable unbalanced", WHO(actor));
 	else if (desc->depth)
-		emit_row(line, "d%d enable lowered", driver->no);
+		emit_row(line, "%c%d enable lowered", WHO(actor));
 	else
-		emit_row(line, "d%d enable started %s", driver->no, resent_by(line));
+		emit_row(line, "%c%d enable started %s", WHO(actor), resent_by(line));
 }
 
 /* The mask of a call; the last processor of a cpumask is never there. */
@@ -209,42 +206,58 @@ static void make_affinity(struct actor *driver, struct board_call *call)
 			 irqd_is_setaffinity_pending(&line->desc->irq_data) ? "later" : "now");
 }
 
-static void make_call(struct actor *driver, struct board_call *call)
+static void make_call_of_device(struct actor *actor, struct board_call *call)
+{
+	switch (call->op) {
+	case CALL_ASK:
+		make_ask(actor, call->device);
+		break;
+	case CALL_QUIET:
+		make_quiet(actor, call->device);
+		break;
+	case CALL_ARM:
+		make_arm(actor, call->device);
+		break;
+	case CALL_SERVE:
+		make_serve(actor, call->device);
+		break;
+	case CALL_WAKE:
+		make_wake(actor, call->device);
+		break;
+	case CALL_REQUEST:
+		make_request(actor, call);
+		break;
+	default:
+		make_free(actor, call);
+		break;
+	}
+}
+
+static void make_other_call(struct actor *actor, struct board_call *call)
 {
 	struct board_line *line = call->line;
 
-	driver->line = line;
-	driver->unlinked = false;
-	if (line)
-		line->retriggered = line->scheduled = false;
-	if (has_word(WORD_REAL_SOFT))
-		set_cpus_allowed_ptr(current, cpumask_of(3));	/* qemu has 4 or more */
 	switch (call->op) {
-	case CALL_ASK:
-		make_ask(driver, call);
-		break;
-	case CALL_REQUEST:
-		make_request(driver, call);
-		break;
-	case CALL_FREE:
-		make_free(driver, call);
-		break;
 	case CALL_DISABLE:
 	case CALL_DISABLE_NOSYNC:
-		make_disable(driver, call);
+	case CALL_DISABLE_HARD:
+		make_disable(actor, call);
 		break;
 	case CALL_SYNC:
-		make_sync(driver, line);
+		make_sync(actor, line);
+		break;
+	case CALL_SYNC_HARD:
+		make_sync_hard(actor, line);
 		break;
 	case CALL_ENABLE:
-		make_enable(driver, line);
+		make_enable(actor, line);
 		break;
 	case CALL_AFFINITY:
-		make_affinity(driver, call);
+		make_affinity(actor, call);
 		break;
 	case CALL_MOMENT:
 		line->now = max(line->now, call->number);
-		emit_row(line, "d%d moment %u", driver->no, call->number);
+		emit_row(line, "%c%d moment %u", WHO(actor), call->number);
 		break;
 	case CALL_BUSY:
 		line->busy_moves = call->number;
@@ -258,9 +271,30 @@ static void make_call(struct actor *driver, struct board_call *call)
 	default:
 		break;
 	}
+}
+
+/* A call of a driver, or within a run of a handler or a thread. */
+void make_call(struct actor *actor, struct board_call *call)
+{
+	struct board_line *line = call->line;
+
+	actor->call = call;
+	actor->line = line;
+	actor->unlinked = false;
+	if (line)
+		line->retriggered = line->scheduled = false;
+	if (has_word(WORD_REAL_SOFT) && actor->letter == 'd')
+		set_cpus_allowed_ptr(current, cpumask_of(3));	/* qemu has 4 or more */
+	if (call->device)
+		make_call_of_device(actor, call);
+	else
+		make_other_call(actor, call);
+	actor->call = NULL;
 	if (line)
 		emit_state(line);
 }
+
+/* ------------------------------------------------------------- drivers */
 
 /* The words of the harness make no step of their own: they go with the call after them. */
 static bool is_word(struct board_call *call)
@@ -281,11 +315,11 @@ static int run_driver(void *cookie)
 	for (;;) {
 		pass_gate(driver, GATE_SCRIPT);
 		do {
-			call = &driver->calls[driver->pos];
+			call = &driver->script.calls[driver->pos];
 			if (!is_passed_over(call))
 				make_call(driver, call);
 			driver->pos++;
-		} while (driver->pos < driver->call_count && (is_word(call) || is_passed_over(call)));
+		} while (driver->pos < driver->script.count && (is_word(call) || is_passed_over(call)));
 		the_board->moves++;
 	}
 	return 0;
@@ -304,21 +338,26 @@ static int run_processor(void *cookie)
 
 /* ----------------------------------------------------------- scheduler */
 
-static bool was_woken(struct actor *thread)
+bool was_woken(struct actor *thread)
 {
 	struct irqaction *action = kthread_data(thread->task);
 
 	return test_bit(IRQTF_RUNTHREAD, &action->thread_flags);
 }
 
-/* A driver in kthread_stop() goes on once its thread isn't at work. */
-static bool will_go_on(struct actor *driver)
+/* Who is in kthread_stop() goes on once that thread isn't at work; its own always is. */
+static bool will_go_on(struct actor *actor)
 {
-	struct actor *thread = &driver->calls[driver->pos].device->thread;
+	struct actor *thread = &actor->call->device->thread;
 
 	if (thread->state == DEAD)
 		return true;
 	return thread->state == AT_GATE && thread->gate == GATE_BEGIN && !was_woken(thread);
+}
+
+static bool runs_on(struct actor *actor)
+{
+	return actor->state == RUNS || (actor->state == STOPS_THREAD && will_go_on(actor));
 }
 
 static bool any_runs(void)
@@ -331,14 +370,10 @@ static bool any_runs(void)
 	raw_spin_lock_irqsave(&state_lock, flags);
 	for (i = 0; i < board->cpus; i++)
 		runs |= board->processors[i].state == RUNS;
-	for (i = 0; i < board->driver_count; i++) {
-		struct actor *driver = &board->drivers[i];
-
-		runs |= driver->state == RUNS;
-		runs |= driver->state == STOPS_THREAD && will_go_on(driver);
-	}
+	for (i = 0; i < board->driver_count; i++)
+		runs |= runs_on(&board->drivers[i]);
 	for (i = 0; i < board->device_count; i++)
-		runs |= board->devices[i].thread.state == RUNS;
+		runs |= runs_on(&board->devices[i].thread);
 	raw_spin_unlock_irqrestore(&state_lock, flags);
 	return runs;
 }
@@ -363,7 +398,7 @@ static bool let_go(struct actor *actor)
 	raw_spin_unlock_irqrestore(&state_lock, flags);
 	wake_up(&actor->wait);
 	wait_for_gates();
-	return the_board->total != total || the_board->moves != moves;
+	return the_board->total != total || the_board->moves != moves || the_board->full;
 }
 
 static bool step_thread(struct actor *thread)
@@ -406,15 +441,17 @@ static bool step_processor(struct actor *cpu)
 
 static bool has_call(struct actor *driver)
 {
-	while (driver->pos < driver->call_count && is_passed_over(&driver->calls[driver->pos]))
+	struct script *script = &driver->script;
+
+	while (driver->pos < script->count && is_passed_over(&script->calls[driver->pos]))
 		driver->pos++;
-	return driver->pos < driver->call_count;
+	return driver->pos < script->count;
 }
 
 /* Whether the driver is in such a call, or is to make one next. */
 bool is_next(struct actor *driver, enum call_op op)
 {
-	return has_call(driver) && driver->calls[driver->pos].op == op;
+	return has_call(driver) && driver->script.calls[driver->pos].op == op;
 }
 
 static bool step_driver(struct actor *driver)
@@ -496,6 +533,7 @@ static void start_all(void)
 		device->thread.letter = 't';
 		device->thread.no = device->no;
 		device->thread.device = device;
+		device->thread.line = device->line;
 	}
 	for (i = 0; i < the_board->cpus; i++) {
 		the_board->processors[i].letter = 'c';
@@ -535,4 +573,6 @@ void play_board(void)
 		emit("# log full: line %d at %u entries", the_board->full->no, the_board->log);
 	else if (!goes_on())
 		emit("# stopped at %u rows", the_board->total);
+	else
+		emit_waits();
 }

@@ -7,10 +7,14 @@
 #include "harness.h"
 
 static const char *const domain_kinds[DOMAIN_KINDS] = {
-	"latch", "plain", "level", "eoi", "lpi", "vector", "msi", "remap",
+	"latch", "plain", "level", "eoi", "lpi", "vector", "pin", "msi", "remap",
 };
 
-static const char *const device_kinds[DEVICE_KINDS] = { "direct", "check", "null", "stuck" };
+static const char *const device_kinds[DEVICE_KINDS] = {
+	"direct", "check", "null", "stuck", "odd", "told",
+};
+
+static const char *const answer_names[ANSWERS] = { "nothing", "handled", "wake", "claims" };
 
 static const char *const rule_names[RULES] = {
 	"unlinked-enable", "depth-one", "unlazy-stays", "refuse-later", "empty-mask",
@@ -19,13 +23,17 @@ static const char *const rule_names[RULES] = {
 
 static const char *const word_names[WORDS] = {
 	"nextfirst", "notefirst", "resendfirst", "maskfirst", "realsoft", "noaffinity", "noirqdebug",
-	"oneshotsafe", "irqdisable", "wakefirst", "sentstays",
+	"oneshotsafe", "irqdisable", "wakefirst", "loadfirst", "sentstays",
 };
 
 static const char *const call_names[CALL_OPS] = {
-	"request", "free", "ask", "disable", "disable_nosync", "enable", "sync", "affinity", "moment",
+	"request", "free", "ask", "quiet", "arm", "serve", "wake",
+	"disable", "disable_nosync", "enable", "sync", "sync_hard", "disable_hard", "affinity", "moment",
 	"busychip", "poll", "default",
 };
+
+/* Of the driver, handler or thread that was named last. */
+static struct script *last_script;
 
 static char *next_word(char **text)
 {
@@ -149,7 +157,48 @@ static void read_device(char *text)
 	device->kind = find_word(device_kinds, DEVICE_KINDS, word);
 	if (device->kind == DEVICE_KINDS)
 		fault("no such kind of device", word);
+	while (*(word = next_word(&text))) {
+		if (!strcmp(word, "held"))
+			device->held = true;
+		else if (!strcmp(word, "forgets"))
+			device->forgets = true;
+		else
+			fault("no such option", word);
+	}
 	scnprintf(device->name, sizeof(device->name), "device%d", device->no);
+}
+
+/* answers DEVICE [thread] ANSWER[*N] .. */
+static void read_answers(char *text)
+{
+	struct board_device *device = next_device(&text);
+	struct board_run *run = &device->runs[PART_HANDLER];
+	char *word = next_word(&text), *star;
+
+	if (!strcmp(word, "thread")) {
+		run = &device->runs[PART_THREAD];
+		word = next_word(&text);
+	}
+	run->answers = vzalloc(array_size(MAX_ANSWERS, sizeof(struct board_answer)));
+	for (; *word && run->answer_count < MAX_ANSWERS; word = next_word(&text)) {
+		struct board_answer *answer = &run->answers[run->answer_count++];
+
+		star = strchr(word, '*');
+		if (star)
+			*star++ = 0;
+		answer->answer = find_word(answer_names, ANSWERS, word);
+		answer->times = star ? next_number(&star) : 1;
+		if (answer->answer == ANSWERS)
+			fault("no such answer", word);
+	}
+}
+
+/* handler DEVICE, thread DEVICE */
+static void read_run(enum part part, char *text)
+{
+	last_script = &next_device(&text)->runs[part].script;
+	last_script->most = MAX_RUN_CALLS;
+	last_script->calls = kcalloc(MAX_RUN_CALLS, sizeof(struct board_call), GFP_KERNEL);
 }
 
 struct actor *new_driver(int no)
@@ -158,13 +207,14 @@ struct actor *new_driver(int no)
 
 	driver->letter = 'd';
 	driver->no = no;
-	driver->calls = vzalloc(array_size(MAX_CALLS, sizeof(struct board_call)));
+	driver->script.most = MAX_CALLS;
+	driver->script.calls = vzalloc(array_size(MAX_CALLS, sizeof(struct board_call)));
 	return driver;
 }
 
 void add_call(struct actor *driver, enum call_op op, struct board_line *line, u32 number)
 {
-	struct board_call *call = &driver->calls[driver->call_count++];
+	struct board_call *call = &driver->script.calls[driver->script.count++];
 
 	call->op = op;
 	call->line = line;
@@ -189,17 +239,16 @@ static void read_picks(char *text)
 
 static void read_call(enum call_op op, char *text)
 {
-	struct actor *driver = &the_board->drivers[the_board->driver_count - 1];
 	struct board_call *call;
 	char *word;
 
-	if (!the_board->driver_count || driver->call_count == MAX_CALLS) {
+	if (!last_script || last_script->count == last_script->most) {
 		fault("a call too many", call_names[op]);
 		return;
 	}
-	call = &driver->calls[driver->call_count++];
+	call = &last_script->calls[last_script->count++];
 	call->op = op;
-	if (op <= CALL_ASK) {
+	if (op <= CALL_WAKE) {
 		call->device = next_device(&text);
 		call->line = call->device->line;
 	} else if (op < CALL_POLL) {
@@ -332,7 +381,13 @@ static void read_statement(char *text)
 	else if (!strcmp(word, "device"))
 		read_device(text);
 	else if (!strcmp(word, "driver"))
-		new_driver(next_number(&text));
+		last_script = &new_driver(next_number(&text))->script;
+	else if (!strcmp(word, "handler"))
+		read_run(PART_HANDLER, text);
+	else if (!strcmp(word, "thread"))
+		read_run(PART_THREAD, text);
+	else if (!strcmp(word, "answers"))
+		read_answers(text);
 	else if (!strcmp(word, "picks"))
 		read_picks(text);
 	else if (!read_setting(word, text) && !read_line_word(word, text))
@@ -343,6 +398,7 @@ void read_board(char *text)
 {
 	char *line;
 
+	last_script = NULL;
 	while ((line = strsep(&text, "\n")) != NULL)
 		read_statement(line);
 }

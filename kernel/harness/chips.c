@@ -43,7 +43,8 @@ void set_high(struct board_line *line)
 
 	line->cell.high = false;
 	for (i = 0; !line->cell.edge && i < the_board->device_count; i++)
-		if (the_board->devices[i].line == line && the_board->devices[i].open)
+		if (the_board->devices[i].line == line && the_board->devices[i].open &&
+		    !the_board->devices[i].quiet)
 			line->cell.high = true;
 }
 
@@ -375,7 +376,8 @@ static void make_cell(struct board_line *line)
 		return;
 	}
 	cell->edge = root->kind != KIND_LEVEL && root->kind != KIND_EOI;
-	cell->keeps = masks->kind == KIND_LATCH || masks->kind == KIND_LPI || masks->kind == KIND_MSI;
+	cell->keeps = masks->kind == KIND_LATCH || masks->kind == KIND_LPI ||
+		      masks->kind == KIND_PIN || masks->kind == KIND_MSI;
 	cell->recalls = masks == root && cell->keeps;
 	cell->serves = root->kind == KIND_EOI;
 	cell->masked = true;

@@ -16,15 +16,26 @@
 #define MAX_CALLS	(16384 + 4096)
 #define MAX_PICKS	65536
 #define MAX_EVENTS	64
+#define MAX_RUN_CALLS	16
+#define MAX_ANSWERS	4096
 #define PATH_BYTES	320
 
 enum domain_kind {
-	KIND_LATCH, KIND_PLAIN, KIND_LEVEL, KIND_EOI, KIND_LPI, KIND_VECTOR,	/* roots */
-	KIND_MSI, KIND_REMAP,							/* children */
+	KIND_LATCH, KIND_PLAIN, KIND_LEVEL, KIND_EOI, KIND_LPI, KIND_VECTOR, KIND_PIN,	/* roots */
+	KIND_MSI, KIND_REMAP,								/* children */
 	DOMAIN_KINDS
 };
 
-enum device_kind { DEVICE_DIRECT, DEVICE_CHECK, DEVICE_NULL, DEVICE_STUCK, DEVICE_KINDS };
+enum device_kind {
+	DEVICE_DIRECT, DEVICE_CHECK, DEVICE_NULL, DEVICE_STUCK, DEVICE_ODD, DEVICE_TOLD,
+	DEVICE_KINDS
+};
+
+/* What of a device's driver runs for an interrupt. */
+enum part { PART_HANDLER, PART_THREAD, PARTS };
+
+/* What a run answers. One that claims is handled too, and serves nothing. */
+enum answer { ANSWER_NOTHING, ANSWER_HANDLED, ANSWER_WAKE, ANSWER_CLAIMS, ANSWERS };
 
 /* Rules of genirq that aren't the kernel's. A board's profile puts them on top. */
 enum rule {
@@ -53,23 +64,24 @@ enum word {
 	WORD_ONESHOT_SAFE,	/* the chips have IRQCHIP_ONESHOT_SAFE */
 	WORD_IRQ_DISABLE,	/* the chips have irq_disable and irq_enable */
 	WORD_WAKE_FIRST,	/* the gate after a handler that wakes stands within the wake */
+	WORD_LOAD_FIRST,	/* the same gate stands between load and store of threads_oneshot */
 	WORD_SENT_STAYS,	/* a sent edge stays with the processor of the moment */
 	WORDS
 };
 
 enum gate {
 	GATE_SCRIPT,	/* a driver before its next call */
-	GATE_HARDCLEAR,	/* before it looks whether a flow is in progress */
+	GATE_HARDCLEAR,	/* a caller before it looks whether a flow is in progress */
 	GATE_SPIN,	/* one is */
 	GATE_SYNCED,	/* before it looks whether threads are at work */
 	GATE_FREED,	/* before it gives the request mutex back */
 	GATE_MUTEX,	/* another has the request mutex */
 	GATE_IDLE,	/* a processor outside of a flow */
 	GATE_NEXT,	/* before it takes the next action of the walk, or ends */
-	GATE_RETURN,	/* in a primary handler */
+	GATE_RETURN,	/* in a primary handler, before its next call or its return */
 	GATE_RESEND,	/* between the clear of the resend bit and the flow */
 	GATE_BEGIN,	/* a thread before it looks whether it was woken */
-	GATE_THREAD,	/* in the thread function */
+	GATE_THREAD,	/* in the thread function, likewise */
 	GATE_FINISH,	/* before irq_finalize_oneshot takes the lock */
 	GATE_WAIT,	/* it found a flow in progress */
 	GATE_DONE,	/* before threads_active is counted down */
@@ -77,6 +89,12 @@ enum gate {
 };
 
 enum actor_state { ABSENT, RUNS, AT_GATE, STOPS_THREAD, DEAD };
+
+/* Calls, in order. */
+struct script {
+	struct board_call *calls;
+	int count, most;
+};
 
 struct actor {
 	char letter;			/* c, d or t */
@@ -86,7 +104,8 @@ struct actor {
 	bool go;			/* it may pass its gate */
 	struct task_struct *task;
 	wait_queue_head_t wait;
-	struct board_line *line;	/* of the take, or of the call */
+	struct board_line *line;	/* of the take, of the call, or of the thread's device */
+	struct board_call *call;	/* that it makes, also within a run */
 	/* processors */
 	bool resend;			/* the take is a soft resend */
 	bool busy;			/* a flow was in progress at the take */
@@ -96,16 +115,20 @@ struct actor {
 	bool past_gate;			/* the gate after the handler is passed */
 	struct board_device *handler;
 	/* drivers */
-	struct board_call *calls;
-	int call_count, pos;
+	struct script script;
+	int pos;
+	/* whoever makes a call */
 	bool unlinked;			/* the free took the device out of the list */
 	bool cleared;			/* and found no flow in progress */
 	bool syncs, was_there, was_linked, had_spurious;
 	unsigned int depth_before;
 	/* threads */
 	struct board_device *device;
-	struct actor *stopper;		/* the driver that waits for its end */
+	struct actor *stopper;		/* who waits for its end */
 };
+
+/* How an actor is called in a row: "%c%d". */
+#define WHO(actor)	(actor)->letter, (actor)->no
 
 struct board_domain {
 	char name[20];
@@ -151,20 +174,39 @@ struct board_line {
 	char path[PATH_BYTES];
 };
 
+/* What a told device answers, so often. */
+struct board_answer {
+	enum answer answer;
+	u32 times;
+};
+
+/* The runs of a part of a device. */
+struct board_run {
+	struct script script;		/* what each of them calls */
+	struct board_answer *answers;	/* of a told device, in turn */
+	int answer_count;
+	u32 begun;			/* so many have begun */
+	enum answer answer;		/* of the last that began */
+	u32 at_begin;			/* the asks that it serves, if it serves */
+};
+
 struct board_device {
 	int no;
 	struct board_line *line;
 	enum device_kind kind;
+	bool held, forgets;
+	bool quiet;			/* its own interrupt enable is off */
 	u32 open;			/* asks that aren't served */
-	u32 at_begin, at_thread_begin;
+	struct board_run runs[PARTS];
 	struct actor thread;
 	char name[12];
 };
 
 enum call_op {
-	CALL_REQUEST, CALL_FREE, CALL_ASK,			/* of a device */
-	CALL_DISABLE, CALL_DISABLE_NOSYNC, CALL_ENABLE, CALL_SYNC,
-	CALL_AFFINITY, CALL_MOMENT, CALL_BUSY,			/* of a line */
+	CALL_REQUEST, CALL_FREE, CALL_ASK, CALL_QUIET, CALL_ARM, CALL_SERVE,
+	CALL_WAKE,						/* of a device */
+	CALL_DISABLE, CALL_DISABLE_NOSYNC, CALL_ENABLE, CALL_SYNC, CALL_SYNC_HARD,
+	CALL_DISABLE_HARD, CALL_AFFINITY, CALL_MOMENT, CALL_BUSY,	/* of a line */
 	CALL_POLL, CALL_DEFAULT,				/* of neither */
 	CALL_OPS
 };
@@ -239,6 +281,22 @@ bool goes_on(void);
 bool step(struct actor *actor);
 bool step_inner(void);
 bool is_next(struct actor *driver, enum call_op op);
+bool was_woken(struct actor *thread);
+void make_call(struct actor *actor, struct board_call *call);
+
+/* runs.c */
+bool has_thread(struct board_device *device);
+void begin_run(struct board_device *device, enum part part);
+void make_run_calls(struct actor *actor, struct board_device *device, enum part part);
+u32 end_run(struct board_device *device, enum part part);
+void make_ask(struct actor *actor, struct board_device *device);
+void make_quiet(struct actor *actor, struct board_device *device);
+void make_arm(struct actor *actor, struct board_device *device);
+void make_serve(struct actor *actor, struct board_device *device);
+void make_wake(struct actor *actor, struct board_device *device);
+
+/* waits.c */
+void emit_waits(void);
 
 /* hooks.c */
 void run_take(struct actor *cpu);

@@ -24,17 +24,33 @@ static struct actor *current_of(char letter)
 	return actor && actor->letter == letter ? actor : NULL;
 }
 
-/* The driver that runs, if it is in this call. */
-static struct actor *driver_in(enum call_op op)
+/* The actor that runs, if it is in a call. */
+static struct actor *caller(void)
 {
-	struct actor *driver = current_of('d');
+	struct actor *actor = current_actor();
 
-	return driver && driver->calls[driver->pos].op == op ? driver : NULL;
+	return actor && actor->call ? actor : NULL;
 }
 
-static struct board_device *device_of(struct actor *driver)
+/* The same, if it is in this call. */
+static struct actor *caller_in(enum call_op op)
 {
-	return driver->calls[driver->pos].device;
+	struct actor *actor = caller();
+
+	return actor && actor->call->op == op ? actor : NULL;
+}
+
+/* The interrupt thread that runs, outside of the calls of its run. */
+static struct actor *thread_outside(void)
+{
+	struct actor *thread = current_of('t');
+
+	return thread && !thread->call ? thread : NULL;
+}
+
+static struct board_device *device_of(struct actor *actor)
+{
+	return actor->call->device;
 }
 
 /* ------------------------------------------------------------ manage.c */
@@ -45,38 +61,38 @@ bool harness_cpu_relax(void)
 
 	if (!actor)
 		return false;
-	pass_gate(actor, actor->letter == 't' ? GATE_WAIT : GATE_SPIN);
+	pass_gate(actor, actor->call ? GATE_SPIN : GATE_WAIT);
 	return true;
 }
 
 void harness_mutex_lock(struct mutex *mutex)
 {
-	struct actor *driver = current_of('d');
+	struct actor *actor = caller();
 
-	if (!driver) {
+	if (!actor) {
 		mutex_lock(mutex);
 		return;
 	}
 	while (!mutex_trylock(mutex))
-		pass_gate(driver, GATE_MUTEX);
+		pass_gate(actor, GATE_MUTEX);
 }
 
 /* A free that is past its look at the flow. */
-static void emit_free_cleared(struct actor *driver)
+static void emit_free_cleared(struct actor *actor)
 {
-	if (driver->unlinked && !driver->cleared) {
-		driver->cleared = true;
-		emit_row(driver->line, "d%d hardclear", driver->no);
+	if (actor->unlinked && !actor->cleared) {
+		actor->cleared = true;
+		emit_row(actor->line, "%c%d hardclear", WHO(actor));
 	}
 }
 
 void harness_mutex_unlock(struct mutex *mutex)
 {
-	struct actor *driver = driver_in(CALL_FREE);
+	struct actor *actor = caller_in(CALL_FREE);
 
-	if (driver && driver->unlinked) {
-		emit_free_cleared(driver);
-		pass_gate(driver, GATE_FREED);
+	if (actor && actor->unlinked) {
+		emit_free_cleared(actor);
+		pass_gate(actor, GATE_FREED);
 	}
 	mutex_unlock(mutex);
 }
@@ -88,20 +104,20 @@ static void before_request(struct actor *driver, struct irq_desc *desc)
 	driver->was_linked = desc->action;
 	driver->depth_before = desc->depth;
 	driver->had_spurious = desc->istate & IRQS_SPURIOUS_DISABLED;
-	if (device->kind == DEVICE_CHECK || device->kind == DEVICE_NULL) {
+	if (has_thread(device)) {
 		device->thread.stopper = NULL;
 		set_actor_state(&device->thread, RUNS);	/* until it comes to its gate */
 	}
 }
 
-static void before_unlink(struct actor *driver, struct irq_desc *desc)
+static void before_unlink(struct actor *actor, struct irq_desc *desc)
 {
 	struct irqaction *action;
 
-	driver->was_there = false;
+	actor->was_there = false;
 	for (action = desc->action; action; action = action->next)
-		if (action->dev_id == device_of(driver))
-			driver->was_there = true;
+		if (action->dev_id == device_of(actor))
+			actor->was_there = true;
 }
 
 /* The last unlink is over: what genirq's rules make of the line. */
@@ -119,15 +135,15 @@ static void put_unlink_rules(struct board_line *line)
 		irq_set_status_flags(line->virq, SETTING_UNLAZY);
 }
 
-static void after_unlink(struct actor *driver, struct irq_desc *desc)
+static void after_unlink(struct actor *actor, struct irq_desc *desc)
 {
-	driver->unlinked = true;
-	driver->cleared = false;
+	actor->unlinked = true;
+	actor->cleared = false;
 	if (!desc->action)
-		put_unlink_rules(driver->line);
-	emit_row(driver->line, "d%d unlink %d %s", driver->no, device_of(driver)->no,
+		put_unlink_rules(actor->line);
+	emit_row(actor->line, "%c%d unlink %d %s", WHO(actor), device_of(actor)->no,
 		 desc->action ? "more" : "last");
-	pass_gate(driver, GATE_HARDCLEAR);
+	pass_gate(actor, GATE_HARDCLEAR);
 }
 
 static void after_finish(struct actor *thread, struct irq_desc *desc)
@@ -145,13 +161,13 @@ void harness_bus_lock(struct irq_desc *desc)
 {
 	struct actor *actor = current_actor();
 
-	if (actor && actor->letter == 't') {
+	if (thread_outside()) {
 		pass_gate(actor, GATE_FINISH);
-		actor->device->line->unmasks = 0;
+		actor->line->unmasks = 0;
 	}
-	if (driver_in(CALL_REQUEST))
+	if (caller_in(CALL_REQUEST))
 		before_request(actor, desc);
-	if (driver_in(CALL_FREE)) {
+	if (caller_in(CALL_FREE)) {
 		if (actor->unlinked)
 			emit_free_cleared(actor);
 		else
@@ -167,34 +183,34 @@ void harness_bus_unlock(struct irq_desc *desc)
 
 	if (desc->irq_data.chip->irq_bus_sync_unlock)
 		desc->irq_data.chip->irq_bus_sync_unlock(&desc->irq_data);
-	if (actor && actor->letter == 't' && !irqd_irq_inprogress(&desc->irq_data))
+	if (thread_outside() && !irqd_irq_inprogress(&desc->irq_data))
 		after_finish(actor, desc);
-	if (driver_in(CALL_FREE) && !actor->unlinked && actor->was_there)
+	if (caller_in(CALL_FREE) && !actor->unlinked && actor->was_there)
 		after_unlink(actor, desc);
 }
 
 bool harness_is_sync(void)
 {
-	struct actor *driver = current_of('d');
+	struct actor *actor = caller();
 
-	return driver && driver->syncs;
+	return actor && actor->syncs;
 }
 
 void harness_sync_gate(struct irq_desc *desc, bool first)
 {
-	struct actor *driver = current_of('d');
+	struct actor *actor = caller();
 
 	if (first)
-		emit_row(driver->line, "d%d hardclear", driver->no);
-	pass_gate(driver, GATE_SYNCED);
+		emit_row(actor->line, "%c%d hardclear", WHO(actor));
+	pass_gate(actor, GATE_SYNCED);
 }
 
 void harness_synced(void)
 {
-	struct actor *driver = current_of('d');
+	struct actor *actor = caller();
 
-	driver->syncs = false;
-	emit_row(driver->line, "d%d synced", driver->no);
+	actor->syncs = false;
+	emit_row(actor->line, "%c%d synced", WHO(actor));
 }
 
 /* An interrupt's thread is about to look whether it was woken. */
@@ -227,22 +243,22 @@ bool harness_should_stop(struct irqaction *action)
 
 void harness_kthread_stop(struct task_struct *task)
 {
-	struct actor *driver = driver_in(CALL_FREE);
+	struct actor *actor = caller_in(CALL_FREE);
 
-	if (driver) {
-		struct actor *thread = &device_of(driver)->thread;
+	if (actor) {
+		struct actor *thread = &device_of(actor)->thread;
 		struct irqaction *action = kthread_data(task);
 
-		emit_free_cleared(driver);
-		thread->stopper = driver;
+		emit_free_cleared(actor);
+		thread->stopper = actor;
 		if (thread->task == task && (thread->gate != GATE_BEGIN ||
 		    test_bit(IRQTF_RUNTHREAD, &action->thread_flags)))
-			set_actor_state(driver, STOPS_THREAD);
+			set_actor_state(actor, STOPS_THREAD);
 		wake_up(&scheduler_wait);
 	}
-	kthread_stop(task);
-	if (driver)
-		set_actor_state(driver, RUNS);
+	kthread_stop(task);	/* a thread that stops itself stays here */
+	if (actor)
+		set_actor_state(actor, RUNS);
 }
 
 void harness_done_gate(void)
@@ -339,17 +355,10 @@ void harness_entry(struct irqaction *action)
 	if (!cpu)
 		return;
 	cpu->handler = device;
-	device->at_begin = device->open;
+	begin_run(device, PART_HANDLER);
 	device->line->runs++;
 	emit_row(cpu->line, "c%d begin %d", cpu->no, device->no);
 	pass_gate(cpu, GATE_RETURN);
-}
-
-static void serve(struct board_device *device, u32 count)
-{
-	device->open -= count;
-	device->line->served += count;
-	set_high(device->line);
 }
 
 void harness_exit(struct irqaction *action, int answer)
@@ -360,12 +369,28 @@ void harness_exit(struct irqaction *action, int answer)
 
 	if (!cpu)
 		return;
-	served = device->kind == DEVICE_DIRECT ? device->at_begin : 0;
-	serve(device, served);
+	served = end_run(device, PART_HANDLER);
 	emit_row(cpu->line, "c%d return %d %s %u", cpu->no, device->no,
 		 answer == IRQ_WAKE_THREAD ? "wake" : answer == IRQ_HANDLED ? "handled" : "nothing",
 		 served);
 	cpu->handler = NULL;
+}
+
+/*
+ * In __irq_wake_thread(): threads_oneshot is loaded, and not stored yet. A handler's
+ * wake holds no lock there, so what another processor stores meanwhile is lost.
+ */
+unsigned long harness_load(struct irq_desc *desc)
+{
+	unsigned long bits = desc->threads_oneshot;
+	struct actor *cpu = current_of('c');
+
+	if (cpu && !cpu->call && has_word(WORD_LOAD_FIRST)) {
+		emit_state(cpu->line);
+		pass_gate(cpu, GATE_NEXT);
+		cpu->past_gate = true;
+	}
+	return bits;
 }
 
 /* In __irq_wake_thread(): RUNTHREAD is set, and threads_active isn't raised yet. */
@@ -373,7 +398,7 @@ void harness_wake_gate(void)
 {
 	struct actor *cpu = current_of('c');
 
-	if (!cpu || !has_word(WORD_WAKE_FIRST))
+	if (!cpu || cpu->call || !has_word(WORD_WAKE_FIRST))
 		return;
 	emit_state(cpu->line);
 	pass_gate(cpu, GATE_NEXT);
@@ -382,37 +407,44 @@ void harness_wake_gate(void)
 
 irqreturn_t board_primary(int virq, void *cookie)
 {
+	static const irqreturn_t returns[ANSWERS] = {
+		IRQ_NONE, IRQ_HANDLED, IRQ_WAKE_THREAD, IRQ_HANDLED,
+	};
 	struct board_device *device = cookie;
-	u32 seen = device->at_begin;
+	struct actor *cpu = current_of('c');
 
 	if (device < the_board->devices || device >= the_board->devices + the_board->device_count)
 		return IRQ_NONE;	/* the poll finds a line of an earlier board */
-	if (!current_of('c')) {
+	if (cpu) {
+		make_run_calls(cpu, device, PART_HANDLER);
+	} else {
 		/* the poll of spurious.c, or the kernel's own tasklet: no entry of a log */
-		seen = device->open;
-		if (device->kind == DEVICE_DIRECT)
-			serve(device, seen);
+		begin_run(device, PART_HANDLER);
 		emit("# outside of the log: line %d, handler %d, %u served", device->line->no, device->no,
-		     device->kind == DEVICE_DIRECT ? seen : 0);
+		     end_run(device, PART_HANDLER));
 	}
 	if (!irqs_disabled())
 		emit("H handler %d with interrupts on", device->no);
-	if (device->kind == DEVICE_STUCK || !seen)
-		return IRQ_NONE;
-	return device->kind == DEVICE_DIRECT ? IRQ_HANDLED : IRQ_WAKE_THREAD;
+	return returns[device->runs[PART_HANDLER].answer];
 }
 
 irqreturn_t board_thread(int virq, void *cookie)
 {
 	struct board_device *device = cookie;
+	struct actor *thread = &device->thread;
+	bool handled;
+	u32 served;
 
-	device->at_thread_begin = device->open;
+	begin_run(device, PART_THREAD);
+	handled = device->runs[PART_THREAD].answer != ANSWER_NOTHING;
 	device->line->threads++;
 	emit_row(device->line, "t%d begin", device->no);
-	pass_gate(&device->thread, GATE_THREAD);
-	serve(device, device->at_thread_begin);
-	emit_row(device->line, "t%d return %u", device->no, device->at_thread_begin);
-	return device->at_thread_begin ? IRQ_HANDLED : IRQ_NONE;
+	pass_gate(thread, GATE_THREAD);
+	make_run_calls(thread, device, PART_THREAD);
+	served = end_run(device, PART_THREAD);
+	emit_row(device->line, "t%d return %u%s", device->no, served,
+		 handled == !!served ? "" : handled ? " handled" : " nothing");
+	return handled ? IRQ_HANDLED : IRQ_NONE;
 }
 
 /* ---------------------------------------------------------- spurious.c */

@@ -68,6 +68,7 @@ struct irqaction *harness_next(struct irq_desc *desc, struct irqaction *action);
 void harness_entry(struct irqaction *action);
 void harness_exit(struct irqaction *action, int answer);
 void harness_wake_gate(void);
+unsigned long harness_load(struct irq_desc *desc);
 void harness_note(struct irq_desc *desc, irqreturn_t answer);
 void harness_tasklet(struct tasklet_struct *tasklet);
 bool harness_resend_empty(unsigned long *map, int count);
@@ -118,6 +119,8 @@ do {									\
 #define note_interrupt(desc, answer)			harness_note(desc, answer)
 #undef atomic_inc
 #define atomic_inc(v)			do { harness_wake_gate(); arch_atomic_inc(v); } while (0)
+/* its one |= in two: what it loads, with a gate, and what it stores */
+#define threads_oneshot	threads_oneshot = harness_load(desc), desc->threads_oneshot
 #endif
 
 #ifdef HARNESS_RESEND

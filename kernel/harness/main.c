@@ -82,6 +82,16 @@ static void emit_summary(void)
 	emit("S total entries %u", the_board->total);
 }
 
+static void free_runs(struct board_device *device)
+{
+	int part;
+
+	for (part = 0; part < PARTS; part++) {
+		kfree(device->runs[part].script.calls);
+		vfree(device->runs[part].answers);
+	}
+}
+
 static void run_board(char *text)
 {
 	int i;
@@ -107,7 +117,9 @@ static void run_board(char *text)
 	/* Whoever is at a gate stays there for ever, and reads none of these again. */
 	vfree(the_board->picks);
 	for (i = 0; i < the_board->driver_count; i++)
-		vfree(the_board->drivers[i].calls);
+		vfree(the_board->drivers[i].script.calls);
+	for (i = 0; i < the_board->device_count; i++)
+		free_runs(&the_board->devices[i]);
 }
 
 /* Before the initramfs's own code takes the memory back. */

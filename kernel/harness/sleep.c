@@ -28,7 +28,7 @@ void add_sleep(void)
 /* A driver has made a disable. */
 void note_down(struct actor *driver, struct board_line *line)
 {
-	line->down |= driver->no == SYSTEM_DRIVER;
+	line->down |= driver->letter == 'd' && driver->no == SYSTEM_DRIVER;
 }
 
 /* A take was answered off: the first of an armed line that is down wakes. */

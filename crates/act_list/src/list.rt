@@ -171,6 +171,13 @@ impl ActList {
         answer
     }
 
+    /// Whether the device is linked.
+    pub fn is_linked(&self, dev: DevNo) -> bool
+        ensures { result ≡ has dev self.now.list.actions }
+    {
+        self.actions.contains(dev)
+    }
+
     /// What an unlink of the device is answered.
     fn unlink_answer(&self, dev: DevNo) -> UnlinkAnswer
         ensures { result ≡ unlink_by dev self.now.list.actions }

@@ -1,10 +1,13 @@
 -- The threads of a line: what is read off all rows, and what an entry makes of them.
-use Rattle.std.specs.Prelude.{ℕ, Bool, true, Option, Some, None, List}
+use Rattle.std.specs.Prelude.{ℕ, Bool, true, false, not, ◌&&◌, if◌then◌else◌, Option, Some, None}
+use Rattle.std.specs.Prelude.{List}
 use Rattle.irq_base.specs.declared.devices.Answer.TheVariants as answers
 use Rattle.irq_base.specs.declared.entries.Entry.{Entry}
 use Rattle.irq_base.specs.declared.entries.Entry.TheVariants as by
 use Rattle.irq_base.specs.declared.entries.CpuEntry.TheVariants as cpus
 use Rattle.irq_base.specs.declared.entries.ThreadEntry.TheVariants as threads
+use Rattle.irq_base.specs.declared.entries.CallEntry.{CallEntry}
+use Rattle.irq_base.specs.declared.entries.CallEntry.TheVariants as called
 use Rattle.irq_base.specs.declared.numbers.DevNo.{DevNo}
 use Rattle.device_table.specs.Rows.{at, change}
 use Rattle.device_table.specs.Sums.{weigh_all, how_many}
@@ -37,6 +40,18 @@ finish_of (Some r) = finished_by r
 abbrev pub finishes_at : List (DevNo × ThreadRow) → DevNo → Finished
 finishes_at t d = finish_of (at t d)
 
+-- a call wakes the thread, if it may and the thread isn't woken; none for a device without a row
+abbrev pub wakes_at : Bool → List (DevNo × ThreadRow) → DevNo → Bool
+wakes_at may t d = may && row_passes (λ r. not r.woken) false (at t d)
+
+-- what a call that wakes, or doesn't, makes of the threads
+abbrev pub called_at : Bool → Bool → List (DevNo × ThreadRow) → DevNo → List (DevNo × ThreadRow)
+called_at woken oneshot t d = if woken then change (woken_row oneshot) t d else t
+
+abbrev pub threads_by_call : Bool → CallEntry → List (DevNo × ThreadRow) → List (DevNo × ThreadRow)
+threads_by_call oneshot (called.Wake woken dev) t = called_at woken oneshot t dev
+threads_by_call oneshot _ t = t
+
 -- what an entry makes of the threads of a line, one-shot or not
 abbrev pub threads_after : Bool → Entry → List (DevNo × ThreadRow) → List (DevNo × ThreadRow)
 threads_after oneshot (by.Cpu cpu (cpus.Return answers.Wake dev served)) t =
@@ -45,4 +60,7 @@ threads_after oneshot (by.Thread dev threads.Begin) t = change begun_row t dev
 threads_after oneshot (by.Thread dev (threads.Return handled served)) t = change returned_row t dev
 threads_after oneshot (by.Thread dev (threads.Finish kept unmask)) t = change finished_row t dev
 threads_after oneshot (by.Thread dev threads.Done) t = change (done_row oneshot) t dev
+threads_after oneshot (by.CpuCall cpu call) t = threads_by_call oneshot call t
+threads_after oneshot (by.ThreadCall dev call) t = threads_by_call oneshot call t
+threads_after oneshot (by.DriverCall driver call) t = threads_by_call oneshot call t
 threads_after _ _ t = t

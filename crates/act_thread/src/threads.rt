@@ -1,5 +1,6 @@
 //! The threads of a line.
-ghost use Rattle.std.specs.Prelude.{◌≡◌, ℕ, ◌<◌, ◌≤◌, ◌==◌, if◌then◌else◌, length, Some, IfOk};
+ghost use Rattle.std.specs.Prelude.{◌≡◌, ℕ, ◌<◌, ◌≤◌, ◌==◌, true, if◌then◌else◌, length, Some};
+ghost use Rattle.std.specs.Prelude.{IfOk};
 ghost use Rattle.irq_model.specs.Valid.{HasDistinctDevices};
 ghost use Rattle.device_table.specs.Rows.{at, put, change, all_with, lowest_where};
 ghost use Rattle.device_table.specs.Ranks.{IsRanking};
@@ -7,6 +8,7 @@ ghost use Rattle.device_table.specs.RankSets.{holds};
 ghost use Rattle.act_thread.specs.Steps.{woken_row, begun_row, returned_row, finished_row};
 ghost use Rattle.act_thread.specs.Steps.{done_row, could_step, idle_row, is_ready, is_returned};
 ghost use Rattle.act_thread.specs.Threads.{active_in, held_in, is_idle_at, finishes_at};
+ghost use Rattle.act_thread.specs.Threads.{wakes_at, called_at};
 ghost use Rattle.act_thread.specs.Marked.{is_rank};
 
 use crate::rows::{Finished, Stage, ThreadRow};
@@ -119,6 +121,29 @@ impl Threads {
             return;
         }
         self.replace(dev, row, row.woken(oneshot));
+    }
+
+    /// A call asks for the device's thread (`irq_wake_thread`), and answers whether it wakes it:
+    /// not if it is to run already. `may`: the device is linked and has a thread.
+    pub fn wake_by_call(&mut self, dev: DevNo, may: bool, oneshot: bool) -> bool
+        ensures woken { result ≡ wakes_at may self.old dev }
+        ensures rows { self.new ≡ called_at result oneshot self.old dev }
+    {
+        let woken = may && self.is_unwoken(dev);
+        if woken {
+            self.wake(dev, oneshot);
+        }
+        woken
+    }
+
+    /// Whether the line has the device, and its thread isn't to run.
+    fn is_unwoken(&self, dev: DevNo) -> bool
+        ensures { result ≡ wakes_at true self.now dev }
+    {
+        match self.rows.get(dev) {
+            Some(row) => !row.woken,
+            None => false,
+        }
     }
 
     /// The thread begins a run: it finds that it is to run, and clears the mark

@@ -12,8 +12,8 @@ use Rattle.irq_base.specs.declared.entries.Actor.TheVariants as actors
 use Rattle.irq_base.specs.declared.entries.Entry.{Entry}
 use Rattle.irq_base.specs.declared.lines.LineDef.{LineDef}
 use Rattle.irq_base.specs.declared.numbers.CpuNo.{CpuNo}
-use Rattle.irq_model.specs.Next.{next, next_past, next_in_flow, next_take}
-use Rattle.irq_model.specs.Rounds.{flow, is_cpu, at_work}
+use Rattle.irq_model.specs.Next.{next, next_past}
+use Rattle.irq_model.specs.Rounds.{flow, is_cpu}
 use Rattle.irq_steps.proofs.Same.{cpu_from_same}
 use Rattle.irq_laws.proofs.Chosen.{the_same}
 use Rattle.irq_line.specs.Queries.{IsTaker, is_some_take}
@@ -21,9 +21,12 @@ use Rattle.irq_line.specs.Seen.{LineSeen}
 use Rattle.play_laws.specs.Actors.{count_up, IsOneOf, threads_of as threads_of_line, cpus_of as cpus_of_line}
 use Rattle.play_laws.specs.Actors.{drivers_of as drivers_of_line, actors_of as actors_of_line}
 use Rattle.play_laws.proofs.Listed.{mover_listed}
+use Rattle.play_laws.proofs.Moves.{flow_goes_on}
 use Rattle.board_play.specs.Lines.{BoardLine, Move}
 use Rattle.board_play.specs.Order.{line_for, flow_line, due_line, or_line, move_on, due_on, due_move}
+use Rattle.board_play.proofs.Moves.{line_stands}
 use Rattle.board_play.proofs.OfBoard.{def_of_row}
+use Rattle.board_play.proofs.Standstill.{calm_line}
 use Rattle.board_ready.specs.First.{first_of}
 use Rattle.board_ready.specs.Ready.{has_flow, has_take, flow_line as flow_place, take_line, flow_or_take, cpu_line}
 use Rattle.board_ready.specs.Ready.{is_cpu as is_number}
@@ -211,7 +214,10 @@ module _ {view : SystemSeen} (system : KeptSystem view) where
           by_test false is h deeper = deeper h
 
       flow_due : is_cpu c (flow y.def y.past) ≡ true → IsSome (next_past y.def y.past (actors.Cpu c))
-      flow_due is = ap (λ (b : Bool). is_some (cond b (Some (next_in_flow y.def c y.past (at_work y.past))) (next_take y.def c y.past))) is
+      flow_due is =
+          let s = line_stands board (board_lines lines) (actors.Cpu c) y its in
+          let r = calm_line board is_board (board_lines lines) kept.system.kept s.place y s.at in
+          flow_goes_on y.def y.past r.runs r.waits c is
 
       by_flow : (o : Option BoardLine) → flow_line (board_lines lines) c ≡ o
           → or_line o (due_line (board_lines lines) c) ≡ Some y → IsSome (next_past y.def y.past (actors.Cpu c))

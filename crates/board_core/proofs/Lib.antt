@@ -27,6 +27,7 @@ pub mod Room
 pub mod LowestTurns
 pub mod Wanting
 pub mod Hearing
+pub mod SettledLines
 pub mod Given
 pub mod Handing
 pub mod OwnScripts

@@ -15,15 +15,15 @@ use Rattle.irq_base.specs.declared.numbers.DriverNo.{DriverNo}
 use Rattle.irq_model.specs.Due.{calls_by, due_call}
 use Rattle.irq_model.specs.Kinds.{same_driver, is_driver, is_by_driver}
 use Rattle.irq_model.specs.Legal.{IsDue}
-use Rattle.irq_model.specs.Next.{next_of_call, next_past}
+use Rattle.irq_model.specs.Next.{next_of_driver, next_past}
 use Rattle.irq_steps.proofs.Same.{driver_from_same, same_self_driver}
 use Rattle.irq_laws.proofs.Chosen.{the_same}
-use Rattle.irq_laws.proofs.Progress.{fresh, no_more}
+use Rattle.irq_laws.proofs.Progress.{fresh}
 use Rattle.board_def.proofs.Rising.{Rises}
 use Rattle.board_def.specs.Seen.{BoardSeen}
 use Rattle.board_def.specs.declared.rows.ScriptCall.{ScriptCall}
 use Rattle.board_play.specs.Lines.{BoardLine}
-use Rattle.board_play.proofs.Counting.{not_all_complete, not_completed, others_complete, one_completed, none_complete, kth_is_due}
+use Rattle.board_play.proofs.Counting.{no_more, not_all_complete, not_completed, others_complete, one_completed, none_complete, kth_is_due}
 use Rattle.irq_line.specs.declared.answers.Stepped.TheVariants as stepped
 use Rattle.board_core.specs.Inside.{drivers_of}
 use Rattle.board_core.specs.Making.{AreCut, call_put, with_call}
@@ -127,7 +127,7 @@ due_some : (def : LineDef) (r : DriverNo) (past : List Entry) (e : Entry)
     → next_past def past (actors.Driver r) ≡ Some e → (x : Call × ℕ) × (due_call def r past ≡ Some x)
 due_some def r past e is = by_due (due_call def r past) refl is
   where
-    by_due : (o : Option (Call × ℕ)) → due_call def r past ≡ o → next_of_call def r past o ≡ Some e → (x : Call × ℕ) × (due_call def r past ≡ Some x)
+    by_due : (o : Option (Call × ℕ)) → due_call def r past ≡ o → next_of_driver def r past o ≡ Some e → (x : Call × ℕ) × (due_call def r past ≡ Some x)
     by_due None due is = cc
     by_due (Some x) due is = (x, due)
 
@@ -151,7 +151,7 @@ module _ (x : BoardLine) (e : Entry) where
     module _ (st : PlacedCall) (due : due_call x.def s.driver x.past ≡ Some (st.call.call, s.made))
         (owed : next_past x.def x.past (actors.Driver s.driver) ≡ Some e) where
       its_last : completes st.call.call e ≡ completes_at st.call.call s.made e
-      its_last = last_is x.def s.driver x.past st.call.call s.made e (ap (next_of_call x.def s.driver x.past) (sym due) ∙ owed)
+      its_last = last_is x.def s.driver x.past st.call.call s.made e (ap (next_of_driver x.def s.driver x.past) (sym due) ∙ owed)
 
       further : completes_at st.call.call s.made e ≡ false → IsOwn (with_entry e x) (advanced_by false s)
       further last =

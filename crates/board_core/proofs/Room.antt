@@ -6,6 +6,7 @@ use Rattle.irq_base.specs.declared.numbers.LineNo.{LineNo}
 use Rattle.irq_model.specs.Kinds.{same_line}
 use Rattle.irq_steps.proofs.Same.{line_from_same, same_self_line}
 use Rattle.irq_laws.proofs.Lists.{both_ways}
+use Rattle.irq_line.specs.Seen.{LineSeen}
 use Rattle.board_def.specs.Seen.{BoardSeen}
 use Rattle.board_play.specs.Lines.{BoardLine, Move, lines_after, find_line}
 use Rattle.board_core.specs.Seen.{SystemSeen, board_lines}
@@ -63,3 +64,9 @@ room_of_moved old new m moves =
     subst (λ (n : ℕ). n < room old.board.log (board_lines old.lines))
     (ap (λ (ls : List BoardLine). room old.board.log ls) (sym moves.lines) ∙ ap (λ (b : BoardSeen). room b.log (board_lines new.lines)) (sym moves.board))
     (room_less old.board.log m (board_lines old.lines) moves.room)
+
+-- it goes by the board and the lines alone
+pub room_same : (old new : SystemSeen) → new.board ≡ old.board → new.lines ≡ old.lines → room_of new ≡ room_of old
+unfolding room_of
+room_same old new board lines = ap (λ (b : BoardSeen). room b.log (board_lines new.lines)) board
+    ∙ ap (λ (ls : List LineSeen). room old.board.log (board_lines ls)) lines

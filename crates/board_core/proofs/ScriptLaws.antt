@@ -9,16 +9,15 @@ use Rattle.irq_base.specs.declared.numbers.DriverNo.{DriverNo}
 use Rattle.irq_base.specs.declared.numbers.LineNo.{LineNo}
 use Rattle.irq_model.specs.Due.{calls_by, due_call}
 use Rattle.irq_model.specs.Kinds.{same_line, same_driver, is_by_driver}
-use Rattle.irq_model.specs.Next.{next_of_call, next_past}
+use Rattle.irq_model.specs.Next.{next_of_driver, next_past}
 use Rattle.irq_steps.proofs.Same.{same_self_line}
 use Rattle.irq_laws.proofs.Chosen.{the_same}
-use Rattle.irq_laws.proofs.Progress.{no_more}
 use Rattle.board_def.specs.LineOf.{with_driver}
 use Rattle.board_def.specs.declared.rows.ScriptCall.{ScriptCall}
 use Rattle.board_play.specs.Current.{calls_on, current_from, current_line}
 use Rattle.board_play.specs.Kept.{IsUpTo}
 use Rattle.board_play.specs.Lines.{BoardLine, Move, line_after, lines_after}
-use Rattle.board_play.proofs.Counting.{kth_is_due}
+use Rattle.board_play.proofs.Counting.{kth_is_due, no_more}
 use Rattle.board_play.proofs.Members.{AreApart, find_there, found}
 use Rattle.board_play.proofs.Moving.{defs_moved, moved_at, not_own, goes_on, is_complete, none_begun}
 use Rattle.board_play.proofs.Script.{is_on, fewer, one_longer, done, IsThe, Current, current, is_current}
@@ -196,7 +195,7 @@ module _ (calls : List ScriptCall) (lines : List BoardLine) (m : Move) where
     cut_after = is.cut ∙ ap (λ (ds : List LineDef). cut ds s.driver calls) (sym (defs_moved lines m))
 
     its_last : completes x.call.call m.1 ≡ completes_at x.call.call s.made m.1
-    its_last = last_is y.def s.driver y.past x.call.call s.made m.1 (ap (next_of_call y.def s.driver y.past) (sym (is.due x y at there)) ∙ owed)
+    its_last = last_is y.def s.driver y.past x.call.call s.made m.1 (ap (next_of_driver y.def s.driver y.past) (sym (is.due x y at there)) ∙ owed)
 
     goes_further : completes_at x.call.call s.made m.1 ≡ false → IsScript calls (lines_after m lines) (advanced_by false s)
     unfolding at_place

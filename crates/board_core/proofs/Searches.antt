@@ -66,9 +66,9 @@ take_or_none true false false x y tx ty = refl
 pub due_is_take : (def : LineDef) (past : List Entry) (c : CpuNo) → is_cpu c (flow def past) ≡ false
     → is_some (next_past def past (actors.Cpu c)) ≡ is_some_take (next_past def past (actors.Cpu c))
 due_is_take def past c none =
-    ap (λ (b : Bool). is_some (cond b (Some (next_in_flow def c past (at_work past))) (next_take def c past))) none
+    ap (λ (b : Bool). is_some (cond b (next_in_flow def c past (at_work past)) (next_take def c past))) none
     ∙ (take_or_none (is_cpu c (target def past)) (signals def past) (is_soft past) _ _ refl refl
-    ∙ ap (λ (b : Bool). is_some_take (cond b (Some (next_in_flow def c past (at_work past)))
+    ∙ ap (λ (b : Bool). is_some_take (cond b (next_in_flow def c past (at_work past))
     (next_take def c past))) (sym none))
 
 pub same_truth : (a b : Bool) → (IsTrue a → IsTrue b) → (IsTrue b → IsTrue a) → a ≡ b

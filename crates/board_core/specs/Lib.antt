@@ -16,3 +16,4 @@ pub mod Playing
 pub mod Making
 pub mod Placing
 pub mod Runs
+pub mod Settled

@@ -27,6 +27,15 @@ pub record WantedMemory (may_want : Option Entry → Type 0) (room : LineNo → 
   pub wanted : room line.def.line → (EndsPiece moves → ⊥)
       → may_want (next_past line.def line.past a)
 
+-- A step of the actor on this line was refused memory, and the log wanted none. If there was room
+-- for one more entry in the line's history, as `room` says, then the line may want memory for the
+-- entry that is due of the actor there.
+pub record WantedByLine (may_want : Option Entry → Type 0) (room : LineNo → Type 0)
+    (on : Option BoardLine) (a : Actor) : Type 0 where
+  pub line : BoardLine
+  pub is : on ≡ Some line
+  pub wanted : room line.def.line → may_want (next_past line.def line.past a)
+
 -- the line of this number has room for one more entry
 abbrev pub HasSpare : List LineSeen → LineNo → Type 0
 HasSpare lines number =
@@ -58,6 +67,17 @@ LowestWants may_want s turn = Unit {0}
 abbrev pub EndWants : (Option Entry → Type 0) → SystemSeen → Result Unit StepRefused → Type 0
 EndWants may_want s (Err refusals.NoMemory) = WantsLowest may_want s
 EndWants may_want s end = Unit {0}
+
+-- the step of the lowest actor that can move was refused memory, and the log wanted none
+pub record LowestWantsByLine (may_want : Option Entry → Type 0) (s : SystemSeen) : Type 0 where
+  pub actor : Actor
+  pub lowest : lowest_move s ≡ move_of s actor
+  pub step : WantedByLine may_want (HasSpare s.lines)
+      (line_for s.board (board_lines s.lines) actor) actor
+
+abbrev pub SettleWants : (Option Entry → Type 0) → SystemSeen → Result Unit StepRefused → Type 0
+SettleWants may_want s (Err refusals.NoMemory) = LowestWantsByLine may_want s
+SettleWants may_want s end = Unit {0}
 
 -- The board was played with these picks and these moves, the oldest first, and then a step was
 -- refused memory. `left` are the picks that are left; there is a next move. If the actor of the

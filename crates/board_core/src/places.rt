@@ -12,7 +12,7 @@ use irq_line::{IrqLine, StepRefused, Stepped};
 use std::convert::Infallible;
 
 /// For how many moves the log takes memory at once.
-const PIECE: usize = 256;
+pub(crate) const PIECE: usize = 256;
 
 /// A step of the line at `place`. If it adds an entry, `place` goes to the end of the order, and
 /// the handler of the run that the entry ends is called. Room in the order is taken first, so that
@@ -44,13 +44,15 @@ pub(crate) fn step_place<L: IrqLine, H: Handler>(
     stepped
 }
 
-/// Makes room for one more move. Memory is taken only at the end of a piece, for the next one.
+/// Makes room for one more move. Memory is taken only at the end of a piece, for the next one: the
+/// first piece is there.
 #[inline(always)]
 fn make_room(order: &mut Vec<u16>) -> Result<(), NoMemory>
     requires { IsPieced (length order.old.items) (vec_capacity order.old) }
     ensures items { order.new.items ≡ order.old.items }
     ensures room { OnOk result (piece_end (length order.new.items) ≤ vec_capacity order.new) }
     ensures needed { OnErr result (EndsPiece (length order.old.items)) }
+    ensures pieced { IsPieced (length order.new.items) (vec_capacity order.new) }
 {
     if order.len() % PIECE == 0 {
         order.reserve(PIECE)?;

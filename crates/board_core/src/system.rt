@@ -13,20 +13,23 @@ ghost use Rattle.board_play.specs.Order.{cpus_of, drivers_of, due_on, flow_line,
 ghost use Rattle.board_ready.specs.Sets.{has};
 ghost use Rattle.board_core.specs.Firsts.{IsFirstOf, call_on, is_take_due, number_of};
 ghost use Rattle.board_core.specs.Making.{AreNew, MakesAll};
+ghost use Rattle.board_core.specs.Pieces.{EndsPiece};
 ghost use Rattle.board_core.specs.Playing.{IsFresh, IsUnderway, IsPlay, Ends, Settles};
 ghost use Rattle.board_core.specs.ReadyFor.{has_thread_up_to};
 ghost use Rattle.board_core.specs.Runs.{runs_by_turn, runs_in, runs_since};
 ghost use Rattle.board_core.specs.Seen.{board_lines};
+ghost use Rattle.board_core.specs.Settled.{SettlesLines};
 ghost use Rattle.board_core.specs.Stands.{CanStepAt, IsAt, IsCurrentOn, IsStand, IsLowestStand};
 ghost use Rattle.board_core.specs.Stands.{IsScriptPlace, IsStandOn};
 ghost use Rattle.board_core.specs.Turned.{StepsBy};
 ghost use Rattle.board_core.specs.Turns.{Turns, TurnsBy, move_of, lowest_move};
-ghost use Rattle.board_core.specs.Wanted.{EndWants, LowestWants, PlayWants, Wants, WantsOn};
+ghost use Rattle.board_core.specs.Wanted.{EndWants, LowestWants, PlayWants, SettleWants, Wants};
+ghost use Rattle.board_core.specs.Wanted.{WantsOn};
 
 use crate::making::{are_sound, make_lines, make_scripts};
 use crate::moves::{LINES, Moves, lengths_of};
 use crate::numbers::place_of;
-use crate::places::step_place;
+use crate::places::{PIECE, step_place};
 use crate::placing::place_scripts;
 use crate::refreshing::{make_ready, numbers_of_drivers, numbers_of_lines, refresh};
 use crate::scripts::Script;
@@ -116,6 +119,7 @@ impl<'b, L: IrqLine> System<'b, L> {
         let driver_numbers = numbers_of_drivers(alloc, board)?;
         let scripts = make_scripts(alloc, board, &line_numbers, &driver_numbers)?;
         let ready = make_ready(alloc, &lines, &scripts)?;
+        let order = Vec::with_capacity(alloc, PIECE)?;
         Ok(System {
             board,
             layout,
@@ -124,7 +128,7 @@ impl<'b, L: IrqLine> System<'b, L> {
             driver_numbers,
             scripts,
             ready,
-            order: Vec::new(alloc),
+            order,
             begun: [0; LINES],
         })
     }
@@ -151,6 +155,7 @@ impl<'b, L: IrqLine> System<'b, L> {
         let mut scripts = make_scripts(alloc, board, &line_numbers, &driver_numbers)?;
         place_scripts(alloc, board, &lines, &driver_numbers, &mut scripts)?;
         let ready = make_ready(alloc, &lines, &scripts)?;
+        let order = Vec::with_capacity(alloc, PIECE)?;
         let begun = lengths_of(&lines);
         Ok(System {
             board,
@@ -160,7 +165,7 @@ impl<'b, L: IrqLine> System<'b, L> {
             driver_numbers,
             scripts,
             ready,
-            order: Vec::new(alloc),
+            order,
             begun,
         })
     }
@@ -521,6 +526,48 @@ impl<'b, L: IrqLine> System<'b, L> {
                 Turn::NotYet => return Ok(()),
             }
         }
+    }
+
+    /// Steps of the lowest actor that can move, until none can, as `settle` makes them. But no log
+    /// is kept of them: it begins anew before it would take memory, so that no step is refused for
+    /// its sake.
+    pub fn settle_lines<H: Handler>(&mut self, handlers: &mut H) -> Result<(), StepRefused>
+        ensures board { self.new.board ≡ self.old.board }
+        ensures layout { self.new.layout ≡ self.old.layout }
+        ensures settles { SettlesLines H.hears self.old self.new handlers.old handlers.new }
+        ensures end { Ends self.new result }
+        ensures memory { SettleWants L.may_want self.new result }
+    {
+        self.shorten_log();
+        while let Turn::Moved { .. } = self.turn_lowest(handlers)? {
+            self.shorten_log();
+        }
+        Ok(())
+    }
+
+    /// Begins the log anew if it is at the end of a piece, so that one more move fits.
+    fn shorten_log(&mut self)
+        ensures board { self.new.board ≡ self.old.board }
+        ensures layout { self.new.layout ≡ self.old.layout }
+        ensures lines { self.new.lines ≡ self.old.lines }
+        ensures within { EndsPiece (length self.new.log) → ⊥ }
+    {
+        if self.log_len() % PIECE == 0 {
+            self.begin_log();
+        }
+    }
+
+    /// Begins the log anew, in the room that it has: it tells what comes after the entries that the
+    /// lines have now.
+    fn begin_log(&mut self)
+        ensures board { self.new.board ≡ self.old.board }
+        ensures layout { self.new.layout ≡ self.old.layout }
+        ensures lines { self.new.lines ≡ self.old.lines }
+        ensures log { self.new.log ≡ [] }
+    {
+        self.board.is_board();
+        self.begun = lengths_of(&self.lines);
+        self.order.clear();
     }
 
     /// Plays the board from its beginning to its end: the picks in turn, with one that can't move

@@ -10,15 +10,21 @@ use Rattle.std.proofs.lemmas.List.{append-nil, map-append, take_more}
 use Rattle.std.proofs.lemmas.List.Quantifiers.{position-Some}
 use Rattle.std.proofs.lemmas.Option.{slice_get_within, get_or_from_slice_get, slice_get-map}
 use Rattle.irq_base.specs.declared.devices.DeviceDef.{DeviceDef}
+use Rattle.irq_base.specs.declared.devices.Part.{Part}
+use Rattle.irq_base.specs.declared.devices.ToldAnswer.{ToldAnswer}
 use Rattle.irq_base.specs.declared.calls.Call.{Call}
 use Rattle.irq_base.specs.declared.lines.LineDef.{LineDef}
+use Rattle.irq_base.specs.declared.numbers.DevNo.{DevNo}
 use Rattle.irq_base.specs.declared.numbers.DriverNo.{DriverNo}
 use Rattle.irq_base.specs.declared.numbers.LineNo.{LineNo}
 use Rattle.board_def.specs.Find.{place_of_line}
 use Rattle.board_def.specs.LineOf.{line_of_row, line_defs_of, with_driver, with_parts}
+use Rattle.board_def.specs.Runs.{of_run, of_told}
 use Rattle.board_def.specs.Seen.{BoardSeen}
 use Rattle.board_def.specs.declared.rows.LineRow.{LineRow}
+use Rattle.board_def.specs.declared.rows.RunCall.{RunCall}
 use Rattle.board_def.specs.declared.rows.ScriptCall.{ScriptCall}
+use Rattle.board_def.specs.declared.rows.ToldRow.{ToldRow}
 use Rattle.irq_model.specs.Valid.{IsValid}
 use Rattle.board_def.specs.Rules.{IsBoard}
 use Rattle.board_def.proofs.Kept.{kept_at}
@@ -143,26 +149,26 @@ abbrev with_device : DeviceDef → LineDef → LineDef
 with_device x def = record def { devices = def.devices ++ x ∷ [] }
 
 abbrev defs_by_devices : BoardSeen → ℕ → LineRow → LineDef
-defs_by_devices b i row = line_of_row (with_parts b (take i b.devices) []) row
+defs_by_devices b i row = line_of_row (with_parts b (take i b.devices) [] [] []) row
 
 device_here : (b : BoardSeen) (i : ℕ) (x : DeviceDef) → slice_get b.devices i ≡ Some x → (row : LineRow)
     → (x.line.0 == row.line.0) ≡ true → defs_by_devices b (i + 1) row ≡ with_device x (defs_by_devices b i row)
 device_here b i x at row is =
     let keep : DeviceDef → Bool = λ y. y.line.0 == row.line.0 in
-    ap (λ (ds : List DeviceDef). record (line_of_row (with_parts b [] []) row) { devices = ds }) (kept_at keep b.devices i x true at is)
+    ap (λ (ds : List DeviceDef). record (line_of_row (with_parts b [] [] [] []) row) { devices = ds }) (kept_at keep b.devices i x true at is)
 
 device_elsewhere : (b : BoardSeen) (i : ℕ) (x : DeviceDef) → slice_get b.devices i ≡ Some x → (row : LineRow)
     → (x.line.0 == row.line.0) ≡ false → defs_by_devices b (i + 1) row ≡ defs_by_devices b i row
 device_elsewhere b i x at row is =
     let keep : DeviceDef → Bool = λ y. y.line.0 == row.line.0 in
-    ap (λ (ds : List DeviceDef). record (line_of_row (with_parts b [] []) row) { devices = ds })
+    ap (λ (ds : List DeviceDef). record (line_of_row (with_parts b [] [] [] []) row) { devices = ds })
     (kept_at keep b.devices i x false at is ∙ append-nil (filter keep (take i b.devices)))
 
 pub device_given : (b : BoardSeen) (i : ℕ) (x : DeviceDef) (place : ℕ) (now : LineDef) → IsBoard b
     → slice_get b.devices i ≡ Some x → place_of_line b.lines x.line ≡ Some place
-    → (defs : List LineDef) → defs ≡ line_defs_of (with_parts b (take i b.devices) []) → now ≡ get_or defs place now
+    → (defs : List LineDef) → defs ≡ line_defs_of (with_parts b (take i b.devices) [] [] []) → now ≡ get_or defs place now
     → (def : LineDef) → def ≡ record now { devices = now.devices ++ x ∷ [] }
-    → set defs place def ≡ line_defs_of (with_parts b (take (i + 1) b.devices) [])
+    → set defs place def ≡ line_defs_of (with_parts b (take (i + 1) b.devices) [] [] [])
 device_given b i x place now board at found defs are value def is =
     ap (set defs place) (is ∙ ap (with_device x) value)
     ∙ (ap (λ (ds : List LineDef). set ds place (with_device x (get_or ds place now))) are
@@ -170,7 +176,7 @@ device_given b i x place now board at found defs are value def is =
     (device_here b i x at) (device_elsewhere b i x at) place now (lines_rise b board) found))
 
 pub device_nowhere : (b : BoardSeen) (i : ℕ) (x : DeviceDef) → slice_get b.devices i ≡ Some x → place_of_line b.lines x.line ≡ None
-    → line_defs_of (with_parts b (take i b.devices) []) ≡ line_defs_of (with_parts b (take (i + 1) b.devices) [])
+    → line_defs_of (with_parts b (take i b.devices) [] [] []) ≡ line_defs_of (with_parts b (take (i + 1) b.devices) [] [] [])
 device_nowhere b i x at none =
     sym (given_nowhere (defs_by_devices b i) (defs_by_devices b (i + 1)) x.line (with_device x) b.lines (device_here b i x at) (device_elsewhere b i x at) none)
 
@@ -180,27 +186,27 @@ abbrev with_call : ScriptCall → LineDef → LineDef
 with_call c def = record def { calls = def.calls ++ with_driver c ∷ [] }
 
 abbrev defs_by_calls : BoardSeen → ℕ → LineRow → LineDef
-defs_by_calls b i row = line_of_row (with_parts b b.devices (take i b.calls)) row
+defs_by_calls b i row = line_of_row (with_parts b b.devices (take i b.calls) [] []) row
 
 call_here : (b : BoardSeen) (i : ℕ) (c : ScriptCall) → slice_get b.calls i ≡ Some c → (row : LineRow)
     → (c.line.0 == row.line.0) ≡ true → defs_by_calls b (i + 1) row ≡ with_call c (defs_by_calls b i row)
 call_here b i c at row is =
     let keep : ScriptCall → Bool = λ y. y.line.0 == row.line.0 in
-    ap (λ (cs : List (DriverNo × Call)). record (line_of_row (with_parts b b.devices []) row) { calls = cs })
+    ap (λ (cs : List (DriverNo × Call)). record (line_of_row (with_parts b b.devices [] [] []) row) { calls = cs })
     (ap (map with_driver) (kept_at keep b.calls i c true at is) ∙ map-append with_driver (filter keep (take i b.calls)) (c ∷ []))
 
 call_elsewhere : (b : BoardSeen) (i : ℕ) (c : ScriptCall) → slice_get b.calls i ≡ Some c → (row : LineRow)
     → (c.line.0 == row.line.0) ≡ false → defs_by_calls b (i + 1) row ≡ defs_by_calls b i row
 call_elsewhere b i c at row is =
     let keep : ScriptCall → Bool = λ y. y.line.0 == row.line.0 in
-    ap (λ (cs : List (DriverNo × Call)). record (line_of_row (with_parts b b.devices []) row) { calls = cs })
+    ap (λ (cs : List (DriverNo × Call)). record (line_of_row (with_parts b b.devices [] [] []) row) { calls = cs })
     (ap (map with_driver) (kept_at keep b.calls i c false at is ∙ append-nil (filter keep (take i b.calls))))
 
 pub call_given : (b : BoardSeen) (i : ℕ) (c : ScriptCall) (place : ℕ) (now : LineDef) → IsBoard b
     → slice_get b.calls i ≡ Some c → place_of_line b.lines c.line ≡ Some place
-    → (defs : List LineDef) → defs ≡ line_defs_of (with_parts b b.devices (take i b.calls))
+    → (defs : List LineDef) → defs ≡ line_defs_of (with_parts b b.devices (take i b.calls) [] [])
     → now ≡ get_or defs place now → (def : LineDef) → def ≡ record now { calls = now.calls ++ with_driver c ∷ [] }
-    → set defs place def ≡ line_defs_of (with_parts b b.devices (take (i + 1) b.calls))
+    → set defs place def ≡ line_defs_of (with_parts b b.devices (take (i + 1) b.calls) [] [])
 call_given b i c place now board at found defs are value def is =
     ap (set defs place) (is ∙ ap (with_call c) value)
     ∙ (ap (λ (ds : List LineDef). set ds place (with_call c (get_or ds place now))) are
@@ -208,9 +214,85 @@ call_given b i c place now board at found defs are value def is =
     (call_elsewhere b i c at) place now (lines_rise b board) found))
 
 pub call_nowhere : (b : BoardSeen) (i : ℕ) (c : ScriptCall) → slice_get b.calls i ≡ Some c → place_of_line b.lines c.line ≡ None
-    → line_defs_of (with_parts b b.devices (take i b.calls)) ≡ line_defs_of (with_parts b b.devices (take (i + 1) b.calls))
+    → line_defs_of (with_parts b b.devices (take i b.calls) [] []) ≡ line_defs_of (with_parts b b.devices (take (i + 1) b.calls) [] [])
 call_nowhere b i c at none =
     sym (given_nowhere (defs_by_calls b i) (defs_by_calls b (i + 1)) c.line (with_call c) b.lines (call_here b i c at) (call_elsewhere b i c at) none)
+
+-- ---- one call of a run more
+
+abbrev with_run : RunCall → LineDef → LineDef
+with_run c def = record def { runs = def.runs ++ of_run c ∷ [] }
+
+abbrev defs_by_run : BoardSeen → ℕ → LineRow → LineDef
+defs_by_run b i row = line_of_row (with_parts b b.devices b.calls (take i b.runs) []) row
+
+run_here : (b : BoardSeen) (i : ℕ) (c : RunCall) → slice_get b.runs i ≡ Some c → (row : LineRow)
+    → (c.line.0 == row.line.0) ≡ true → defs_by_run b (i + 1) row ≡ with_run c (defs_by_run b i row)
+run_here b i c at row is =
+    let keep : RunCall → Bool = λ y. y.line.0 == row.line.0 in
+    ap (λ (cs : List (DevNo × Part × Call)). record (line_of_row (with_parts b b.devices b.calls [] []) row) { runs = cs })
+    (ap (map of_run) (kept_at keep b.runs i c true at is) ∙ map-append of_run (filter keep (take i b.runs)) (c ∷ []))
+
+run_elsewhere : (b : BoardSeen) (i : ℕ) (c : RunCall) → slice_get b.runs i ≡ Some c → (row : LineRow)
+    → (c.line.0 == row.line.0) ≡ false → defs_by_run b (i + 1) row ≡ defs_by_run b i row
+run_elsewhere b i c at row is =
+    let keep : RunCall → Bool = λ y. y.line.0 == row.line.0 in
+    ap (λ (cs : List (DevNo × Part × Call)). record (line_of_row (with_parts b b.devices b.calls [] []) row) { runs = cs })
+    (ap (map of_run) (kept_at keep b.runs i c false at is ∙ append-nil (filter keep (take i b.runs))))
+
+pub run_given : (b : BoardSeen) (i : ℕ) (c : RunCall) (place : ℕ) (now : LineDef) → IsBoard b
+    → slice_get b.runs i ≡ Some c → place_of_line b.lines c.line ≡ Some place
+    → (defs : List LineDef) → defs ≡ line_defs_of (with_parts b b.devices b.calls (take i b.runs) [])
+    → now ≡ get_or defs place now → (def : LineDef) → def ≡ record now { runs = now.runs ++ of_run c ∷ [] }
+    → set defs place def ≡ line_defs_of (with_parts b b.devices b.calls (take (i + 1) b.runs) [])
+run_given b i c place now board at found defs are value def is =
+    ap (set defs place) (is ∙ ap (with_run c) value)
+    ∙ (ap (λ (ds : List LineDef). set ds place (with_run c (get_or ds place now))) are
+    ∙ sym (given_at (defs_by_run b i) (defs_by_run b (i + 1)) c.line (with_run c) b.lines (run_here b i c at)
+    (run_elsewhere b i c at) place now (lines_rise b board) found))
+
+pub run_nowhere : (b : BoardSeen) (i : ℕ) (c : RunCall) → slice_get b.runs i ≡ Some c → place_of_line b.lines c.line ≡ None
+    → line_defs_of (with_parts b b.devices b.calls (take i b.runs) []) ≡ line_defs_of (with_parts b b.devices b.calls (take (i + 1) b.runs) [])
+run_nowhere b i c at none =
+    sym (given_nowhere (defs_by_run b i) (defs_by_run b (i + 1)) c.line (with_run c) b.lines (run_here b i c at) (run_elsewhere b i c at) none)
+
+-- ---- one answer more
+
+abbrev with_told : ToldRow → LineDef → LineDef
+with_told c def = record def { told = def.told ++ of_told c ∷ [] }
+
+abbrev defs_by_told : BoardSeen → ℕ → LineRow → LineDef
+defs_by_told b i row = line_of_row (with_parts b b.devices b.calls b.runs (take i b.told)) row
+
+told_here : (b : BoardSeen) (i : ℕ) (c : ToldRow) → slice_get b.told i ≡ Some c → (row : LineRow)
+    → (c.line.0 == row.line.0) ≡ true → defs_by_told b (i + 1) row ≡ with_told c (defs_by_told b i row)
+told_here b i c at row is =
+    let keep : ToldRow → Bool = λ y. y.line.0 == row.line.0 in
+    ap (λ (cs : List (DevNo × Part × ToldAnswer)). record (line_of_row (with_parts b b.devices b.calls b.runs []) row) { told = cs })
+    (ap (map of_told) (kept_at keep b.told i c true at is) ∙ map-append of_told (filter keep (take i b.told)) (c ∷ []))
+
+told_elsewhere : (b : BoardSeen) (i : ℕ) (c : ToldRow) → slice_get b.told i ≡ Some c → (row : LineRow)
+    → (c.line.0 == row.line.0) ≡ false → defs_by_told b (i + 1) row ≡ defs_by_told b i row
+told_elsewhere b i c at row is =
+    let keep : ToldRow → Bool = λ y. y.line.0 == row.line.0 in
+    ap (λ (cs : List (DevNo × Part × ToldAnswer)). record (line_of_row (with_parts b b.devices b.calls b.runs []) row) { told = cs })
+    (ap (map of_told) (kept_at keep b.told i c false at is ∙ append-nil (filter keep (take i b.told))))
+
+pub told_given : (b : BoardSeen) (i : ℕ) (c : ToldRow) (place : ℕ) (now : LineDef) → IsBoard b
+    → slice_get b.told i ≡ Some c → place_of_line b.lines c.line ≡ Some place
+    → (defs : List LineDef) → defs ≡ line_defs_of (with_parts b b.devices b.calls b.runs (take i b.told))
+    → now ≡ get_or defs place now → (def : LineDef) → def ≡ record now { told = now.told ++ of_told c ∷ [] }
+    → set defs place def ≡ line_defs_of (with_parts b b.devices b.calls b.runs (take (i + 1) b.told))
+told_given b i c place now board at found defs are value def is =
+    ap (set defs place) (is ∙ ap (with_told c) value)
+    ∙ (ap (λ (ds : List LineDef). set ds place (with_told c (get_or ds place now))) are
+    ∙ sym (given_at (defs_by_told b i) (defs_by_told b (i + 1)) c.line (with_told c) b.lines (told_here b i c at)
+    (told_elsewhere b i c at) place now (lines_rise b board) found))
+
+pub told_nowhere : (b : BoardSeen) (i : ℕ) (c : ToldRow) → slice_get b.told i ≡ Some c → place_of_line b.lines c.line ≡ None
+    → line_defs_of (with_parts b b.devices b.calls b.runs (take i b.told)) ≡ line_defs_of (with_parts b b.devices b.calls b.runs (take (i + 1) b.told))
+told_nowhere b i c at none =
+    sym (given_nowhere (defs_by_told b i) (defs_by_told b (i + 1)) c.line (with_told c) b.lines (told_here b i c at) (told_elsewhere b i c at) none)
 
 -- ---- all lines
 

@@ -29,6 +29,7 @@ domains =
 
 abbrev board : BoardSeen
 board = record {
+  version = 1;
   cpus = 1;
   window = 100000;
   limit = 99900;
@@ -37,6 +38,8 @@ board = record {
   lines
       = line 1 2 40 ∷ line 2 2 41 ∷ line 3 3 5 ∷ [];
   devices = [];
+  told = [];
+  runs = [];
   drivers = [];
   calls = [];
   picks = [];

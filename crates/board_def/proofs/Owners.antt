@@ -78,6 +78,12 @@ owned_call earlier driver calls.Enable d h is = absurd cc
 owned_call earlier driver calls.Sync d h is = absurd cc
 owned_call earlier driver (calls.Affinity mask) d h is = absurd cc
 owned_call earlier driver (calls.Moment at) d h is = absurd cc
+owned_call earlier driver calls.SyncHard d h is = absurd cc
+owned_call earlier driver calls.DisableHard d h is = absurd cc
+owned_call earlier driver (calls.Wake dev) d h is = absurd cc
+owned_call earlier driver (calls.Quiet dev) d h is = absurd cc
+owned_call earlier driver (calls.Arm dev) d h is = absurd cc
+owned_call earlier driver (calls.Serve dev) d h is = absurd cc
 
 freed_call : (earlier : List ScriptCall) (driver : DriverNo) (call : Call) (d : DevNo)
     → is_bad_owner earlier driver call ≡ false → requests_dev d call ≡ true
@@ -93,6 +99,12 @@ freed_call earlier driver calls.Enable d h is = absurd cc
 freed_call earlier driver calls.Sync d h is = absurd cc
 freed_call earlier driver (calls.Affinity mask) d h is = absurd cc
 freed_call earlier driver (calls.Moment at) d h is = absurd cc
+freed_call earlier driver calls.SyncHard d h is = absurd cc
+freed_call earlier driver calls.DisableHard d h is = absurd cc
+freed_call earlier driver (calls.Wake dev) d h is = absurd cc
+freed_call earlier driver (calls.Quiet dev) d h is = absurd cc
+freed_call earlier driver (calls.Arm dev) d h is = absurd cc
+freed_call earlier driver (calls.Serve dev) d h is = absurd cc
 
 -- a request or free of a device is on the device's line
 owning_on_line : (devices : List DeviceDef) (line : LineNo) (call : Call) (d : DevNo)
@@ -109,6 +121,12 @@ owning_on_line devices line calls.Enable d h is = absurd cc
 owning_on_line devices line calls.Sync d h is = absurd cc
 owning_on_line devices line (calls.Affinity mask) d h is = absurd cc
 owning_on_line devices line (calls.Moment at) d h is = absurd cc
+owning_on_line devices line calls.SyncHard d h is = absurd cc
+owning_on_line devices line calls.DisableHard d h is = absurd cc
+owning_on_line devices line (calls.Wake dev) d h is = absurd cc
+owning_on_line devices line (calls.Quiet dev) d h is = absurd cc
+owning_on_line devices line (calls.Arm dev) d h is = absurd cc
+owning_on_line devices line (calls.Serve dev) d h is = absurd cc
 
 one_line : (a b n : LineNo) (x : Option DeviceDef) → is_on_line a x ≡ true → is_on_line b x ≡ true → (b.0 == n.0) ≡ true → (a.0 == n.0) ≡ true
 one_line a b n None ha hb hn = absurd cc

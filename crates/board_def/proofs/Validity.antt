@@ -42,6 +42,7 @@ edge_root levels.Msi h = refl
 edge_root levels.Remap h = refl
 edge_root levels.Vector h = refl
 edge_root levels.Lpi h = absurd cc
+edge_root levels.Pin h = refl
 
 level_root : (k : ControllerKind) → is_level_flow (flow_of_root k) ≡ true → not (is_edge_trigger (trigger_of_root k)) ≡ true
 level_root levels.Latch h = absurd cc
@@ -52,6 +53,7 @@ level_root levels.Msi h = absurd cc
 level_root levels.Remap h = absurd cc
 level_root levels.Vector h = absurd cc
 level_root levels.Lpi h = absurd cc
+level_root levels.Pin h = absurd cc
 
 -- the one root that is handled by the fast-EOI flow on edges
 lpi_root : (k : ControllerKind) → is_edge_trigger (trigger_of_root k) ≡ true → is_eoi_flow (flow_of_root k) ≡ true → k ≡ levels.Lpi
@@ -63,6 +65,7 @@ lpi_root levels.Msi e f = absurd cc
 lpi_root levels.Remap e f = absurd cc
 lpi_root levels.Vector e f = absurd cc
 lpi_root levels.Lpi e f = refl
+lpi_root levels.Pin e f = absurd cc
 
 -- devices
 
@@ -72,7 +75,7 @@ named n = record { 0 = n }
 same_from_test : (m n : ℕ) → (m == n) ≡ true → m ≡ n
 same_from_test m n h = grind (arith, nat_tests)
 
-same_line : (a b : LineNo) → (a.0 == b.0) ≡ true → a ≡ b
+pub same_line : (a b : LineNo) → (a.0 == b.0) ≡ true → a ≡ b
 unfolding named
 same_line a b h = ap named (same_from_test a.0 b.0 h)
 
@@ -100,7 +103,7 @@ distinct keep (x ∷ xs) rises =
     by false none rest = rest
 
 -- a device whose line this is stands among the devices of the line's definition
-among : (line : LineNo) (dev : DevNo) (xs : List DeviceDef) → is_on_line line (find_device xs dev) ≡ true
+pub among : (line : LineNo) (dev : DevNo) (xs : List DeviceDef) → is_on_line line (find_device xs dev) ≡ true
     → list_any (is_device dev) (filter (λ x. x.line.0 == line.0) xs) ≡ true
 among line dev [] h = absurd cc
 among line dev (x ∷ xs) h = by (same_dev dev x.dev) refl (x.line.0 == line.0) refl h (among line dev xs)
@@ -124,6 +127,12 @@ named_on_line line devices calls.Enable h = refl
 named_on_line line devices calls.Sync h = refl
 named_on_line line devices (calls.Affinity mask) h = refl
 named_on_line line devices (calls.Moment at) h = refl
+named_on_line line devices calls.SyncHard h = refl
+named_on_line line devices calls.DisableHard h = refl
+named_on_line line devices (calls.Wake dev) h = refl
+named_on_line line devices (calls.Quiet dev) h = refl
+named_on_line line devices (calls.Arm dev) h = refl
+named_on_line line devices (calls.Serve dev) h = refl
 
 -- all together
 

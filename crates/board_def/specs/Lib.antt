@@ -1,6 +1,7 @@
 pub mod Names
 pub mod Seen
 pub mod Unnamed
+pub mod Runs
 pub mod Rules
 pub mod Layout
 pub mod LineOf

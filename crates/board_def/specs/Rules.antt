@@ -1,6 +1,6 @@
 -- The rules that a board keeps. Whether a row is allowed depends on the rows before it.
 use Rattle.std.specs.Prelude.{◌≡◌, ℕ, ◌*◌, ◌<◌, ◌≤◌, Bool, true, false, not, ◌&&◌, ◌||◌, ◌==◌}
-use Rattle.std.specs.Prelude.{IsSome, Option, Some, None, List, [], ◌∷◌, length, reverse}
+use Rattle.std.specs.Prelude.{IsSome, Option, Some, None, List, [], ◌∷◌, ◌++◌, length, reverse}
 use Rattle.std.specs.Prelude.{if◌then◌else◌, All}
 use Rattle.std.specs.List.{list_any}
 use Rattle.irq_base.specs.Cell.{is_edge_trigger}
@@ -8,6 +8,7 @@ use Rattle.irq_base.specs.Handlers.{has_thread}
 use Rattle.irq_base.specs.declared.calls.Call.{Call}
 use Rattle.irq_base.specs.declared.calls.Call.TheVariants as calls
 use Rattle.irq_base.specs.declared.devices.DeviceDef.{DeviceDef}
+use Rattle.irq_base.specs.declared.devices.Part.{Part}
 use Rattle.irq_base.specs.declared.domains.DomainDef.{DomainDef}
 use Rattle.irq_base.specs.declared.entries.Actor.{Actor}
 use Rattle.irq_base.specs.declared.entries.Actor.TheVariants as actors
@@ -15,18 +16,23 @@ use Rattle.irq_base.specs.declared.numbers.DevNo.{DevNo}
 use Rattle.irq_base.specs.declared.numbers.DriverNo.{DriverNo}
 use Rattle.irq_base.specs.declared.numbers.LineNo.{LineNo}
 use Rattle.irq_model.specs.Kinds.{same_dev}
+use Rattle.irq_model.specs.Places.{count_of}
 use Rattle.irq_model.specs.Signal.{lowest_in}
 use Rattle.irq_model.specs.Valid.{requests_dev, frees_dev}
 use Rattle.board_def.specs.Names.{is_name, name_bytes, same_name}
 use Rattle.domain_rules.specs.Domains.{EachAfter, IsDomainAfter}
 use Rattle.domain_rules.specs.Levels.{root_kind, trigger_of_root, keeps}
 use Rattle.domain_rules.specs.Paths.{kinds_from}
+use Rattle.board_def.specs.Runs.{is_call_of, is_allowed_run, answers_wake, is_allowed_answer}
+use Rattle.board_def.specs.Runs.{fits_wakes, with_thread}
 use Rattle.board_def.specs.Seen.{BoardSeen}
 use Rattle.board_def.specs.Unnamed.{defs_of}
 use Rattle.board_def.specs.declared.names.Name.{Name}
 use Rattle.board_def.specs.declared.rows.DomainRow.{DomainRow}
 use Rattle.board_def.specs.declared.rows.LineRow.{LineRow}
+use Rattle.board_def.specs.declared.rows.RunCall.{RunCall}
 use Rattle.board_def.specs.declared.rows.ScriptCall.{ScriptCall}
+use Rattle.board_def.specs.declared.rows.ToldRow.{ToldRow}
 
 -- the number of a line, a device or a driver
 abbrev pub IsNumber : ℕ → Type 0
@@ -80,6 +86,8 @@ pub record IsDeviceAfter (b : BoardSeen) (earlier : List DeviceDef) (device : De
   pub number : IsNumber device.dev.0
   pub rises : All (λ e. e.dev.0 < device.dev.0) earlier
   pub line : has_line b.lines device.line ≡ true
+  -- a told device has a thread exactly if some answer of its handler wakes it
+  pub thread : fits_wakes (list_any (answers_wake device.dev) b.told) device.kind ≡ true
 
 pub record IsDriverAfter (earlier : List DriverNo) (driver : DriverNo) : Type 0 where
   pub number : IsNumber driver.0
@@ -121,6 +129,10 @@ abbrev pub fits_line : List DeviceDef → LineNo → Call → Bool
 fits_line devices line (calls.Ask dev) = is_on_line line (find_device devices dev)
 fits_line devices line (calls.Request dev flags) = is_on_line line (find_device devices dev)
 fits_line devices line (calls.Free dev) = is_on_line line (find_device devices dev)
+fits_line devices line (calls.Wake dev) = is_on_line line (find_device devices dev)
+fits_line devices line (calls.Quiet dev) = is_on_line line (find_device devices dev)
+fits_line devices line (calls.Arm dev) = is_on_line line (find_device devices dev)
+fits_line devices line (calls.Serve dev) = is_on_line line (find_device devices dev)
 fits_line devices line _ = true
 
 pub record IsCallAfter (b : BoardSeen) (earlier : List ScriptCall) (c : ScriptCall) : Type 0 where
@@ -130,6 +142,28 @@ pub record IsCallAfter (b : BoardSeen) (earlier : List ScriptCall) (c : ScriptCa
   pub line : has_line b.lines c.line ≡ true
   pub device : fits_line b.devices c.line c.call ≡ true
   pub owner : is_bad_owner earlier c.driver c.call ≡ false
+
+-- runs
+
+-- the runs' calls: of a script at most 16, each of a device that may make it, on its own line
+pub record AreRuns (devices : List DeviceDef) (runs : List RunCall) : Type 0 where
+  pub few : length runs ≤ 256
+  pub short : (d : DevNo) (part : Part) → count_of (is_call_of d part) runs ≤ 16
+  pub allowed : All (λ r. is_allowed_run runs r (find_device devices r.dev) ≡ true) runs
+  pub fit : All (λ r. fits_line devices r.line r.call ≡ true) runs
+
+-- what told devices answer: of a device at most 4,096, each an answer that its part may give
+pub record AreAnswers (devices : List DeviceDef) (told : List ToldRow) : Type 0 where
+  pub few : length told ≤ 65536
+  pub short : (d : DevNo) → count_of (λ r. same_dev d r.dev) told ≤ 4096
+  pub allowed : All (λ r. is_allowed_answer r (find_device devices r.dev) ≡ true) told
+
+-- the answers of a device after the board's
+abbrev pub with_answers : DevNo → List ToldRow → BoardSeen → BoardSeen
+with_answers dev rows b = record b {
+  told = b.told ++ rows;
+  devices = if list_any (answers_wake dev) rows then with_thread dev b.devices else b.devices;
+}
 
 -- picks
 
@@ -161,6 +195,8 @@ pub record IsBoard (b : BoardSeen) : Type 0 where
   pub domains : EachAfter IsDomainRowAfter b.domains
   pub lines : EachAfter (IsLineAfter b) b.lines
   pub devices : EachAfter (IsDeviceAfter b) b.devices
+  pub told : AreAnswers b.devices b.told
+  pub runs : AreRuns b.devices b.runs
   pub drivers : EachAfter IsDriverAfter b.drivers
   pub calls : EachAfter (IsCallAfter b) b.calls
   pub picks : All (IsActorOf b) b.picks

@@ -3,10 +3,10 @@ ghost use Rattle.std.specs.Prelude.{◌≡◌, ◌<◌, ◌≤◌, [], ◌∷◌
 ghost use Rattle.board_def.specs.Find.{place_of_name, place_of_line, last_line, last_device};
 ghost use Rattle.board_def.specs.Find.{last_driver};
 ghost use Rattle.board_def.specs.LineOf.{find_line};
-ghost use Rattle.board_def.specs.Rules.{IsBoard, find_device, has_driver};
+ghost use Rattle.board_def.specs.Rules.{IsBoard, find_device, has_driver, with_answers};
 
 use crate::names::Name;
-use crate::rows::{DomainRow, LineRow, ScriptCall};
+use crate::rows::{DomainRow, LineRow, RunCall, ScriptCall, ToldRow, wake_thread};
 use crate::tables::Table;
 use irq_base::{Actor, DevNo, DeviceDef, DriverNo, LineNo, NoMemory};
 use std::alloc::Global;
@@ -16,6 +16,7 @@ use std::marker::Model;
 /// name and the numbers of lines, devices and drivers in constant time.
 #[derive(Drop)]
 pub struct Board {
+    version: u32,
     cpus: u32,
     window: u32,
     limit: u32,
@@ -23,6 +24,8 @@ pub struct Board {
     domains: Table<Name, DomainRow>,
     lines: Table<LineNo, LineRow>,
     devices: Table<DevNo, DeviceDef>,
+    told: Vec<ToldRow>,
+    runs: Vec<RunCall>,
     drivers: Table<DriverNo, DriverNo>,
     calls: Vec<ScriptCall>,
     picks: Vec<Actor>,
@@ -42,15 +45,16 @@ impl Model for Board {
 }
 
 impl Board {
-    /// A board with nothing declared. `cpus`: the number of processors (1 to 32); `window` (1 to
-    /// 1,000,000) and `limit` (below the window): of the rule on spurious interrupts; `log`: the
-    /// greatest length of a line's history (1 to 1,000,000).
+    /// A board of version 1 with nothing declared. `cpus`: the number of processors (1 to 32);
+    /// `window` (1 to 1,000,000) and `limit` (below the window): of the rule on spurious
+    /// interrupts; `log`: the greatest length of a line's history (1 to 1,000,000).
     pub fn new(alloc: Global, cpus: u32, window: u32, limit: u32, log: u32) -> Board
         requires cpus { (1 ≤ cpus) × (cpus ≤ 32) }
         requires window { window ≤ 1000000 }
         requires limit { limit < window }
         requires log { (1 ≤ log) × (log ≤ 1000000) }
         ensures board { result ≡ record {
+          version = 1;
           cpus = cpus;
           window = window;
           limit = limit;
@@ -58,12 +62,15 @@ impl Board {
           domains = [];
           lines = [];
           devices = [];
+          told = [];
+          runs = [];
           drivers = [];
           calls = [];
           picks = [];
         } }
     {
         Board {
+            version: 1,
             cpus,
             window,
             limit,
@@ -71,10 +78,20 @@ impl Board {
             domains: Table::new(alloc),
             lines: Table::new(alloc),
             devices: Table::new(alloc),
+            told: Vec::new(alloc),
+            runs: Vec::new(alloc),
             drivers: Table::new(alloc),
             calls: Vec::new(alloc),
             picks: Vec::new(alloc),
         }
+    }
+
+    /// Sets the version of its text.
+    pub fn set_version(&mut self, version: u32)
+        requires board { IsBoard (record self.old { version = version }) }
+        ensures set { self.new ≡ record self.old { version = version } }
+    {
+        self.version = version;
     }
 
     /// Sets the number of processors, 1 to 32.
@@ -133,6 +150,31 @@ impl Board {
         self.devices.push(device)
     }
 
+    /// Adds what a told device answers, after all other answers; if its handler wakes its thread by
+    /// one of them, the device has a thread from then on. If it is refused, the board is as before.
+    pub fn add_answers(&mut self, dev: DevNo, rows: &[ToldRow]) -> Result<(), NoMemory>
+        requires board { IsBoard (with_answers dev rows.now self.old) }
+        ensures added { OnOk result (self.new ≡ with_answers dev rows.now self.old) }
+        ensures refused { OnErr result (self.new ≡ self.old) }
+    {
+        self.told.extend_from_slice(rows)?;
+        if wake_thread(dev, rows) {
+            self.devices.set_thread(dev);
+        }
+        Ok(())
+    }
+
+    /// Adds the call at the end of the runs' scripts. If it is refused, the board is as before.
+    pub fn add_run(&mut self, call: RunCall) -> Result<(), NoMemory>
+        requires board { IsBoard (record self.old { runs = self.old.runs ++ call ∷ [] }) }
+        ensures added { OnOk result (self.new
+            ≡ record self.old { runs = self.old.runs ++ call ∷ [] }) }
+        ensures refused { OnErr result (self.new ≡ self.old) }
+    {
+        self.runs.push(call)?;
+        Ok(())
+    }
+
     /// Declares the driver, as the last one. If it is refused, the board is as before.
     pub fn add_driver(&mut self, driver: DriverNo) -> Result<(), NoMemory>
         requires board { IsBoard (record self.old { drivers = self.old.drivers ++ driver ∷ [] }) }
@@ -170,6 +212,13 @@ impl Board {
         ensures board { IsBoard self.now }
     {
         let _ = &self.cpus;
+    }
+
+    /// The version of its text.
+    pub fn version(&self) -> u32
+        ensures { result ≡ self.now.version }
+    {
+        self.version
     }
 
     /// The number of processors, 1 to 32.
@@ -229,6 +278,20 @@ impl Board {
         self.drivers.get(place)
     }
 
+    /// The answer at index `place`, counted from 0; none from the number of answers on.
+    pub fn answer(&self, place: usize) -> Option<ToldRow>
+        ensures { result ≡ slice_get self.now.told place }
+    {
+        self.told.get(place).copied()
+    }
+
+    /// The call at index `place` of the runs' scripts, counted from 0; none from their number on.
+    pub fn run(&self, place: usize) -> Option<RunCall>
+        ensures { result ≡ slice_get self.now.runs place }
+    {
+        self.runs.get(place).copied()
+    }
+
     /// The call at index `place` of all scripts, counted from 0; none from the number of calls on.
     pub fn call(&self, place: usize) -> Option<ScriptCall>
         ensures { result ≡ slice_get self.now.calls place }
@@ -241,6 +304,20 @@ impl Board {
         ensures { result.now ≡ self.now.calls }
     {
         self.calls.as_slice()
+    }
+
+    /// What told devices answer, of each part in turn.
+    pub fn told(&self) -> &[ToldRow]
+        ensures { result.now ≡ self.now.told }
+    {
+        self.told.as_slice()
+    }
+
+    /// The scripts of handlers' and threads' runs, one after another.
+    pub fn runs(&self) -> &[RunCall]
+        ensures { result.now ≡ self.now.runs }
+    {
+        self.runs.as_slice()
     }
 
     /// The actors whose steps a play makes first.
@@ -269,6 +346,20 @@ impl Board {
         ensures { result ≡ length self.now.devices }
     {
         self.devices.len()
+    }
+
+    /// The number of answers of told devices, at most 65,536.
+    pub fn told_len(&self) -> usize
+        ensures { result ≡ length self.now.told }
+    {
+        self.told.len()
+    }
+
+    /// The number of calls of the runs' scripts, at most 256.
+    pub fn runs_len(&self) -> usize
+        ensures { result ≡ length self.now.runs }
+    {
+        self.runs.len()
     }
 
     /// The number of drivers, at most 64.

@@ -34,7 +34,7 @@ pub fn keeps(kind: ControllerKind) -> bool
 {
     matches!(
         kind,
-        ControllerKind::Latch | ControllerKind::Msi | ControllerKind::Lpi
+        ControllerKind::Latch | ControllerKind::Msi | ControllerKind::Lpi | ControllerKind::Pin
     )
 }
 

@@ -17,4 +17,4 @@ pub mod tables;
 pub use board::Board;
 pub use domain_rules::{Layout, Placement, Unmapped};
 pub use names::{LONGEST_NAME, Name};
-pub use rows::{DomainRow, LineRow, ScriptCall};
+pub use rows::{DomainRow, LineRow, RunCall, ScriptCall, ToldRow};

@@ -1,7 +1,11 @@
 //! The rows of a board.
+ghost use Rattle.std.specs.Prelude.{◌≡◌};
+ghost use Rattle.std.specs.List.{list_any};
+ghost use Rattle.board_def.specs.Runs.{answers_wake};
+
 use crate::names::Name;
 use crate::tables::Keyed;
-use irq_base::{Call, DevNo, DeviceDef, DomainDef, DriverNo, LineNo};
+use irq_base::{Call, DevNo, DeviceDef, DomainDef, DriverNo, LineNo, Part, ToldAnswer};
 
 /// A domain and its name.
 #[derive(Clone, Copy, PartialEq, Eq)]
@@ -70,4 +74,50 @@ pub struct ScriptCall {
     pub line: LineNo,
     /// What is called.
     pub call: Call,
+}
+
+/// A call that runs of a device's handler or thread make, and the line that it is about.
+#[derive(Clone, Copy, PartialEq, Eq)]
+pub struct RunCall {
+    /// The line that it is about; of a call about a device, that device's line.
+    pub line: LineNo,
+    /// The device whose runs make it.
+    pub dev: DevNo,
+    /// Which part of its handler runs.
+    pub part: Part,
+    /// What is called.
+    pub call: Call,
+}
+
+/// What a told device answers in one run, and the line that it raises.
+#[derive(Clone, Copy, PartialEq, Eq)]
+pub struct ToldRow {
+    /// The device's line.
+    pub line: LineNo,
+    /// The device.
+    pub dev: DevNo,
+    /// Which part of its handler answers.
+    pub part: Part,
+    /// What it answers.
+    pub answer: ToldAnswer,
+}
+
+/// Whether the handler of the device wakes its thread by one of these answers.
+#[tactic(auto, using(std::proofs::lemmas::List::drop_all))]
+pub(crate) fn wake_thread(dev: DevNo, rows: &[ToldRow]) -> bool
+    ensures { result ≡ list_any (answers_wake dev) rows.now }
+{
+    for row in rows {
+        if answers_wake(dev, row) {
+            return true;
+        }
+    }
+    false
+}
+
+/// Whether the answer is of the device's handler, and wakes its thread.
+fn answers_wake(dev: DevNo, row: &ToldRow) -> bool
+    ensures { result ≡ answers_wake dev row.now }
+{
+    row.dev.0 == dev.0 && row.part == Part::Primary && row.answer == ToldAnswer::Wake
 }

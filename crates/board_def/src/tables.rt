@@ -1,11 +1,13 @@
 //! Tables of a board: rows in order, each found by its key.
 ghost use Rattle.std.specs.Prelude.{◌≡◌, None, [], ◌∷◌, ◌++◌, length, position, slice_get, OnOk};
-ghost use Rattle.std.specs.Prelude.{OnErr};
+ghost use Rattle.std.specs.Prelude.{OnErr, All, ◌<◌};
+ghost use Rattle.domain_rules.specs.Domains.{EachAfter};
 ghost use Rattle.board_def.specs.Find.{last_item};
+ghost use Rattle.board_def.specs.Runs.{with_thread};
 ghost use Rattle.board_def.specs.Tables.{find_row};
 
 use indexmap::IndexMap;
-use irq_base::NoMemory;
+use irq_base::{DevNo, DeviceDef, Kind, NoMemory};
 use std::alloc::Global;
 use std::hash::Hash;
 use std::marker::Model;
@@ -99,5 +101,25 @@ impl<K: Copy + Eq + Hash + Drop, T: Keyed<K> + Copy + Drop> Table<K, T> {
         ensures { result ≡ position (λ row. K.eq key.now (T.key_of row)) self.now }
     {
         self.rows.get_index_of(key)
+    }
+}
+
+impl Table<DevNo, DeviceDef> {
+    /// Gives the told device a thread, if there is such a device.
+    pub fn set_thread(&mut self, dev: DevNo)
+        requires rises { EachAfter (λ earlier x. All (λ e. e.dev.0 < x.dev.0) earlier) self.old }
+        ensures { self.new ≡ with_thread dev self.old }
+    {
+        let Some(device) = self.find(&dev) else {
+            return;
+        };
+        let threaded = DeviceDef {
+            kind: Kind::Told { threaded: true },
+            ..device
+        };
+        match self.rows.insert(dev, threaded) {
+            Ok(_) => {}
+            Err(_) => unreachable!(),
+        }
     }
 }

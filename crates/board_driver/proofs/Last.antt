@@ -59,23 +59,35 @@ fits : (devices : List DeviceDef) (line : LineNo) (call : Call) → is_of_device
 fits devices line (calls.Ask dev) none = absurd cc
 fits devices line (calls.Request dev flags) none = absurd cc
 fits devices line (calls.Free dev) none = absurd cc
+fits devices line (calls.Wake dev) none = absurd cc
+fits devices line (calls.Quiet dev) none = absurd cc
+fits devices line (calls.Arm dev) none = absurd cc
+fits devices line (calls.Serve dev) none = absurd cc
 fits devices line calls.Disable none = refl
 fits devices line calls.DisableNosync none = refl
 fits devices line calls.Enable none = refl
 fits devices line calls.Sync none = refl
 fits devices line (calls.Affinity mask) none = refl
 fits devices line (calls.Moment at) none = refl
+fits devices line calls.SyncHard none = refl
+fits devices line calls.DisableHard none = refl
 
 owns_none : (earlier : List ScriptCall) (r : DriverNo) (call : Call) → is_of_device call ≡ false → is_bad_owner earlier r call ≡ false
 owns_none earlier r (calls.Ask dev) none = absurd cc
 owns_none earlier r (calls.Request dev flags) none = absurd cc
 owns_none earlier r (calls.Free dev) none = absurd cc
+owns_none earlier r (calls.Wake dev) none = absurd cc
+owns_none earlier r (calls.Quiet dev) none = absurd cc
+owns_none earlier r (calls.Arm dev) none = absurd cc
+owns_none earlier r (calls.Serve dev) none = absurd cc
 owns_none earlier r calls.Disable none = refl
 owns_none earlier r calls.DisableNosync none = refl
 owns_none earlier r calls.Enable none = refl
 owns_none earlier r calls.Sync none = refl
 owns_none earlier r (calls.Affinity mask) none = refl
 owns_none earlier r (calls.Moment at) none = refl
+owns_none earlier r calls.SyncHard none = refl
+owns_none earlier r calls.DisableHard none = refl
 
 pub call_goes_behind : (b : BoardSeen) (c : LineCall) → IsBoard b → has_driver b.drivers last_driver ≡ true → length b.calls < 16384 → IsOfALine b c
     → IsBoard (record b { calls = b.calls ++ by_last c ∷ [] })

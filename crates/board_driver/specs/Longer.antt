@@ -26,6 +26,10 @@ abbrev pub is_of_device : Call → Bool
 is_of_device (calls.Ask dev) = true
 is_of_device (calls.Request dev flags) = true
 is_of_device (calls.Free dev) = true
+is_of_device (calls.Wake dev) = true
+is_of_device (calls.Quiet dev) = true
+is_of_device (calls.Arm dev) = true
+is_of_device (calls.Serve dev) = true
 is_of_device _ = false
 
 -- the line is the board's, and the call names no device

@@ -1,5 +1,5 @@
 -- Draws, and lists that grow by one.
-use Rattle.std.proofs.Common.{◌≡◌, ℕ, zero, suc, ◌+◌, List, [], ◌∷◌, ◌++◌, length, refl, ap, ◌∙◌, arith}
+use Rattle.std.proofs.Common.{◌≡◌, ℕ, zero, suc, ◌+◌, List, [], ◌∷◌, ◌++◌, length, refl, ap, ◌∙◌, arith, false}
 use Rattle.std.proofs.lemmas.List.FromFn.{map-range_with_len_more, length-map-range_with_len}
 use Rattle.irq_base.specs.declared.devices.DeviceDef.{DeviceDef}
 use Rattle.irq_base.specs.declared.devices.Kind.{Kind}
@@ -26,14 +26,22 @@ kinds_length n x = length-map-range_with_len (λ k. kind_of (draw k 3 x)) 1 n
 -- one device more
 pub numbered_more : (line first : ℕ) (kinds : List Kind) (kind : Kind)
     → numbered line first (kinds ++ kind ∷ []) ≡ numbered line first kinds
-    ++ record { dev = record { 0 = first + length kinds }; line = record { 0 = line }; kind = kind } ∷ []
+    ++ record { dev = record { 0 = first + length kinds }; line = record { 0 = line }; kind = kind; held = false; forgets = false } ∷ []
 numbered_more line first [] kind =
-    let named : ℕ → List DeviceDef = λ n. record { dev = record { 0 = n }; line = record { 0 = line }; kind = kind } ∷ [] in
+    let named : ℕ → List DeviceDef = λ n. record { dev = record { 0 = n }; line = record { 0 = line }; kind = kind; held = false; forgets = false } ∷ [] in
     ap named (omega arith)
 numbered_more line first (k ∷ ks) kind =
-    let named : ℕ → List DeviceDef = λ n. numbered line (first + 1) ks ++ record { dev = record { 0 = n }; line = record { 0 = line }; kind = kind } ∷ [] in
+    let named : ℕ → List DeviceDef = λ n. numbered line (first + 1) ks
+    ++ record { dev = record { 0 = n }; line = record { 0 = line }; kind = kind; held = false; forgets = false }
+    ∷ [] in
     let e : first + 1 + length ks ≡ first + length (k ∷ ks) = omega arith in
-    ap (λ devices. record { dev = record { 0 = first }; line = record { 0 = line }; kind = k } ∷ devices) (numbered_more line (first + 1) ks kind ∙ ap named e)
+    ap (λ devices. record {
+      dev = record { 0 = first };
+      line = record { 0 = line };
+      kind = k;
+      held = false;
+      forgets = false;
+    } ∷ devices) (numbered_more line (first + 1) ks kind ∙ ap named e)
 
 pub numbered_length : (line first : ℕ) (kinds : List Kind) → length (numbered line first kinds) ≡ length kinds
 numbered_length line first [] = refl

@@ -1,15 +1,19 @@
 -- A board that is being generated may get the next domain, line or device.
-use Rattle.std.proofs.Common.{◌≡◌, ℕ, ◌+◌, ◌*◌, ◌<◌, ◌≤◌, true, false, not, None, List, [], ◌∷◌, ◌++◌, length, All, IsSome, refl, sym, ap, subst, ◌∙◌, arith}
+use Rattle.std.proofs.Common.{◌≡◌, ℕ, ◌+◌, ◌*◌, ◌<◌, ◌≤◌, ◌==◌, Bool, true, false, cond, not, None, List, [], ◌∷◌, ◌++◌}
+use Rattle.std.proofs.Common.{length, All, IsSome, refl, sym, ap, subst, ◌∙◌, arith}
+use Rattle.std.specs.List.{list_any}
 use Rattle.std.proofs.lemmas.List.{length-append, append_assoc}
 use Rattle.std.proofs.lemmas.List.Elements.{All-append}
 use Rattle.irq_base.specs.declared.devices.DeviceDef.{DeviceDef}
 use Rattle.irq_base.specs.declared.devices.Kind.{Kind}
+use Rattle.irq_base.specs.declared.devices.Kind.TheVariants as kinds
 use Rattle.irq_base.specs.declared.domains.ControllerKind.{ControllerKind}
 use Rattle.irq_base.specs.declared.domains.MapKind.TheVariants as maps
 use Rattle.irq_model.specs.Signal.{lowest_in}
 use Rattle.domain_rules.specs.Levels.{is_root_kind}
 use Rattle.board_def.specs.Names.{is_name, name_of, name_bytes}
 use Rattle.board_def.specs.Rules.{IsBoard, has_line, has_name}
+use Rattle.board_def.specs.Runs.{answers_wake, fits_wakes}
 use Rattle.board_def.specs.Seen.{BoardSeen}
 use Rattle.board_def.specs.declared.names.Name.{Name}
 use Rattle.board_def.specs.declared.rows.DomainRow.{DomainRow}
@@ -58,13 +62,14 @@ abbrev with_devices : BoardSeen → ℕ → ℕ → ℕ → ℕ → BoardSeen
 with_devices b line first n x = record b { devices = b.devices ++ numbered line first (kinds_drawn n x) }
 
 abbrev device_of : ℕ → ℕ → Kind → DeviceDef
-device_of dev line kind = record { dev = record { 0 = dev }; line = record { 0 = line }; kind = kind }
+device_of dev line kind = record { dev = record { 0 = dev }; line = record { 0 = line }; kind = kind; held = false; forgets = false }
 
 pub device_grows : (a b : BoardSeen) (line first devices n x : ℕ) (kind : Kind) → b ≡ with_devices a line first n x
-    → IsBoard b → has_line a.lines (record { 0 = line }) ≡ true → 1 ≤ first → first + devices ≤ 256 → n < devices
+    → IsBoard b → ((wakes : Bool) → fits_wakes wakes kind ≡ true) → has_line a.lines (record { 0 = line }) ≡ true
+    → 1 ≤ first → first + devices ≤ 256 → n < devices
     → length a.devices + 1 ≡ first → All (λ e. e.dev.0 < first + n) b.devices
     → IsBoard (record b { devices = b.devices ++ device_of (first + n) line kind ∷ [] })
-device_grows a b line first devices n x kind is board there some few within count rises =
+device_grows a b line first devices n x kind is board untold there some few within count rises =
     let so_many : length b.devices ≡ length a.devices + n =
     ap (λ (b : BoardSeen). length b.devices) is ∙ (length-append a.devices (numbered line first (kinds_drawn n x))
     ∙ ap (λ m. length a.devices + m) (numbered_length line first (kinds_drawn n x) ∙ kinds_length n x)) in
@@ -74,7 +79,17 @@ device_grows a b line first devices n x kind is board there some few within coun
       rises = rises;
       line
           = subst (λ (b : BoardSeen). has_line b.lines (record { 0 = line }) ≡ true) (sym is) there;
+      thread = untold (list_any (answers_wake (record { 0 = first + n })) b.told);
     })
+
+-- no device that is drawn is told
+pub drawn_fits : (n : ℕ) (kind : Kind) → kind ≡ kind_of n → (wakes : Bool) → fits_wakes wakes kind ≡ true
+drawn_fits n kind is wakes = ap (fits_wakes wakes) is ∙ by (n == 0) (n == 1)
+  where
+    by : (s t : Bool) → fits_wakes wakes (cond s kinds.Direct (cond t kinds.Check kinds.Null)) ≡ true
+    by true t = refl
+    by false true = refl
+    by false false = refl
 
 pub devices_next : (a b c : BoardSeen) (line first n x : ℕ) (kind : Kind) → b ≡ with_devices a line first n x
     → c ≡ record b { devices = b.devices ++ device_of (first + n) line kind ∷ [] } → kind ≡ kind_of (draw (n + 1) 3 x)

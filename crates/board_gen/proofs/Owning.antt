@@ -150,7 +150,7 @@ found_on_line line first (k ∷ ks) d from to = by (d.0 == first) refl (λ (more
   where
     by : (b : Bool) → (d.0 == first) ≡ b → (first + 1 ≤ d.0 → is_on_line (record { 0 = line }) (find_device (numbered line (first + 1) ks) d) ≡ true)
         → is_on_line (record { 0 = line }) (cond b (Some
-        (record { dev = record { 0 = first }; line = record { 0 = line }; kind = k }))
+        (record { dev = record { 0 = first }; line = record { 0 = line }; kind = k; held = false; forgets = false }))
         (find_device (numbered line (first + 1) ks) d)) ≡ true
     by true is rest = equals_itself line
     by false is rest = rest (grind (arith, nat_tests))

@@ -36,6 +36,7 @@ four_domains = root_domain (codes "latch") levels.Latch ∷ root_domain (codes "
 -- two processors, and nothing but the four domains
 abbrev pub bare_machine : BoardSeen
 bare_machine = record {
+  version = 1;
   cpus = 2;
   window = 100000;
   limit = 99900;
@@ -43,6 +44,8 @@ bare_machine = record {
   domains = four_domains;
   lines = [];
   devices = [];
+  told = [];
+  runs = [];
   drivers = [];
   calls = [];
   picks = [];
@@ -68,6 +71,8 @@ numbered line first (kind ∷ kinds) = record {
   dev = record { 0 = first };
   line = record { 0 = line };
   kind = kind;
+  held = false;
+  forgets = false;
 } ∷ numbered line (first + 1) kinds
 
 abbrev pub driver_no : ℕ → DriverNo

@@ -93,6 +93,8 @@ fn add_devices(
             dev: DevNo(first + i),
             line: LineNo(line),
             kind: kind(draws.draw(3)),
+            held: false,
+            forgets: false,
         };
         board.is_board();
         board.add_device(device)?;

@@ -12,7 +12,8 @@ use Rattle.irq_model.specs.Due.{calls_by, entries_by, entries_of_call, due_of, d
 use Rattle.irq_model.specs.Kinds.{is_by_driver}
 use Rattle.irq_laws.specs.Kept.{complete, complete_by}
 use Rattle.irq_laws.proofs.Chosen.{the_same}
-use Rattle.irq_laws.proofs.Progress.{makes_one, same_count, due_at, fresh, entries_more}
+use Rattle.irq_steps.proofs.DueSteps.{entries_more, entries_same}
+use Rattle.irq_laws.proofs.Progress.{makes_one, same_count, due_at, fresh}
 
 -- the calls that are complete, counted
 abbrev done_of : List Call → List Entry → ℕ
@@ -169,6 +170,10 @@ not_all_complete def r past x is =
     let n = is_done_of def r past in
     let l = some_due (calls_by r def.calls) (entries_by r past) x is in
     omega (arith, n, l)
+
+-- another's entry leaves a driver where it is
+pub no_more : (def : LineDef) (r : DriverNo) (e : Entry) (past : List Entry) → is_by_driver r e ≡ false → due_call def r (e ∷ past) ≡ due_call def r past
+no_more def r e past other = ap (λ (es : List Entry). due_of (calls_by r def.calls) es) (entries_same r e past other)
 
 pub not_completed : (def : LineDef) (r : DriverNo) (e : Entry) (past : List Entry) (d : Call) (m : ℕ)
     → is_by_driver r e ≡ true → due_call def r (e ∷ past) ≡ Some (d, suc m)

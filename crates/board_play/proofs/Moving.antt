@@ -11,19 +11,19 @@ use Rattle.irq_base.specs.declared.numbers.DriverNo.{DriverNo}
 use Rattle.irq_base.specs.declared.numbers.LineNo.{LineNo}
 use Rattle.irq_model.specs.Due.{due_call}
 use Rattle.irq_model.specs.Kinds.{same_line, same_driver, is_driver, is_by_driver}
-use Rattle.irq_model.specs.Next.{next_of_call, next_past}
+use Rattle.irq_model.specs.Next.{next_of_driver, next_past}
 use Rattle.irq_steps.proofs.Same.{driver_from_same, line_from_same, same_self_line}
 use Rattle.irq_laws.proofs.Chosen.{the_same}
 use Rattle.irq_laws.proofs.Lists.{both_ways}
 use Rattle.irq_laws.proofs.OwnLaws.{due_is_own_past}
-use Rattle.irq_laws.proofs.Progress.{no_more, due_at, same_call}
+use Rattle.irq_laws.proofs.Progress.{due_at, same_call}
 use Rattle.board_def.specs.Seen.{BoardSeen}
 use Rattle.board_def.specs.declared.rows.ScriptCall.{ScriptCall}
 use Rattle.board_play.specs.Current.{calls_on, current_from}
 use Rattle.board_play.specs.Kept.{IsCallOn, IsUpTo}
 use Rattle.board_play.specs.Lines.{BoardLine, Move, part, lines_at, line_after, lines_after}
 use Rattle.board_play.specs.Order.{line_for}
-use Rattle.board_play.proofs.Counting.{not_completed, one_completed, others_complete}
+use Rattle.board_play.proofs.Counting.{no_more, not_completed, one_completed, others_complete}
 use Rattle.board_play.proofs.Members.{AreApart, find_there, found}
 use Rattle.board_play.proofs.Moves.{MovesOn}
 use Rattle.board_play.proofs.Parts.{the_line}
@@ -54,7 +54,7 @@ due_some : (def : LineDef) (r : DriverNo) (past : List Entry) (e : Entry)
     → next_past def past (actors.Driver r) ≡ Some e → (x : Call × ℕ) × (due_call def r past ≡ Some x)
 due_some def r past e is = by_due (due_call def r past) refl is
   where
-    by_due : (o : Option (Call × ℕ)) → due_call def r past ≡ o → next_of_call def r past o ≡ Some e → (x : Call × ℕ) × (due_call def r past ≡ Some x)
+    by_due : (o : Option (Call × ℕ)) → due_call def r past ≡ o → next_of_driver def r past o ≡ Some e → (x : Call × ℕ) × (due_call def r past ≡ Some x)
     by_due None due is = cc
     by_due (Some x) due is = (x, due)
 

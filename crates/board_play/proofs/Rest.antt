@@ -1,5 +1,5 @@
 -- If none of the board's actors can move, as when a play is done, every script is at its end and
--- each line is settled.
+-- each line is at rest.
 use Rattle.std.proofs.Common.{◌≡◌, ℕ, Option, Some, None, List, [], ◌∷◌, reverse, slice_get, refl, ap, ◌∙◌, sym, subst, inl, inr}
 use Rattle.std.proofs.lemmas.List.{reverse-reverse}
 use Rattle.irq_base.specs.declared.entries.Actor.{Actor}
@@ -8,7 +8,8 @@ use Rattle.irq_base.specs.declared.numbers.DriverNo.{DriverNo}
 use Rattle.irq_model.specs.Legal.{IsLegalPast}
 use Rattle.irq_model.specs.Owed.{IsDelivered}
 use Rattle.irq_model.specs.Settled.{IsSettled}
-use Rattle.irq_laws.proofs.RestLaws.{settled_is_delivered}
+use Rattle.irq_model.specs.Waits.{IsAtRest}
+use Rattle.irq_laws.proofs.RestLaws.{at_rest_is_delivered, at_rest_is_settled}
 use Rattle.play_laws.specs.Actors.{IsOneOf}
 use Rattle.board_def.specs.Rules.{IsBoard}
 use Rattle.board_def.specs.Seen.{BoardSeen}
@@ -20,17 +21,22 @@ use Rattle.board_play.specs.Play.{Done, or_move, first_move, with_picks, or_choi
 use Rattle.board_play.proofs.KeptAlways.{play_keeps}
 use Rattle.board_play.proofs.Listed.{all_rest, def_at}
 use Rattle.board_play.proofs.OfBoard.{valid_defs}
-use Rattle.board_play.proofs.Standstill.{scripts_end, lines_settle}
+use Rattle.board_play.proofs.Standstill.{scripts_end, lines_rest}
 
 pub scripts_are_complete : (board : BoardSeen) (lines : List BoardLine) → IsBoard board → AreKept board lines
     → ((a : Actor) → IsOneOf a (actors_of board) → due_move board lines a ≡ None) → (r : DriverNo)
     → current_line board.calls lines r ≡ None
 scripts_are_complete board lines is k rest = scripts_end board is (valid_defs board is) lines k (all_rest board is (valid_defs board is) lines k rest)
 
+pub lines_are_at_rest : (board : BoardSeen) (lines : List BoardLine) → IsBoard board → AreKept board lines
+    → ((a : Actor) → IsOneOf a (actors_of board) → due_move board lines a ≡ None)
+    → (i : ℕ) (x : BoardLine) → slice_get lines i ≡ Some x → IsAtRest x.def (reverse x.past)
+lines_are_at_rest board lines is k rest = lines_rest board is (valid_defs board is) lines k (all_rest board is (valid_defs board is) lines k rest)
+
 pub lines_are_settled : (board : BoardSeen) (lines : List BoardLine) → IsBoard board → AreKept board lines
     → ((a : Actor) → IsOneOf a (actors_of board) → due_move board lines a ≡ None)
     → (i : ℕ) (x : BoardLine) → slice_get lines i ≡ Some x → IsSettled x.def (reverse x.past)
-lines_are_settled board lines is k rest = lines_settle board is (valid_defs board is) lines k (all_rest board is (valid_defs board is) lines k rest)
+lines_are_settled board lines is k rest i x at = at_rest_is_settled x.def (reverse x.past) (lines_are_at_rest board lines is k rest i x at)
 
 -- ---- a play that is done
 
@@ -66,6 +72,11 @@ pub done_is_complete : (board : BoardSeen) (picks : List Actor) (g : List Move) 
 done_is_complete board picks g is plays = scripts_are_complete board (lines_of board g) is
     (play_keeps board picks g Done is plays) (done_rests board picks g plays)
 
+pub done_is_at_rest : (board : BoardSeen) (picks : List Actor) (g : List Move) → IsBoard board
+    → Plays board picks g Done → (i : ℕ) (x : BoardLine) → slice_get (lines_of board g) i ≡ Some x
+    → IsAtRest x.def (reverse x.past)
+done_is_at_rest board picks g is plays = lines_are_at_rest board (lines_of board g) is (play_keeps board picks g Done is plays) (done_rests board picks g plays)
+
 pub done_is_settled : (board : BoardSeen) (picks : List Actor) (g : List Move) → IsBoard board
     → Plays board picks g Done → (i : ℕ) (x : BoardLine) → slice_get (lines_of board g) i ≡ Some x
     → IsSettled x.def (reverse x.past)
@@ -76,5 +87,5 @@ pub done_is_delivered : (board : BoardSeen) (picks : List Actor) (g : List Move)
     → IsDelivered x.def (reverse x.past)
 done_is_delivered board picks g is plays i x at =
     let k = play_keeps board picks g Done is plays in
-    settled_is_delivered x.def (reverse x.past) (valid_defs board is i x.def (def_at board (lines_of board g) k i x at))
-    (subst (λ (p : List Entry). IsLegalPast x.def p) (sym (reverse-reverse x.past)) (k.legal i x at)) (done_is_settled board picks g is plays i x at)
+    at_rest_is_delivered x.def (reverse x.past) (valid_defs board is i x.def (def_at board (lines_of board g) k i x at))
+    (subst (λ (p : List Entry). IsLegalPast x.def p) (sym (reverse-reverse x.past)) (k.legal i x at)) (done_is_at_rest board picks g is plays i x at)

@@ -1,7 +1,8 @@
 -- No standstill: if nobody can move, every script is at its end.
-use Rattle.std.proofs.Common.{◌≡◌, ◌⊎◌, inl, inr, ℕ, zero, suc, ◌+◌, ◌≤◌, Bool, true, false, ◌&&◌, cond, is_some}
+use Rattle.std.proofs.Common.{◌≡◌, ◌⊎◌, inl, inr, ℕ, zero, suc, ◌+◌, ◌≤◌, Bool, true, false, ◌||◌, ◌&&◌, cond, is_some}
 use Rattle.std.proofs.Common.{IsSome, Option, Some, None, List, [], ◌∷◌, reverse, take, slice_get, refl, sym, ap, ◌∙◌}
 use Rattle.std.proofs.Common.{subst, arith}
+use Rattle.std.proofs.lemmas.Bool.{or_parts}
 use Rattle.std.proofs.lemmas.List.{reverse-reverse}
 use Rattle.irq_base.specs.declared.calls.Call.{Call}
 use Rattle.irq_base.specs.declared.calls.Call.TheVariants as calls
@@ -9,7 +10,6 @@ use Rattle.irq_base.specs.declared.devices.DeviceDef.{DeviceDef}
 use Rattle.irq_base.specs.declared.entries.Actor.{Actor}
 use Rattle.irq_base.specs.declared.entries.Actor.TheVariants as actors
 use Rattle.irq_base.specs.declared.entries.Entry.{Entry}
-use Rattle.irq_base.specs.declared.lines.LineDef.{LineDef}
 use Rattle.irq_base.specs.declared.numbers.CpuNo.{CpuNo}
 use Rattle.irq_base.specs.declared.numbers.DevNo.{DevNo}
 use Rattle.irq_base.specs.declared.numbers.DriverNo.{DriverNo}
@@ -18,13 +18,18 @@ use Rattle.irq_model.specs.Due.{due_call}
 use Rattle.irq_model.specs.Kinds.{same_line, same_driver}
 use Rattle.irq_model.specs.Legal.{IsLegalPast}
 use Rattle.irq_model.specs.Lines.{has_device}
-use Rattle.irq_model.specs.Next.{next_in_flow, next_take, next_of_thread, next_of_call, next_past, next}
-use Rattle.irq_model.specs.Rounds.{flow, is_cpu, at_work}
-use Rattle.irq_model.specs.Settled.{IsSettled}
+use Rattle.irq_model.specs.Next.{next_of_thread, next_of_driver, next_past, next}
+use Rattle.irq_model.specs.Rounds.{flow, has_flow, is_cpu}
+use Rattle.irq_model.specs.Threads.{is_woken, is_running}
+use Rattle.irq_model.specs.Waits.{IsAtRest}
 use Rattle.irq_steps.proofs.Same.{same_self_line}
+use Rattle.irq_laws.specs.Actors.{due_of_actor}
 use Rattle.irq_laws.specs.Blocks.{FreeMoves}
 use Rattle.irq_laws.proofs.Chosen.{the_same}
-use Rattle.irq_laws.proofs.DriversMove.{drivers_move}
+use Rattle.irq_laws.proofs.DriversMove.{only_driver, drivers_move}
+use Rattle.irq_laws.proofs.Idle.{IsIdle}
+use Rattle.play_laws.proofs.Moves.{flow_goes_on, no_flow_left, no_thread_left}
+use Rattle.play_laws.proofs.Rest.{unwaiting_rests}
 use Rattle.board_def.specs.Rules.{IsBoard}
 use Rattle.board_def.specs.Seen.{BoardSeen}
 use Rattle.board_play.specs.Current.{calls_on, current_line}
@@ -37,7 +42,7 @@ use Rattle.board_play.proofs.Listed.{def_at}
 use Rattle.board_play.proofs.Members.{find_there}
 use Rattle.board_play.proofs.Moves.{line_stands}
 use Rattle.board_play.proofs.Moving.{begun_is_current}
-use Rattle.board_play.proofs.OfBoard.{AreValid, device_found, calls_fit}
+use Rattle.board_play.proofs.OfBoard.{AreValid, HasCalmRuns, calm_defs, device_found, calls_fit}
 use Rattle.board_play.proofs.Script.{is_on, in_all, done, current, no_current}
 
 none_due : (line : LineNo) (o : Option Entry) → move_on line o ≡ None → o ≡ None
@@ -55,20 +60,13 @@ not_some (Some e) some none = cc
 
 -- ---- processors
 
-flow_is_due : (def : LineDef) (past : List Entry) (c : CpuNo) → is_cpu c (flow def past) ≡ true → is_some (next_past def past (actors.Cpu c)) ≡ true
-flow_is_due def past c is = ap (λ (b : Bool). is_some (cond b (Some (next_in_flow def c past (at_work past))) (next_take def c past))) is
-
-flow_due : (lines : List BoardLine) (c : CpuNo) (x : BoardLine) → flow_line lines c ≡ Some x → is_some (next_past x.def x.past (actors.Cpu c)) ≡ true
-flow_due [] c x is = cc
-flow_due (y ∷ ys) c x is = by_test (is_cpu c (flow y.def y.past)) refl is (flow_due ys c x)
+has_the_flow : (lines : List BoardLine) (c : CpuNo) (x : BoardLine) → flow_line lines c ≡ Some x → is_cpu c (flow x.def x.past) ≡ true
+has_the_flow [] c x is = cc
+has_the_flow (y ∷ ys) c x is = by_test (is_cpu c (flow y.def y.past)) refl is (has_the_flow ys c x)
   where
-    here : y ≡ x → is_cpu c (flow y.def y.past) ≡ true → is_some (next_past x.def x.past (actors.Cpu c)) ≡ true
-    here same test = subst (λ (z : BoardLine). is_some (next_past z.def z.past (actors.Cpu c)) ≡ true) same (flow_is_due y.def y.past c test)
-
     by_test : (b : Bool) → is_cpu c (flow y.def y.past) ≡ b → cond b (Some y) (flow_line ys c) ≡ Some x
-        → (flow_line ys c ≡ Some x → is_some (next_past x.def x.past (actors.Cpu c)) ≡ true)
-        → is_some (next_past x.def x.past (actors.Cpu c)) ≡ true
-    by_test true test is deeper = here (the_same y x is) test
+        → (flow_line ys c ≡ Some x → is_cpu c (flow x.def x.past) ≡ true) → is_cpu c (flow x.def x.past) ≡ true
+    by_test true test is deeper = subst (λ (z : BoardLine). is_cpu c (flow z.def z.past) ≡ true) (the_same y x is) test
     by_test false test is deeper = deeper is
 
 line_due : (lines : List BoardLine) (c : CpuNo) (x : BoardLine) → due_line lines c ≡ Some x → is_some (next_past x.def x.past (actors.Cpu c)) ≡ true
@@ -100,10 +98,17 @@ no_line_due (y ∷ ys) c none i x at = by_test (is_some (next_past y.def y.past 
         (the_same y x at) (none_is_due (next_past y.def y.past (actors.Cpu c)) test)
     by_test false test none (suc i) at deeper = deeper none i at
 
-module _ (board : BoardSeen) (is : IsBoard board) (valid : AreValid board) (lines : List BoardLine)
-    (k : AreKept board lines) (rest : (a : Actor) → due_move board lines a ≡ None) where
-  threads_rest : (i : ℕ) (x : BoardLine) → slice_get lines i ≡ Some x → (d : DevNo) → next_past x.def x.past (actors.Thread d) ≡ None
-  threads_rest i x at d = by_device (has_device x.def d) refl
+-- ---- once no thread and no processor of the board can move
+
+pub calm_line : (board : BoardSeen) → IsBoard board → (lines : List BoardLine) → AreKept board lines → (i : ℕ) (x : BoardLine)
+    → slice_get lines i ≡ Some x → HasCalmRuns x.def
+calm_line board is lines k i x at = calm_defs board is i x.def (def_at board lines k i x at)
+
+module _ (board : BoardSeen) (is : IsBoard board) (lines : List BoardLine) (k : AreKept board lines) where
+  -- none of them has an entry due on any line
+  pub threads_rest : ((d : DevNo) → due_move board lines (actors.Thread d) ≡ None) → (i : ℕ) (x : BoardLine)
+      → slice_get lines i ≡ Some x → (d : DevNo) → next_past x.def x.past (actors.Thread d) ≡ None
+  threads_rest rest i x at d = by_device (has_device x.def d) refl
     where
       here : has_device x.def d ≡ true → next_past x.def x.past (actors.Thread d) ≡ None
       here named =
@@ -111,26 +116,48 @@ module _ (board : BoardSeen) (is : IsBoard board) (valid : AreValid board) (line
           rests_on board lines (actors.Thread d) x
           (ap (λ (o : Option DeviceDef). device_line lines o) f.found
           ∙ (ap (λ (l : LineNo). find_line lines l) f.on_line ∙ find_there lines (apart_kept board is lines k) i x at))
-          (rest (actors.Thread d))
+          (rest d)
 
       by_device : (b : Bool) → has_device x.def d ≡ b → next_past x.def x.past (actors.Thread d) ≡ None
       by_device true named = here named
       by_device false other = ap (λ (b : Bool). cond b (next_of_thread x.def d x.past) None) other
 
-  cpus_rest : (i : ℕ) (x : BoardLine) → slice_get lines i ≡ Some x → (c : CpuNo) → next_past x.def x.past (actors.Cpu c) ≡ None
-  cpus_rest i x at c = by_flow (flow_line lines c) refl
+  pub cpus_rest : ((c : CpuNo) → due_move board lines (actors.Cpu c) ≡ None) → (i : ℕ) (x : BoardLine)
+      → slice_get lines i ≡ Some x → (c : CpuNo) → next_past x.def x.past (actors.Cpu c) ≡ None
+  cpus_rest rest i x at c = by_flow (flow_line lines c) refl
     where
       by_due : (o : Option BoardLine) → flow_line lines c ≡ None → due_line lines c ≡ o → next_past x.def x.past (actors.Cpu c) ≡ None
       by_due None no_flow none = no_line_due lines c none i x at
       by_due (Some y) no_flow its =
           let on : line_for board lines (actors.Cpu c) ≡ Some y = ap (λ (o : Option BoardLine). or_line o (due_line lines c)) no_flow ∙ its in
-          absurd (not_some (next_past y.def y.past (actors.Cpu c)) (line_due lines c y its) (rests_on board lines (actors.Cpu c) y on (rest (actors.Cpu c))))
+          absurd (not_some (next_past y.def y.past (actors.Cpu c)) (line_due lines c y its) (rests_on board lines (actors.Cpu c) y on (rest c)))
 
       by_flow : (o : Option BoardLine) → flow_line lines c ≡ o → next_past x.def x.past (actors.Cpu c) ≡ None
       by_flow None none = by_due (due_line lines c) none refl
       by_flow (Some y) its =
           let on : line_for board lines (actors.Cpu c) ≡ Some y = ap (λ (o : Option BoardLine). or_line o (due_line lines c)) its in
-          absurd (not_some (next_past y.def y.past (actors.Cpu c)) (flow_due lines c y its) (rests_on board lines (actors.Cpu c) y on (rest (actors.Cpu c))))
+          let s = line_stands board lines (actors.Cpu c) y on in
+          let r = calm_line board is lines k s.place y s.at in
+          absurd (not_some (next_past y.def y.past (actors.Cpu c)) (flow_goes_on y.def y.past r.runs r.waits c (has_the_flow lines c y its))
+          (rests_on board lines (actors.Cpu c) y on (rest c)))
+
+-- ---- once nobody can
+
+module _ (board : BoardSeen) (is : IsBoard board) (valid : AreValid board) (lines : List BoardLine)
+    (k : AreKept board lines) (rest : (a : Actor) → due_move board lines a ≡ None) where
+  threads_still : (i : ℕ) (x : BoardLine) → slice_get lines i ≡ Some x → (d : DevNo) → next_past x.def x.past (actors.Thread d) ≡ None
+  threads_still = threads_rest board is lines k (λ d. rest (actors.Thread d))
+
+  cpus_still : (i : ℕ) (x : BoardLine) → slice_get lines i ≡ Some x → (c : CpuNo) → next_past x.def x.past (actors.Cpu c) ≡ None
+  cpus_still = cpus_rest board is lines k (λ c. rest (actors.Cpu c))
+
+  no_flow : (i : ℕ) (x : BoardLine) → slice_get lines i ≡ Some x → has_flow x.def x.past ≡ false
+  no_flow i x at = let r = calm_line board is lines k i x at in no_flow_left x.def x.past r.runs r.waits (cpus_still i x at)
+
+  no_thread : (i : ℕ) (x : BoardLine) → slice_get lines i ≡ Some x → (d : DevNo) → (is_woken x.past d || is_running x.past d) ≡ false
+  no_thread i x at =
+      let r = calm_line board is lines k i x at in
+      no_thread_left x.def x.past (valid i x.def (def_at board lines k i x at)) r.runs r.waits (k.legal i x at) (no_flow i x at) (threads_still i x at)
 
   driver_rests : (r : DriverNo) (x : BoardLine) → current_line board.calls lines r ≡ Some x → next_past x.def x.past (actors.Driver r) ≡ None
   driver_rests r x its = rests_on board lines (actors.Driver r) x its (rest (actors.Driver r))
@@ -156,25 +183,33 @@ module _ (board : BoardSeen) (is : IsBoard board) (valid : AreValid board) (line
       back : (P : List Entry → Type 0) → P x.past → P (reverse (reverse x.past))
       back P p = subst P (sym (reverse-reverse x.past)) p
 
+      idle : IsIdle x.def (reverse (reverse x.past))
+      idle = back (IsIdle x.def) (record {
+        no_flow = no_flow i x at;
+        no_thread = λ d. or_parts (is_woken x.past d) (is_running x.past d) (no_thread i x at d);
+      })
+
       moves : IsSome (next x.def (reverse x.past) (actors.Driver r)) ⊎ FreeMoves x.def (reverse x.past) → ⊥
       moves (inl some) = not_some (next x.def (reverse x.past) (actors.Driver r)) some
           (back (λ (p : List Entry). next_past x.def p (actors.Driver r) ≡ None) (driver_rests r x its))
       moves (inr f) =
-          let call : due_call x.def f.driver x.past ≡ Some (calls.Free f.dev, suc f.after_unlink) =
-          subst (λ (p : List Entry). due_call x.def f.driver p ≡ Some (calls.Free f.dev, suc f.after_unlink)) (reverse-reverse x.past) f.call in
-          let o = k.in_order f.driver in
-          let its = begun_is_current lines board.calls (apart_kept board is lines k) f.driver o.0 o.1 i x (calls.Free f.dev) f.after_unlink at call in
-          not_some (next x.def (reverse x.past) (actors.Driver f.driver)) f.moves
-          (back (λ (p : List Entry). next_past x.def p (actors.Driver f.driver) ≡ None)
-          (driver_rests f.driver x its))
+          let who = only_driver x.def (reverse (reverse x.past)) idle f.maker (calls.Free f.dev, suc f.after_unlink) f.call in
+          let call : due_call x.def who.0 x.past ≡ Some (calls.Free f.dev, suc f.after_unlink) =
+          subst (λ (p : List Entry). due_call x.def who.0 p ≡ Some (calls.Free f.dev, suc f.after_unlink)) (reverse-reverse x.past)
+          (subst (λ (a : Actor). due_of_actor x.def a (reverse (reverse x.past)) ≡ Some (calls.Free f.dev, suc f.after_unlink)) who.1 f.call) in
+          let o = k.in_order who.0 in
+          let its = begun_is_current lines board.calls (apart_kept board is lines k) who.0 o.0 o.1 i x (calls.Free f.dev) f.after_unlink at call in
+          not_some (next x.def (reverse x.past) (actors.Driver who.0))
+          (subst (λ (a : Actor). is_some (next x.def (reverse x.past) a) ≡ true) who.1 f.moves)
+          (back (λ (p : List Entry). next_past x.def p (actors.Driver who.0) ≡ None) (driver_rests who.0 x its))
 
       by_due : (o : Option (Call × ℕ)) → due_call x.def r x.past ≡ o → ⊥
       by_due None due = current_due r x i at its due
       by_due (Some z) due =
           moves (drivers_move x.def (reverse x.past) (valid i x.def (def_at board lines k i x at))
           (back (λ (p : List Entry). IsLegalPast x.def p) (k.legal i x at))
-          (λ d. back (λ (p : List Entry). next_past x.def p (actors.Thread d) ≡ None) (threads_rest i x at d))
-          (λ c. back (λ (p : List Entry). next_past x.def p (actors.Cpu c) ≡ None) (cpus_rest i x at c)) r
+          (back (λ (p : List Entry). has_flow x.def p ≡ false) (no_flow i x at))
+          (λ d. back (λ (p : List Entry). (is_woken p d || is_running p d) ≡ false) (no_thread i x at d)) r
           (back (λ (p : List Entry). IsSome (due_call x.def r p)) (subst (λ (o : Option (Call × ℕ)). IsSome o) (sym due) refl)))
 
   pub scripts_end : (r : DriverNo) → current_line board.calls lines r ≡ None
@@ -197,13 +232,13 @@ module _ (board : BoardSeen) (is : IsBoard board) (valid : AreValid board) (line
           omega (arith, all, fits, less))
 
   still : (i : ℕ) (x : BoardLine) → slice_get lines i ≡ Some x → (a : Actor) → next_past x.def x.past a ≡ None
-  still i x at (actors.Thread d) = threads_rest i x at d
-  still i x at (actors.Cpu c) = cpus_rest i x at c
-  still i x at (actors.Driver r) = ap (λ (o : Option (Call × ℕ)). next_of_call x.def r x.past o) (calls_end i x at r)
+  still i x at (actors.Thread d) = threads_still i x at d
+  still i x at (actors.Cpu c) = cpus_still i x at c
+  still i x at (actors.Driver r) = ap (λ (o : Option (Call × ℕ)). next_of_driver x.def r x.past o) (calls_end i x at r)
 
-  pub lines_settle : (i : ℕ) (x : BoardLine) → slice_get lines i ≡ Some x → IsSettled x.def (reverse x.past)
-  lines_settle i x at =
-      record {
-        still = λ a. subst (λ (p : List Entry). next_past x.def p a ≡ None) (sym (reverse-reverse x.past)) (still i x at a);
-        complete = λ r. subst (λ (p : List Entry). due_call x.def r p ≡ None) (sym (reverse-reverse x.past)) (calls_end i x at r);
-      }
+  pub lines_rest : (i : ℕ) (x : BoardLine) → slice_get lines i ≡ Some x → IsAtRest x.def (reverse x.past)
+  lines_rest i x at =
+      let r = calm_line board is lines k i x at in
+      unwaiting_rests x.def (reverse x.past) (valid i x.def (def_at board lines k i x at)) r.runs r.waits
+      (subst (λ (p : List Entry). IsLegalPast x.def p) (sym (reverse-reverse x.past)) (k.legal i x at))
+      (λ a own. subst (λ (p : List Entry). next_past x.def p a ≡ None) (sym (reverse-reverse x.past)) (still i x at a))

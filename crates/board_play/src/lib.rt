@@ -10,6 +10,7 @@ ghost use Rattle.irq_base.specs.declared.numbers.LineNo.{LineNo};
 ghost use Rattle.irq_model.specs.Legal.{IsLegalPast};
 ghost use Rattle.irq_model.specs.Owed.{IsDelivered};
 ghost use Rattle.irq_model.specs.Settled.{IsSettled};
+ghost use Rattle.irq_model.specs.Waits.{IsAtRest};
 ghost use Rattle.play_laws.specs.Actors.{IsOneOf};
 ghost use Rattle.board_def.specs.Rules.{IsBoard};
 ghost use Rattle.board_def.specs.Seen.{BoardSeen};
@@ -47,7 +48,8 @@ pub fn play_keeps()
 {}
 
 /// No standstill: if none of the board's actors can move, every script is at its end, and each line
-/// is settled.
+/// is settled; more than that, it is at rest: no flow is in progress, and no thread is to run or
+/// in a run.
 pub fn no_standstill()
     ensures complete { (board : BoardSeen) (lines : List BoardLine) → IsBoard board
         → AreKept board lines → ((a : Actor) → IsOneOf a (actors_of board)
@@ -57,9 +59,14 @@ pub fn no_standstill()
         → AreKept board lines → ((a : Actor) → IsOneOf a (actors_of board)
         → due_move board lines a ≡ None) → (i : ℕ) (x : BoardLine) → slice_get lines i ≡ Some x
         → IsSettled x.def (reverse x.past) }
+    ensures at_rest { (board : BoardSeen) (lines : List BoardLine) → IsBoard board
+        → AreKept board lines → ((a : Actor) → IsOneOf a (actors_of board)
+        → due_move board lines a ≡ None) → (i : ℕ) (x : BoardLine) → slice_get lines i ≡ Some x
+        → IsAtRest x.def (reverse x.past) }
 {}
 
-/// If a play is done, every script is at its end and each line is settled, and so all is delivered.
+/// If a play is done, every script is at its end and each line is settled and at rest, and so all
+/// is delivered.
 pub fn done_is_settled()
     ensures complete { (board : BoardSeen) (picks : List Actor) (g : List Move) → IsBoard board
         → Plays board picks g Done → (r : DriverNo)
@@ -67,6 +74,9 @@ pub fn done_is_settled()
     ensures settled { (board : BoardSeen) (picks : List Actor) (g : List Move) → IsBoard board
         → Plays board picks g Done → (i : ℕ) (x : BoardLine)
         → slice_get (lines_of board g) i ≡ Some x → IsSettled x.def (reverse x.past) }
+    ensures at_rest { (board : BoardSeen) (picks : List Actor) (g : List Move) → IsBoard board
+        → Plays board picks g Done → (i : ℕ) (x : BoardLine)
+        → slice_get (lines_of board g) i ≡ Some x → IsAtRest x.def (reverse x.past) }
     ensures delivered { (board : BoardSeen) (picks : List Actor) (g : List Move) → IsBoard board
         → Plays board picks g Done → (i : ℕ) (x : BoardLine)
         → slice_get (lines_of board g) i ≡ Some x → IsDelivered x.def (reverse x.past) }

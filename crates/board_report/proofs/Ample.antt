@@ -9,6 +9,7 @@ use Rattle.board_def.specs.Layout.{layout_of}
 use Rattle.board_def.specs.LineOf.{line_of_row}
 use Rattle.board_def.specs.Rules.{IsBoard}
 use Rattle.board_def.specs.Seen.{BoardSeen}
+use Rattle.board_def.proofs.RunRules.{valid_runs}
 use Rattle.board_def.proofs.Validity.{valid_row}
 use Rattle.board_play.specs.Kept.{AreKept}
 use Rattle.board_play.specs.Lines.{BoardLine}
@@ -47,8 +48,8 @@ module _ (b : BoardSeen) (board : IsBoard b) (lines : List BoardLine) (k : AreKe
   nothing_due laid ample =
       let there = takes_part b f.place f.row f.at laid in
       none_due (next def entries f.actor) due
-      (never_full def entries f.actor (valid_row b f.place f.row board f.at)
-      (legal_row b board lines k f.place f.row f.at laid) (ample there.place def there.at) long)
+      (never_full def entries f.actor (valid_row b f.place f.row board f.at) (valid_runs b board f.row) (ample there.place def there.at).0
+      (legal_row b board lines k f.place f.row f.at laid) (ample there.place def there.at).1 long)
 
   pub not_full : IsAmple b → ⊥
   not_full ample = by_place (is_mapped_at (slice_get (layout_of b) f.place)) refl

@@ -5,7 +5,7 @@ use Rattle.irq_base.specs.declared.entries.Actor.{Actor}
 use Rattle.irq_base.specs.declared.entries.Entry.{Entry}
 use Rattle.irq_base.specs.declared.lines.LineDef.{LineDef}
 use Rattle.irq_model.specs.Legal.{IsLegal, IsLegalPast}
-use Rattle.irq_model.specs.Settled.{IsSettled}
+use Rattle.irq_model.specs.Waits.{IsAtRest}
 use Rattle.play_laws.specs.Actors.{IsOneOf}
 use Rattle.board_def.specs.Layout.{layout_of}
 use Rattle.board_def.specs.LineOf.{line_of_row}
@@ -16,7 +16,7 @@ use Rattle.board_def.proofs.Validity.{valid_row}
 use Rattle.board_play.specs.Kept.{AreKept}
 use Rattle.board_play.specs.Lines.{BoardLine}
 use Rattle.board_play.specs.Order.{due_move, actors_of}
-use Rattle.board_play.proofs.Rest.{lines_are_settled}
+use Rattle.board_play.proofs.Rest.{lines_are_at_rest}
 use Rattle.board_report.specs.Reporting.{entries_in}
 use Rattle.board_report.specs.Headline.{EachMapped, EachRefused, KeepsLaws, LineHeadline}
 use Rattle.board_report.proofs.LineLaws.{keeps_laws, line_headline}
@@ -53,4 +53,4 @@ module _ (b : BoardSeen) (board : IsBoard b) (lines : List BoardLine) (k : AreKe
   all_end_well rest i row virq path at laid =
       let h = line_laid b board lines k i row at (ap is_mapped_at laid) in
       line_headline (line_of_row b row) (entries_in lines row.line) (valid_row b i row board at) (legal_row i row at (ap is_mapped_at laid))
-      (of_row (λ def es. IsSettled def es) i row at h (lines_are_settled b lines board k rest h.place h.line h.at))
+      (of_row (λ def es. IsAtRest def es) i row at h (lines_are_at_rest b lines board k rest h.place h.line h.at))

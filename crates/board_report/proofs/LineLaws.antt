@@ -4,13 +4,14 @@ use Rattle.std.proofs.lemmas.List.{reverse-append}
 use Rattle.irq_base.specs.declared.entries.Entry.{Entry}
 use Rattle.irq_base.specs.declared.lines.LineDef.{LineDef}
 use Rattle.irq_model.specs.Legal.{IsLegal, IsLegalPast}
-use Rattle.irq_model.specs.Settled.{IsSettled}
 use Rattle.irq_model.specs.Valid.{IsValid}
+use Rattle.irq_model.specs.Waits.{IsAtRest}
 use Rattle.irq_laws.proofs.CoverLaws.{is_covered_law}
 use Rattle.irq_laws.proofs.ReasonLaws.{has_reason}
 use Rattle.irq_laws.proofs.RunLaws.{no_overlap, silent_after_free, keeps_oneshot, synchronised}
-use Rattle.irq_laws.proofs.ScriptLaws.{follows_scripts}
-use Rattle.irq_laws.proofs.RestLaws.{settled_is_delivered, settled_is_quiet}
+use Rattle.irq_laws.proofs.ScriptLaws.{follows_scripts, follows_run_scripts}
+use Rattle.irq_laws.proofs.LeftEnabled.{left_enabled}
+use Rattle.irq_laws.proofs.RestLaws.{at_rest_is_delivered, at_rest_is_quiet, at_rest_is_settled}
 use Rattle.irq_laws.proofs.ServedLaws.{served_when_idle}
 use Rattle.irq_laws.proofs.TakeLaws.{takes_are_counted}
 use Rattle.board_report.specs.Headline.{HoldsAt, KeepsLaws, LineHeadline}
@@ -43,14 +44,16 @@ keeps_laws def h valid legal =
       takes_are_counted = takes_are_counted def h legal;
       synchronised = synchronised def h valid legal;
       scripts = follows_scripts def h legal;
+      run_scripts = follows_run_scripts def h legal;
       always = λ before after is. holds_at def before valid (beginning def h before after legal is);
     }
 
-pub line_headline : (def : LineDef) (h : List Entry) → IsValid def → IsLegal def h → IsSettled def h → LineHeadline def h
-line_headline def h valid legal settled =
+pub line_headline : (def : LineDef) (h : List Entry) → IsValid def → IsLegal def h → IsAtRest def h → LineHeadline def h
+line_headline def h valid legal at_rest =
     record {
       laws = keeps_laws def h valid legal;
-      settled = settled;
-      delivered = settled_is_delivered def h valid legal settled;
-      quiet = settled_is_quiet def h valid legal settled;
+      settled = at_rest_is_settled def h at_rest;
+      delivered = at_rest_is_delivered def h valid legal at_rest;
+      quiet = at_rest_is_quiet def h valid legal at_rest;
+      left_enabled = λ fits. left_enabled def h valid fits legal at_rest;
     }

@@ -1,31 +1,23 @@
 -- Each entry that is due has a row.
-use Rattle.std.proofs.Common.{◌≡◌, ℕ, Bool, true, false, cond, is_some, Option, Some, List, [], ◌∷◌, reverse, refl, sym, subst}
+use Rattle.std.proofs.Common.{ℕ, Bool, true, false, cond, is_some, List, [], ◌∷◌, reverse, refl, sym, subst}
 use Rattle.std.specs.List.{All}
 use Rattle.std.proofs.lemmas.List.{reverse-append}
 use Rattle.std.proofs.lemmas.List.Elements.{All-nil, All-push, All-head, All-tail}
-use Rattle.irq_base.specs.declared.calls.Call.{Call}
 use Rattle.irq_base.specs.declared.calls.Flags.{Flags}
-use Rattle.irq_base.specs.declared.entries.Actor.TheVariants as actors
 use Rattle.irq_base.specs.declared.entries.AffinityAnswer.TheVariants as moves
 use Rattle.irq_base.specs.declared.entries.Entry.{Entry}
 use Rattle.irq_base.specs.declared.entries.Entry.TheVariants as by
 use Rattle.irq_base.specs.declared.entries.DriverEntry.TheVariants as drivers
-use Rattle.irq_base.specs.declared.entries.ThreadEntry.TheVariants as threads
 use Rattle.irq_base.specs.declared.entries.Errno.TheVariants as errors
 use Rattle.irq_base.specs.declared.entries.LinkAnswer.{LinkAnswer}
 use Rattle.irq_base.specs.declared.entries.LinkAnswer.TheVariants as links
 use Rattle.irq_base.specs.declared.lines.LineDef.{LineDef}
 use Rattle.irq_base.specs.declared.numbers.DevNo.{DevNo}
 use Rattle.irq_base.specs.declared.numbers.DriverNo.{DriverNo}
-use Rattle.irq_model.specs.Due.{due_call}
 use Rattle.irq_model.specs.Legal.{IsDue}
-use Rattle.irq_model.specs.Next.{link_answer, next_past}
+use Rattle.irq_model.specs.Next.{link_answer}
 use Rattle.irq_model.specs.Signal.{lowest_in}
-use Rattle.irq_laws.proofs.ImpliesDriver.{Row, ask, request, unlink, free_clear, freed, disable, disable_clear}
-use Rattle.irq_laws.proofs.ImpliesDriver.{disable_synced, nosync, enable, sync_clear, synced, affinity, moment}
-use Rattle.irq_laws.proofs.ImpliesDriver.{driver_row, opened_with}
-use Rattle.irq_laws.proofs.ImpliesThread.{thread_return_answer}
-use Rattle.irq_laws.proofs.OwnLaws.{no_cpu_call, no_thread_call}
+use Rattle.irq_laws.proofs.ImpliesDriver.{DriverRow, ask, request, affinity, moment, step, driver_row, opened_with}
 use Rattle.log_text.specs.EntryWords.{IsPrintable}
 
 -- a request that was refused opened nothing
@@ -41,35 +33,18 @@ affinity_printable r mask true true = tt
 affinity_printable r mask true false = tt
 affinity_printable r mask false later = refl
 
-row_printable : (def : LineDef) (r : DriverNo) (due : Option (Call × ℕ)) (past : List Entry) (e : Entry) → Row def r due past e → IsPrintable e
-row_printable def r due past e (ask d n is same) = subst IsPrintable same refl
-row_printable def r due past e (request d flags n is free same) =
+row_printable : (def : LineDef) (r : DriverNo) (past : List Entry) (e : Entry) → DriverRow def r past e → IsPrintable e
+row_printable def r past e (ask d n is same) = subst IsPrintable same tt
+row_printable def r past e (request d flags n is free same) =
     subst IsPrintable same (request_printable def r d flags past (link_answer def d flags past))
-row_printable def r due past e (unlink d is free same) = subst IsPrintable same tt
-row_printable def r due past e (free_clear d is no_flow same) = subst IsPrintable same tt
-row_printable def r due past e (freed d n is some more rest same) = subst IsPrintable same tt
-row_printable def r due past e (disable is same) = subst IsPrintable same tt
-row_printable def r due past e (disable_clear is no_flow same) = subst IsPrintable same tt
-row_printable def r due past e (disable_synced n is some more rest same) = subst IsPrintable same tt
-row_printable def r due past e (nosync n is same) = subst IsPrintable same tt
-row_printable def r due past e (enable n is same) = subst IsPrintable same tt
-row_printable def r due past e (sync_clear is no_flow same) = subst IsPrintable same tt
-row_printable def r due past e (synced n is some rest same) = subst IsPrintable same tt
-row_printable def r due past e (affinity mask n is same) =
+row_printable def r past e (affinity mask n is same) =
     subst IsPrintable same (affinity_printable r mask (is_some (lowest_in def.cpus mask)) def.later)
-row_printable def r due past e (moment at n is same) = subst IsPrintable same tt
-
-by_driver : (def : LineDef) (r : DriverNo) (past : List Entry) (e : Entry) → next_past def past (actors.Driver r) ≡ Some e → IsPrintable e
-by_driver def r past e due = row_printable def r (due_call def r past) past e (driver_row def r past e due)
+row_printable def r past e (moment at n is same) = subst IsPrintable same tt
+row_printable def r past e (step due call is h same) = subst IsPrintable same tt
 
 pub printable : (def : LineDef) (past : List Entry) (e : Entry) → IsDue def e past → IsPrintable e
-printable def past (by.Cpu c e) due = tt
-printable def past (by.Thread d (threads.Return handled served)) due = thread_return_answer def d handled served past due
-printable def past (by.Thread d e) due = tt
-printable def past (by.Driver r e) due = by_driver def r past (by.Driver r e) due
-printable def past (by.CpuCall c call) due = no_cpu_call def c call past due
-printable def past (by.ThreadCall d call) due = no_thread_call def d call past due
-printable def past (by.DriverCall r call) due = by_driver def r past (by.DriverCall r call) due
+printable def past (by.Driver r e) due = row_printable def r past (by.Driver r e) (driver_row def r past (by.Driver r e) due)
+printable def past e due = tt
 
 -- what holds of each item holds of each of them the other way round
 pub turned : {X : Type 0} (P : X → Type 0) (xs : List X) → All P xs → All P (reverse xs)

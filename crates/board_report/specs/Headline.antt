@@ -7,16 +7,17 @@ use Rattle.irq_base.specs.declared.entries.Entry.{Entry}
 use Rattle.irq_base.specs.declared.lines.LineDef.{LineDef}
 use Rattle.irq_base.specs.declared.numbers.LineNo.{LineNo}
 use Rattle.irq_base.specs.declared.reporting.LineReport.{LineReport}
-use Rattle.irq_model.specs.Bounds.{bound}
 use Rattle.irq_model.specs.Laws.{NoOverlap, IsSilentAfterFree, KeepsOneshot, TakesAreCounted}
 use Rattle.irq_model.specs.Laws.{IsSynchronised, IsServedWhenIdle}
 use Rattle.irq_model.specs.Legal.{IsLegal}
 use Rattle.irq_model.specs.Next.{next}
 use Rattle.irq_model.specs.Owed.{IsCovered, IsDelivered}
 use Rattle.irq_model.specs.Reason.{HasReason}
+use Rattle.irq_model.specs.RunLaws.{FollowsRunScripts, EnablesWhatItDisables, IsLeftEnabled}
 use Rattle.irq_model.specs.Scripts.{FollowsScripts}
 use Rattle.irq_model.specs.Settled.{IsSettled}
 use Rattle.irq_laws.specs.Quiet.{IsQuiet}
+use Rattle.irq_storms.specs.Lengths.{history_bound, IsBounded}
 use Rattle.domain_rules.specs.declared.layouts.Placement.TheVariants as placements
 use Rattle.domain_rules.specs.declared.layouts.Unmapped.{Unmapped}
 use Rattle.board_def.specs.Layout.{layout_of}
@@ -55,6 +56,9 @@ pub record KeepsLaws (def : LineDef) (h : List Entry) : Type 0 where
   pub synchronised : IsSynchronised def h
   -- a driver's entries are the entries of its calls, in the order of its script, each once
   pub scripts : FollowsScripts def h
+  -- the calls of handlers and threads stand within their runs, in the order of their scripts, each
+  -- once, and all of them in a run that has returned
+  pub run_scripts : FollowsRunScripts def h
   -- at each moment of the history
   pub always : (before after : List Entry) → h ≡ before ++ after → HoldsAt def before
 
@@ -64,10 +68,13 @@ pub record LineHeadline (def : LineDef) (h : List Entry) : Type 0 where
   -- nothing is due any more, and the drivers' calls are complete
   pub settled : IsSettled def h
   -- if the line isn't left disabled, no edge is owed to a linked device, and on a level line each
-  -- linked device that works has all its asks served
+  -- linked device that works and isn't quiet has all its asks served
   pub delivered : IsDelivered def h
   -- nothing is at work: each handler that was called has returned
   pub quiet : IsQuiet def h
+  -- where each run that disables the line has its thread enable it, and each driver enables as
+  -- often as it disables, a line with something linked is enabled, unless an end killed it
+  pub left_enabled : EnablesWhatItDisables def → IsLeftEnabled def h
 
 -- ---- all lines of a board
 
@@ -91,9 +98,10 @@ LineHistory = LineNo × List Entry
 abbrev pub told_by : LineReport → LineHistory
 told_by report = (report.line, report.history.entries)
 
--- each line that takes part has room for the longest history that its definition allows
+-- each line that takes part has a longest history, and room for it
 abbrev pub IsAmple : BoardSeen → Type 0
-IsAmple b = (i : ℕ) (def : LineDef) → slice_get (defs_of b) i ≡ Some def → bound def ≤ b.log
+IsAmple b = (i : ℕ) (def : LineDef) → slice_get (defs_of b) i ≡ Some def
+    → IsBounded def × (history_bound def ≤ b.log)
 
 -- ---- what has happened
 

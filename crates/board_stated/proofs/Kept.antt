@@ -13,24 +13,28 @@ use Rattle.board_words.specs.TextLines.{text_lines, words_of, has_bad_byte}
 use Rattle.board_words.specs.Statements.{statement_of}
 use Rattle.board_words.specs.declared.faults.FaultKind.{FaultKind}
 use Rattle.board_words.specs.declared.faults.FaultKind.TheVariants as faults
+use Rattle.board_words.specs.declared.statements.CallWords.{CallWords}
 use Rattle.board_words.specs.declared.statements.Statement.{Statement}
 use Rattle.board_words.specs.declared.statements.Statement.TheVariants as statements
-use Rattle.board_stated.specs.FaultsAfter.{is_empty, fault_after}
+use Rattle.board_stated.specs.FaultsAfter.{is_empty, is_nobody, names_nothing, has_bad_owner, has_bad_run, is_one_too_many, fault_after}
 use Rattle.board_stated.specs.Sound.{IsWellFormed, IsSound, draft_of}
-use Rattle.board_stated.specs.Stated.{domain_row, line_row, script_call, board_of}
-use Rattle.board_stated.specs.Sections.{has_moments}
+use Rattle.board_stated.specs.Stated.{domain_row, line_row, device_of_words, script_call, with_call, board_of}
+use Rattle.board_stated.specs.Sections.{writer_of}
+use Rattle.board_stated.specs.declared.writers.Writer.{Writer}
+use Rattle.board_stated.specs.declared.writers.Writer.TheVariants as writers
 use Rattle.board_stated.specs.TextOf.{begins_with_board, or_else, fault_of_statement, fault_of_line, with_line}
 use Rattle.board_stated.specs.TextOf.{with_lines, fault_or, first_fault, has_words, fault_of_lines, longest_text, whole}
 use Rattle.board_stated.specs.TextOf.{board_unless, board_of_text}
 use Rattle.board_words.specs.declared.faults.BoardFault.{BoardFault}
-use Rattle.board_stated.proofs.Calls.{call_after}
+use Rattle.board_stated.proofs.Answers.{answers_kept}
+use Rattle.board_stated.proofs.Calls.{call_after, run_kept}
 use Rattle.board_stated.proofs.Devices.{device_after}
 use Rattle.board_stated.proofs.Domains.{domain_after}
 use Rattle.board_stated.proofs.Drivers.{driver_after}
 use Rattle.board_stated.proofs.Lines.{line_after}
 use Rattle.board_stated.proofs.Picks.{picks_kept}
-use Rattle.board_stated.proofs.Reached.{FitsAfter, fits_after, no_rows}
-use Rattle.board_stated.proofs.Settings.{cpus_kept, spurious_kept, log_range, log_kept}
+use Rattle.board_stated.proofs.Reached.{FitsAfter, fits_after, no_rows, no_answers, driver_declared}
+use Rattle.board_stated.proofs.Settings.{version_kept, cpus_kept, spurious_kept, log_range, log_kept}
 use Rattle.board_stated.proofs.WellFormed.{statement_is_well_formed}
 
 -- ---- statements without a fault state a board
@@ -53,15 +57,31 @@ first_draft = record {
   domains = each_none IsDomainRowAfter;
   lines = each_none (IsLineAfter (draft_of []));
   devices = each_none (IsDeviceAfter (draft_of []));
+  told = record { few = omega arith; short = λ d. omega arith; allowed = All-nil _ };
+  runs = record { few = omega arith; short = λ d part. omega arith; allowed = All-nil _; fit = All-nil _ };
   drivers = each_none IsDriverAfter;
   calls = each_none (IsCallAfter (draft_of []));
   picks = All-nil (IsActorOf (draft_of []));
 }
 
+-- a call, by whose script is written
+call_kept : (past : List Statement) (c : CallWords) (whose : Writer) → writer_of past ≡ whose → IsBoard (draft_of past)
+    → is_nobody whose ≡ false → names_nothing (board_of past) c ≡ false
+    → has_bad_owner whose (board_of past) (statements.Call c) ≡ false
+    → has_bad_run whose (board_of past) (statements.Call c) ≡ false
+    → is_one_too_many whose (board_of past) (statements.Call c) ≡ false
+    → IsBoard (record (with_call whose c (board_of past)) { log = 1 })
+call_kept past c writers.Nobody is board some there owner run room = absurd cc
+call_kept past c writers.Driver is board some there owner run room =
+    let b = draft_of past in
+    grows_call b (script_call b c) board (leb-false 16384 (length b.calls) room)
+    (call_after b c board (driver_declared past is) there owner)
+call_kept past c (writers.Runs dev part) is board some there owner run room = run_kept (draft_of past) dev part c board there run room
+
 -- a statement changes a setting, or adds to the list of its kind what meets its rule after the rows before it
 draft_more : (past : List Statement) (s : Statement) → IsSound past → FitsAfter past s → IsWellFormed s
     → IsBoard (draft_of past) → IsBoard (draft_of (s ∷ past))
-draft_more past (statements.Board version) sound fits formed board = board
+draft_more past (statements.Board version) sound fits formed board = version_kept (draft_of past) version board
 draft_more past (statements.Cpus cpus) sound fits formed board =
     cpus_kept (draft_of past) cpus (no_rows past sound (omega (arith, fits.section))) board formed
 draft_more past (statements.Spurious window limit) sound fits formed board = spurious_kept (draft_of past) window limit board formed
@@ -74,17 +94,20 @@ draft_more past (statements.Line l) sound fits formed board =
     let few = leb-false 64 (length b.lines) fits.room in
     grows_line b (line_row b l) board few (omega (arith, few))
     (line_after b l formed board.some_cpu board.lines fits.placed fits.there fits.unlazy fits.mask)
-draft_more past (statements.Device dev line kind) sound fits formed board =
+draft_more past (statements.Device d) sound fits formed board =
     let b = draft_of past in
-    grows_device b (record { dev = dev; line = line; kind = kind }) board (leb-false 256 (length b.devices) fits.room)
-    (device_after b dev line kind formed board.devices fits.placed fits.there)
+    let none : b.told ≡ [] = no_answers past sound (omega (arith, fits.section)) in
+    grows_device b (device_of_words d) board (leb-false 256 (length b.devices) fits.room)
+    (device_after b d formed board.devices none fits.placed fits.there)
+draft_more past (statements.Answers dev part answers) sound fits formed board =
+    answers_kept (writer_of past) (draft_of past) dev part answers board formed fits.there fits.run fits.room
+draft_more past (statements.Runs dev part) sound fits formed board = board
 draft_more past (statements.Driver driver) sound fits formed board =
     let b = draft_of past in
     grows_driver b driver board (leb-false 64 (length b.drivers) fits.room) (driver_after b driver formed board.drivers fits.placed)
 draft_more past (statements.Call c) sound fits formed board =
-    let b = draft_of past in
-    grows_call b (script_call b c) board (leb-false 16384 (length b.calls) fits.room) (call_after b c board fits.placed fits.there fits.owner)
-draft_more past (statements.Picks picks) sound fits formed board = picks_kept (draft_of past) picks board fits.there fits.room
+    call_kept past c (writer_of past) refl board fits.turn fits.there fits.owner fits.run fits.room
+draft_more past (statements.Picks picks) sound fits formed board = picks_kept (writer_of past) (draft_of past) picks board fits.there fits.room
 
 pub draft_is_board : (past : List Statement) → IsSound past → IsBoard (draft_of past)
 draft_is_board [] sound = first_draft
@@ -106,9 +129,9 @@ after_test false kind rest h = h
 
 sound_statement : (past : List Statement) (words : List (List ℕ)) → IsSound past → fault_of_statement past words ≡ None → IsSound (statement_of words ∷ past)
 sound_statement past words sound h =
-    let both = neither (fault_of_words (has_moments past) words) (fault_after past (statement_of words))
+    let both = neither (fault_of_words (board_of past).version words) (fault_after past (statement_of words))
     (after_test (is_empty past && not (begins_with_board words)) faults.NoHeader _ h) in
-    (sound, statement_is_well_formed (has_moments past) words both.0, both.1)
+    (sound, statement_is_well_formed (board_of past).version words both.0, both.1)
 
 by_words : (t : Bool) (past : List Statement) (words : List (List ℕ)) → IsSound past
     → cond t None (fault_of_statement past words) ≡ None → IsSound (cond t past (statement_of words ∷ past))

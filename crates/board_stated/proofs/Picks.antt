@@ -15,6 +15,7 @@ use Rattle.board_words.specs.declared.statements.PickWord.{PickWord}
 use Rattle.board_words.specs.declared.statements.Statement.TheVariants as statements
 use Rattle.board_stated.specs.FaultsAfter.{has_no_thread, picks_nothing, is_not_there, count_of_picks, is_one_too_many}
 use Rattle.board_stated.specs.Stated.{actors_picked, with_statement}
+use Rattle.board_stated.specs.declared.writers.Writer.{Writer}
 
 -- ---- each pick is of the board
 
@@ -44,18 +45,18 @@ count_told (p ∷ ps) =
     let first = length-replicate p.times p.who in
     omega (arith, length-append (actors_picked p) (flat_map actors_picked ps))
 
-few_after : (b : BoardSeen) (picks : List PickWord) → is_one_too_many b (statements.Picks picks) ≡ false
+few_after : (whose : Writer) (b : BoardSeen) (picks : List PickWord) → is_one_too_many whose b (statements.Picks picks) ≡ false
     → length (b.picks ++ flat_map actors_picked picks) ≤ 65536
-few_after b picks h =
+few_after whose b picks h =
     let few = ltb-false 65536 (length b.picks + count_of_picks picks) h in
     let told = count_told picks in
     omega (arith, length-append b.picks (flat_map actors_picked picks))
 
 -- ---- more
 
-pub picks_kept : (b : BoardSeen) (picks : List PickWord) → IsBoard b → is_not_there b (statements.Picks picks) ≡ false
-    → is_one_too_many b (statements.Picks picks) ≡ false
-    → IsBoard (with_statement (statements.Picks picks) b)
-picks_kept b picks board there room =
+pub picks_kept : (whose : Writer) (b : BoardSeen) (picks : List PickWord) → IsBoard b → is_not_there b (statements.Picks picks) ≡ false
+    → is_one_too_many whose b (statements.Picks picks) ≡ false
+    → IsBoard (with_statement whose (statements.Picks picks) b)
+picks_kept whose b picks board there room =
     let more = flat_map actors_picked picks in
-    other_picks b (b.picks ++ more) board (few_after b picks room) (All-append (IsActorOf b) b.picks more board.picks (actors_there b picks there))
+    other_picks b (b.picks ++ more) board (few_after whose b picks room) (All-append (IsActorOf b) b.picks more board.picks (actors_there b picks there))

@@ -38,13 +38,16 @@ one_line : board_of_text (text (codes "board 1" ∷ codes "domain intc linear 4 
     ∷ codes "device 1 1 direct" ∷ codes "driver 1" ∷ codes "request 1" ∷ codes "ask 1" ∷ codes "free 1"
     ∷ codes "picks c0*2 d1" ∷ []))
     ≡ Ok (record {
+      version = 1;
       cpus = 1;
       window = 100000;
       limit = 99900;
       log = 10000;
       domains = record { name = name_of (codes "intc"); def = record { map = maps.Linear 4; kind = levels.Latch; parent = None } } ∷ [];
       lines = record { line = record { 0 = 1 }; domain = 0; hw = 2; unlazy = false; later = false; mask = 1 } ∷ [];
-      devices = record { dev = record { 0 = 1 }; line = record { 0 = 1 }; kind = kinds.Direct } ∷ [];
+      devices = record { dev = record { 0 = 1 }; line = record { 0 = 1 }; kind = kinds.Direct; held = false; forgets = false } ∷ [];
+      told = [];
+      runs = [];
       drivers = record { 0 = 1 } ∷ [];
       calls = record {
         driver = record { 0 = 1 };
@@ -198,8 +201,8 @@ mask_is_no_fault = refl
 second_version : is_board (board_of_text (codes "board 2")) ≡ true
 second_version = refl
 
-no_third_version : board_of_text (codes "board 3") ≡ fault 1 faults.BadNumber
-no_third_version = refl
+no_fourth_version : board_of_text (codes "board 4") ≡ fault 1 faults.BadNumber
+no_fourth_version = refl
 
 -- an LPI controller, two lines on it, the second through messages, and a driver; and then these
 -- text lines
@@ -209,6 +212,7 @@ on_lpi lines = text (codes "board 2" ∷ codes "domain its tree lpi" ∷ codes "
 
 moments : board_of_text (on_lpi (codes "moment 1 0" ∷ codes "moment 2 4294967295" ∷ []))
     ≡ Ok (record {
+      version = 2;
       cpus = 1;
       window = 100000;
       limit = 99900;
@@ -218,6 +222,8 @@ moments : board_of_text (on_lpi (codes "moment 1 0" ∷ codes "moment 2 42949672
       lines = record { line = record { 0 = 1 }; domain = 0; hw = 2; unlazy = true; later = false; mask = 1 }
           ∷ record { line = record { 0 = 2 }; domain = 1; hw = 2; unlazy = true; later = false; mask = 1 } ∷ [];
       devices = [];
+      told = [];
+      runs = [];
       drivers = record { 0 = 1 } ∷ [];
       calls = record { driver = record { 0 = 1 }; line = record { 0 = 1 }; call = calls.Moment 0 }
           ∷ record { driver = record { 0 = 1 }; line = record { 0 = 2 }; call = calls.Moment 4294967295 } ∷ [];

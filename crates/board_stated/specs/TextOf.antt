@@ -10,7 +10,6 @@ use Rattle.board_words.specs.declared.faults.FaultKind.{FaultKind}
 use Rattle.board_words.specs.declared.faults.FaultKind.TheVariants as faults
 use Rattle.board_words.specs.declared.statements.Statement.{Statement}
 use Rattle.board_stated.specs.FaultsAfter.{fault_after, is_empty}
-use Rattle.board_stated.specs.Sections.{has_moments}
 use Rattle.board_stated.specs.Stated.{board_of}
 use Rattle.board_words.specs.declared.faults.BoardFault.{BoardFault}
 
@@ -28,7 +27,7 @@ or_else None other = other
 abbrev pub fault_of_statement : List Statement → List (List ℕ) → Option FaultKind
 fault_of_statement past words =
     if is_empty past && not (begins_with_board words) then Some faults.NoHeader
-    else or_else (fault_of_words (has_moments past) words) (fault_after past (statement_of words))
+    else or_else (fault_of_words (board_of past).version words) (fault_after past (statement_of words))
 
 -- the first fault of a text line; a text line without words is no statement
 abbrev pub fault_of_line : List Statement → List ℕ → Option FaultKind

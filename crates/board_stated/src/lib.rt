@@ -4,10 +4,14 @@
 //! The definitions are in `specs/`. A statement is judged by the statements before it.
 #![tactic(auto)]
 
+mod writers;
+
 ghost use Rattle.std.specs.Prelude.{◌≡◌, ℕ, List, Ok};
 ghost use Rattle.board_def.specs.Rules.{IsBoard};
 ghost use Rattle.board_def.specs.Seen.{BoardSeen};
 ghost use Rattle.board_stated.specs.TextOf.{board_of_text};
+
+pub use writers::Writer;
 
 /// The board of a text keeps the rules of boards.
 pub fn board_of_a_text_keeps_the_rules()

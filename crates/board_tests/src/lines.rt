@@ -11,7 +11,7 @@ use domain_chain::Chain;
 use domain_hier::{AllocAnswer, Hierarchy};
 use irq_base::{
     Actor, Call, CallList, ControllerKind, DevNo, DeviceDef, DeviceList, DomainDef, DriverNo,
-    Flags, FlowKind, Kind, LineDef, LineNo, MapKind, NoMemory, Trigger,
+    Flags, FlowKind, Kind, LineDef, LineNo, MapKind, NoMemory, RunCallList, ToldList, Trigger,
 };
 use irq_line::{IrqLine, Stepped};
 use line_core::Line;
@@ -35,6 +35,8 @@ const DEVICE: DeviceDef = DeviceDef {
     dev: DevNo(1),
     line: LineNo(2),
     kind: Kind::Direct,
+    held: false,
+    forgets: false,
 };
 
 const REQUEST: Call = Call::Request {
@@ -91,6 +93,8 @@ fn definition(alloc: Global) -> Result<LineDef, NoMemory>
         log: 8,
         devices,
         calls,
+        runs: RunCallList::new(alloc),
+        told: ToldList::new(alloc),
     })
 }
 

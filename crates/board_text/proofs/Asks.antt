@@ -1,5 +1,5 @@
 -- A text line that is `ask` and a number.
-use Rattle.std.proofs.Common.{◌≡◌, ℕ, ◌+◌, ◌-◌, ◌*◌, ◌≤◌, ◌<◌, ◌==◌, Bool, true, false, cond, not, ◌&&◌}
+use Rattle.std.proofs.Common.{◌≡◌, ℕ, ◌+◌, ◌-◌, ◌*◌, ◌≤◌, ◌<◌, Bool, true, false, cond, not, ◌&&◌}
 use Rattle.std.proofs.Common.{Some, None, Result, List, [], ◌∷◌, ◌++◌, codes, length, get_or, take, drop, nat_le, refl, sym, ap, ◌∙◌, subst, arith}
 use Rattle.std.specs.List.{list_all}
 use Rattle.std.proofs.lemmas.Bool.{and_parts}
@@ -8,9 +8,11 @@ use Rattle.std.proofs.lemmas.Bool.Decides.{nat_tests}
 use Rattle.board_def.specs.Names.{is_digit}
 use Rattle.irq_base.specs.declared.numbers.DevNo.{DevNo}
 use Rattle.board_stated.specs.FaultsAfter.{is_empty}
-use Rattle.board_stated.specs.Sections.{has_moments, section_reached}
+use Rattle.board_stated.specs.Sections.{writer_of}
+use Rattle.board_stated.specs.Stated.{board_of}
+use Rattle.board_stated.specs.declared.writers.Writer.TheVariants as writers
 use Rattle.board_text.specs.Given.{Takes, ReadsLine}
-use Rattle.board_text.specs.Kept.{Keeps, place_of}
+use Rattle.board_text.specs.Kept.{Keeps}
 use Rattle.board_text.specs.declared.reader.Reader.{Reader}
 use Rattle.board_text.proofs.ReadLines.{line_taken}
 use Rattle.board_words.specs.Forms.{fault_of_words}
@@ -88,33 +90,30 @@ words_asked (d ∷ ds) n is =
     ap (λ bs. onto_first 97 (onto_first 115 ((107 ∷ []) ∷ split_at_blanks bs))) (digits_stay (d ∷ ds) all)
     ∙ ap (λ ws. onto_first 97 (onto_first 115 ((107 ∷ []) ∷ ws))) (one_word d ds all)
 
-no_fault : (m : Bool) (ds : List ℕ) (n : ℕ) → number_between 1 65535 ds ≡ Some n → fault_of_words m (codes "ask" ∷ ds ∷ []) ≡ None
-no_fault true ds n is = rw is refl
-no_fault false ds n is = rw is refl
+no_fault : (version : ℕ) (ds : List ℕ) (n : ℕ) → number_between 1 65535 ds ≡ Some n → fault_of_words version (codes "ask" ∷ ds ∷ []) ≡ None
+no_fault version ds n is = rw is refl
 
 said : (ds : List ℕ) (n : ℕ) → value_of ds ≡ n → statements.Call (calls.Ask (record { 0 = n })) ≡ statement_of (codes "ask" ∷ ds ∷ [])
 said ds n is = ap (λ k. statements.Call (calls.Ask (record { 0 = k }))) (sym is)
 
-begun : (past : List Statement) (other : Bool) → 5 ≡ section_reached past → (is_empty past && other) ≡ false
-begun [] other at = cc
+begun : (past : List Statement) (other : Bool) → writer_of past ≡ writers.Driver → (is_empty past && other) ≡ false
+begun [] other at = absurd cc
 begun (s ∷ past) other at =
     let some : is_empty (s ∷ past) ≡ false = grind arith in ap (λ t. t && other) some
 
--- in the scripts, it is read by taking the ask
+-- in a driver's script, it is read by taking the ask
 pub ask_taken : (past : List Statement) (text digits rest line : List ℕ) (left : List (List ℕ)) (dev : DevNo) (r q : Reader)
     (result : Result Unit StatementRefused) → text ≡ asked digits ++ 10 ∷ rest → number_between 1 65535 digits ≡ Some dev.0
-    → (place_of r.section == 5) ≡ true → Keeps past r → text_lines text ≡ line ∷ left → Takes past (statements.Call (calls.Ask dev)) q result
+    → r.writer ≡ writers.Driver → Keeps past r → text_lines text ≡ line ∷ left → Takes past (statements.Call (calls.Ask dev)) q result
     → ReadsLine past line q result
-ask_taken past text digits rest line left dev r q result is number scripts keeps lines takes =
+ask_taken past text digits rest line left dev r q result is number script keeps lines takes =
     let told = spelled digits dev.0 number in
     let cut : asked digits ∷ text_lines rest ≡ line ∷ left = sym (ap text_lines is ∙ first_asked digits rest told.0) ∙ lines in
     let same : asked digits ≡ line = cc in
-    let place : place_of r.section ≡ 5 = grind (arith, nat_tests, scripts) in
-    let at : 5 ≡ section_reached past = sym place ∙ keeps.agrees.section in
     subst (λ (l : List ℕ). ReadsLine past l q result) same
     (line_taken past (asked digits) (codes "ask" ∷ digits ∷ []) (statements.Call (calls.Ask dev)) q result
-    (sym (words_asked digits dev.0 number)) (good_asked digits told.0) refl (begun past _ at)
-    (no_fault (has_moments past) digits dev.0 number) (said digits dev.0 told.1) keeps.sound takes)
+    (sym (words_asked digits dev.0 number)) (good_asked digits told.0) refl (begun past _ (sym keeps.agrees.writer ∙ script))
+    (no_fault (board_of past).version digits dev.0 number) (said digits dev.0 told.1) keeps.sound takes)
 
 -- what follows it
 pub ask_left : (text digits rest line : List ℕ) (left : List (List ℕ)) (n : ℕ) → text ≡ asked digits ++ 10 ∷ rest

@@ -142,22 +142,30 @@ pub free_noted : (owners more : List (DevNo × Owner)) (calls : List ScriptCall)
     → more ≡ insert_entry same_dev owners k (owner_noted (owner_in k owners) c.driver false) → Owns owners calls → Owns more (calls ++ c ∷ [])
 free_noted owners more calls c k is now h = rw now (noted owners calls c k false (λ d. rw is refl) (λ d. rw is (and_not (same_dev d k))) h)
 
-abbrev owns : DevNo → Call → Bool
+abbrev pub owns : DevNo → Call → Bool
 owns d call = requests_dev d call || frees_dev d call
 
 -- a call that neither requests nor frees a device
-abbrev IsOther : Call → Type 0
-IsOther c = ((d : DevNo) × c ≡ kinds.Ask d) ⊎ ((c ≡ kinds.Disable) ⊎ ((c ≡ kinds.DisableNosync) ⊎ ((c ≡ kinds.Enable)
-    ⊎ ((c ≡ kinds.Sync) ⊎ (((mask : ℕ) × c ≡ kinds.Affinity mask) ⊎ ((at : ℕ) × c ≡ kinds.Moment at))))))
+abbrev pub IsOther : Call → Type 0
+IsOther c = ((dev : DevNo) × c ≡ kinds.Ask dev) ⊎ ((c ≡ kinds.Disable) ⊎ ((c ≡ kinds.DisableNosync) ⊎ ((c ≡ kinds.Enable) ⊎ ((c ≡ kinds.Sync)
+    ⊎ (((mask : ℕ) × c ≡ kinds.Affinity mask) ⊎ (((at : ℕ) × c ≡ kinds.Moment at) ⊎ ((c ≡ kinds.SyncHard) ⊎ ((c ≡ kinds.DisableHard)
+    ⊎ (((dev : DevNo) × c ≡ kinds.Wake dev) ⊎ (((dev : DevNo) × c ≡ kinds.Quiet dev) ⊎ (((dev : DevNo) × c ≡ kinds.Arm dev)
+    ⊎ ((dev : DevNo) × c ≡ kinds.Serve dev))))))))))))
 
 owns_none : (d : DevNo) (c : Call) → IsOther c → owns d c ≡ false
-owns_none d c (inl (k, is)) = rw is refl
+owns_none d c (inl (dev, is)) = rw is refl
 owns_none d c (inr (inl is)) = rw is refl
 owns_none d c (inr (inr (inl is))) = rw is refl
 owns_none d c (inr (inr (inr (inl is)))) = rw is refl
 owns_none d c (inr (inr (inr (inr (inl is))))) = rw is refl
 owns_none d c (inr (inr (inr (inr (inr (inl (mask, is))))))) = rw is refl
-owns_none d c (inr (inr (inr (inr (inr (inr (at, is))))))) = rw is refl
+owns_none d c (inr (inr (inr (inr (inr (inr (inl (at, is)))))))) = rw is refl
+owns_none d c (inr (inr (inr (inr (inr (inr (inr (inl is)))))))) = rw is refl
+owns_none d c (inr (inr (inr (inr (inr (inr (inr (inr (inl is))))))))) = rw is refl
+owns_none d c (inr (inr (inr (inr (inr (inr (inr (inr (inr (inl (dev, is))))))))))) = rw is refl
+owns_none d c (inr (inr (inr (inr (inr (inr (inr (inr (inr (inr (inl (dev, is)))))))))))) = rw is refl
+owns_none d c (inr (inr (inr (inr (inr (inr (inr (inr (inr (inr (inr (inl (dev, is))))))))))))) = rw is refl
+owns_none d c (inr (inr (inr (inr (inr (inr (inr (inr (inr (inr (inr (inr (dev, is))))))))))))) = rw is refl
 
 pub other_noted : (owners : List (DevNo × Owner)) (calls : List ScriptCall) (c : ScriptCall)
     → IsOther c.call → Owns owners calls → Owns owners (calls ++ c ∷ [])

@@ -2,7 +2,6 @@
 use Rattle.std.specs.Prelude.{◌≡◌, ℕ, false, nat_lt, Some, None, Result, Ok, Err, List, []}
 use Rattle.std.specs.Prelude.{◌∷◌, length}
 use Rattle.board_def.specs.Seen.{BoardSeen}
-use Rattle.board_def.specs.declared.rows.ScriptCall.{ScriptCall}
 use Rattle.board_words.specs.declared.faults.FaultKind.{FaultKind}
 use Rattle.board_words.specs.declared.statements.CallWords.{CallWords}
 use Rattle.board_words.specs.declared.statements.Statement.{Statement}
@@ -10,7 +9,6 @@ use Rattle.board_words.specs.declared.statements.Statement.TheVariants as statem
 use Rattle.board_words.specs.declared.statements.StatementRefused.{StatementRefused}
 use Rattle.board_words.specs.declared.statements.StatementRefused.TheVariants as lines
 use Rattle.board_stated.specs.FaultsAfter.{fault_after}
-use Rattle.board_stated.specs.Stated.{board_of, script_call}
 use Rattle.board_stated.specs.TextOf.{fault_of_line, with_line, first_fault, with_lines, whole}
 use Rattle.board_stated.specs.TextOf.{board_unless, fault_of_lines, longest_text, statements_of}
 use Rattle.board_stated.specs.TextOf.{board_of_text}
@@ -35,10 +33,10 @@ Takes past s reader (Err (lines.Fault kind)) = fault_after past s ≡ Some kind
 Takes past s reader (Err lines.NoMemory) = Unit {0}
 
 -- the call that the words say, which has no fault after these statements; or its fault
-abbrev pub Makes : List Statement → CallWords → Result ScriptCall FaultKind → Type 0
-Makes past words (Ok call) = (fault_after past (statements.Call words) ≡ None)
-    × (call ≡ script_call (board_of past) words)
-Makes past words (Err kind) = fault_after past (statements.Call words) ≡ Some kind
+abbrev pub Makes : {Row : Type 0} → List Statement → CallWords → Row → Result Row FaultKind → Type 0
+Makes past words row (Ok call) =
+    (fault_after past (statements.Call words) ≡ None) × (call ≡ row)
+Makes past words row (Err kind) = fault_after past (statements.Call words) ≡ Some kind
 
 -- a text line was read after these statements: it has no fault, and the reader keeps what it says;
 -- or the answer is its fault

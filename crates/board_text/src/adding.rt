@@ -1,37 +1,109 @@
 //! What a statement adds to the board so far.
-ghost use Rattle.std.specs.Prelude.{◌≡◌, ◌≤◌, ◌++◌, OnOk, replicate};
+ghost use Rattle.std.specs.Prelude.{◌≡◌, ◌≤◌, ◌++◌, OnOk, IfOk, replicate};
 ghost use Rattle.std.specs.List.{flat_map};
 ghost use Rattle.board_def.specs.Rules.{IsBoard};
 ghost use Rattle.board_stated.specs.Stated.{domain_row, line_row, script_call, call_of_words};
 ghost use Rattle.board_stated.specs.Stated.{line_of_call, line_of_device, line_or_none};
-ghost use Rattle.board_stated.specs.Stated.{actors_picked, mask_or_all};
+ghost use Rattle.board_stated.specs.Stated.{actors_picked, mask_or_all, run_call, with_call};
+ghost use Rattle.board_stated.specs.Stated.{device_of_words, told_rows};
 ghost use Rattle.board_text.specs.Kept.{drafted};
 
 use crate::faults::{domain_place, driver_writing, parent_place};
 use crate::masks::all_processors;
-use board_def::{Board, DomainRow, LineRow, ScriptCall};
-use board_words::{CallWords, DomainWords, LineWords, PickList, Statement};
-use irq_base::{Actor, Call, DevNo, DeviceDef, DomainDef, LineNo, NoMemory};
+use board_def::{Board, DomainRow, LineRow, RunCall, ScriptCall, ToldRow};
+use board_stated::Writer;
+use board_words::{
+    AnswerList, CallWords, DeviceWords, DomainWords, LineWords, PickList, Statement,
+};
+use irq_base::{Actor, Call, DevNo, DeviceDef, DomainDef, LineNo, NoMemory, Part};
+use std::alloc::Global;
 
-/// Adds to the board what the statement adds. A log limit waits for the end of the text.
-pub fn add_statement(board: &mut Board, statement: &Statement) -> Result<(), NoMemory>
-    requires { IsBoard (drafted statement.now board.old) }
-    ensures { OnOk result (board.new ≡ drafted statement.now board.old) }
+/// Adds to the board what the statement adds; `writer`: whose script is written. A log limit waits
+/// for the end of the text.
+pub fn add_statement(
+    alloc: Global,
+    board: &mut Board,
+    writer: Writer,
+    statement: &Statement,
+) -> Result<(), NoMemory>
+    requires { IsBoard (drafted writer statement.now board.old) }
+    ensures { OnOk result (board.new ≡ drafted writer statement.now board.old) }
 {
     match statement {
-        Statement::Board(_) | Statement::Log(_) => {}
+        Statement::Log(_) | Statement::Runs { .. } => {}
+        Statement::Board(version) => board.set_version(*version),
         Statement::Cpus(cpus) => board.set_cpus(*cpus),
         Statement::Spurious { window, limit } => board.set_spurious(*window, *limit),
         Statement::Domain(domain) => board.add_domain(domain_row(board, domain))?,
         Statement::Line(line) => board.add_line(line_row(board, line))?,
-        Statement::Device { dev, line, kind } => board.add_device(DeviceDef {
-            dev: *dev,
-            line: *line,
-            kind: *kind,
-        })?,
+        Statement::Device(device) => board.add_device(device_of_words(device))?,
+        Statement::Answers { dev, part, answers } => {
+            let rows = told_rows(alloc, board, *dev, *part, answers)?;
+            board.add_answers(*dev, rows.as_slice())?;
+        }
         Statement::Driver(driver) => board.add_driver(*driver)?,
-        Statement::Call(call) => board.add_call(script_call(board, *call))?,
+        Statement::Call(call) => add_call(board, writer, *call)?,
         Statement::Picks(picks) => add_picks(board, picks)?,
+    }
+    Ok(())
+}
+
+/// Adds the call at the end of the script that is written.
+fn add_call(board: &mut Board, writer: Writer, call: CallWords) -> Result<(), NoMemory>
+    requires { IsBoard (with_call writer call board.old) }
+    ensures { OnOk result (board.new ≡ with_call writer call board.old) }
+{
+    match writer {
+        Writer::Runs { dev, part } => board.add_run(run_call(board, dev, part, call)),
+        Writer::Nobody | Writer::Driver => board.add_call(script_call(board, call)),
+    }
+}
+
+/// The device that the words declare.
+fn device_of_words(device: &DeviceWords) -> DeviceDef
+    ensures { result ≡ device_of_words device.now }
+{
+    DeviceDef {
+        dev: device.dev,
+        line: device.line,
+        kind: device.kind,
+        held: device.held,
+        forgets: device.forgets,
+    }
+}
+
+/// The answers of a part of a device, each as often as it is told.
+fn told_rows(
+    alloc: Global,
+    board: &Board,
+    dev: DevNo,
+    part: Part,
+    answers: &AnswerList,
+) -> Result<Vec<ToldRow>, NoMemory>
+    ensures { IfOk result (λ rows. rows.items ≡ told_rows board.now dev part answers.now) }
+{
+    let line = line_of_device(board, dev);
+    let mut rows = Vec::new(alloc);
+    for i in 0..answers.len() {
+        if let Some(word) = answers.get(i) {
+            let row = ToldRow {
+                line,
+                dev,
+                part,
+                answer: word.answer,
+            };
+            add_told_times(&mut rows, row, word.times)?;
+        }
+    }
+    Ok(rows)
+}
+
+/// Adds the one row as `times` answers.
+fn add_told_times(rows: &mut Vec<ToldRow>, row: ToldRow, times: u32) -> Result<(), NoMemory>
+    ensures { OnOk result (rows.new.items ≡ rows.old.items ++ replicate times row) }
+{
+    for i in 0..times {
+        rows.push(row)?;
     }
     Ok(())
 }
@@ -86,6 +158,18 @@ pub fn script_call(board: &Board, call: CallWords) -> ScriptCall
     }
 }
 
+/// A call of the runs of the device's part.
+pub fn run_call(board: &Board, dev: DevNo, part: Part, call: CallWords) -> RunCall
+    ensures { result ≡ run_call board.now dev part call }
+{
+    RunCall {
+        line: line_of_call(board, call),
+        dev,
+        part,
+        call: call_of_words(call),
+    }
+}
+
 /// The call that the words say.
 pub fn call_of_words(call: CallWords) -> Call
     ensures { result ≡ call_of_words call }
@@ -100,6 +184,12 @@ pub fn call_of_words(call: CallWords) -> Call
         CallWords::Sync { .. } => Call::Sync,
         CallWords::Affinity { mask, .. } => Call::Affinity { mask },
         CallWords::Moment { at, .. } => Call::Moment { at },
+        CallWords::SyncHard { .. } => Call::SyncHard,
+        CallWords::DisableHard { .. } => Call::DisableHard,
+        CallWords::Wake { dev } => Call::Wake { dev },
+        CallWords::Quiet { dev } => Call::Quiet { dev },
+        CallWords::Arm { dev } => Call::Arm { dev },
+        CallWords::Serve { dev } => Call::Serve { dev },
     }
 }
 
@@ -108,15 +198,21 @@ fn line_of_call(board: &Board, call: CallWords) -> LineNo
     ensures { result ≡ line_of_call board.now.devices call }
 {
     match call {
-        CallWords::Request { dev, .. } | CallWords::Free { dev } | CallWords::Ask { dev } => {
-            line_of_device(board, dev)
-        }
+        CallWords::Request { dev, .. }
+        | CallWords::Free { dev }
+        | CallWords::Ask { dev }
+        | CallWords::Wake { dev }
+        | CallWords::Quiet { dev }
+        | CallWords::Arm { dev }
+        | CallWords::Serve { dev } => line_of_device(board, dev),
         CallWords::Disable { line }
         | CallWords::DisableNosync { line }
         | CallWords::Enable { line }
         | CallWords::Sync { line }
-        | CallWords::Affinity { line, .. } => line,
-        CallWords::Moment { line, .. } => line,
+        | CallWords::SyncHard { line }
+        | CallWords::DisableHard { line }
+        | CallWords::Affinity { line, .. }
+        | CallWords::Moment { line, .. } => line,
     }
 }
 

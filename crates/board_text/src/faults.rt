@@ -7,15 +7,19 @@ ghost use Rattle.board_stated.specs.FaultsAfter.{is_misplaced, is_not_there, nam
 ghost use Rattle.board_stated.specs.FaultsAfter.{picks_nothing, has_bad_parent};
 ghost use Rattle.board_stated.specs.FaultsAfter.{has_bad_unlazy, has_bad_mask, is_mask_empty};
 ghost use Rattle.board_stated.specs.FaultsAfter.{is_one_too_many, count_of_picks};
-ghost use Rattle.board_stated.specs.FaultsAfter.{is_parent_missing};
+ghost use Rattle.board_stated.specs.FaultsAfter.{is_parent_missing, has_no_part};
+ghost use Rattle.board_stated.specs.FaultsAfter.{cannot_answer};
 ghost use Rattle.board_def.specs.Find.{place_of_name};
 ghost use Rattle.board_stated.specs.Stated.{driver_writing, parent_place, place_or_first};
 ghost use Rattle.board_stated.specs.Stated.{line_of_call};
 
+use crate::counting::{has_no_room_for, has_no_room_to_call};
+use crate::runs::is_told;
 use affinity::has_processor;
 use board_def::{Board, Name};
+use board_stated::Writer;
 use board_words::{CallWords, PickList, Statement};
-use irq_base::{Actor, DriverNo, LineNo};
+use irq_base::{Actor, DeviceDef, DriverNo, LineNo, Part};
 
 /// The most domains of a board.
 const MOST_DOMAINS: usize = 32;
@@ -35,16 +39,18 @@ pub(crate) const MOST_CALLS: usize = 16_384;
 /// The most picks of a board.
 const MOST_PICKS: usize = 65_536;
 
-/// Whether the statement's number isn't above the last one of its kind, or it is a call before any
-/// driver.
+/// Whether the statement's number isn't above the last one of its kind.
 pub fn is_misplaced(board: &Board, statement: &Statement) -> bool
     ensures { result ≡ is_misplaced board.now statement.now }
 {
     match statement {
         Statement::Line(line) => board.last_line().is_some_and(|last| line.line.0 <= last.0),
-        Statement::Device { dev, .. } => board.last_device().is_some_and(|last| dev.0 <= last.0),
+        Statement::Device(device) => {
+            board
+                .last_device()
+                .is_some_and(|last| device.dev.0 <= last.0)
+        }
         Statement::Driver(driver) => board.last_driver().is_some_and(|last| driver.0 <= last.0),
-        Statement::Call(_) => board.drivers_len() == 0,
         _ => false,
     }
 }
@@ -64,7 +70,9 @@ pub fn is_not_there(board: &Board, statement: &Statement) -> bool
     match statement {
         Statement::Domain(domain) => is_parent_missing(board, domain.parent),
         Statement::Line(line) => !has_name(board, line.domain),
-        Statement::Device { line, .. } => !has_line(board, *line),
+        Statement::Device(device) => !has_line(board, device.line),
+        Statement::Answers { dev, part, .. } => cannot_answer(*part, board.find_device(*dev)),
+        Statement::Runs { dev, part } => has_no_part(*part, board.find_device(*dev)),
         Statement::Call(call) => names_nothing(board, *call),
         Statement::Picks(picks) => any_picks_nothing(board, picks),
         _ => false,
@@ -111,13 +119,19 @@ pub(crate) fn line_named(board: &Board, call: CallWords) -> Option<LineNo>
     ensures line { IfSome result (λ line. line ≡ line_of_call board.now.devices call) }
 {
     match call {
-        CallWords::Request { dev, .. } | CallWords::Free { dev } | CallWords::Ask { dev } => {
-            Some(board.find_device(dev)?.line)
-        }
+        CallWords::Request { dev, .. }
+        | CallWords::Free { dev }
+        | CallWords::Ask { dev }
+        | CallWords::Wake { dev }
+        | CallWords::Quiet { dev }
+        | CallWords::Arm { dev }
+        | CallWords::Serve { dev } => Some(board.find_device(dev)?.line),
         CallWords::Disable { line }
         | CallWords::DisableNosync { line }
         | CallWords::Enable { line }
         | CallWords::Sync { line }
+        | CallWords::SyncHard { line }
+        | CallWords::DisableHard { line }
         | CallWords::Affinity { line, .. }
         | CallWords::Moment { line, .. } => if_there(board, line),
     }
@@ -159,6 +173,26 @@ fn picks_nothing(board: &Board, who: Actor) -> bool
         },
         Actor::Cpu(cpu) => board.cpus() <= cpu.0,
         Actor::Driver(driver) => !board.has_driver(driver),
+    }
+}
+
+/// Whether there is no such part of the device's handler.
+fn has_no_part(part: Part, device: Option<DeviceDef>) -> bool
+    ensures { result ≡ has_no_part part device }
+{
+    match device {
+        Some(device) => part == Part::Thread && !device.kind.has_thread(),
+        None => true,
+    }
+}
+
+/// Whether the device isn't there, or it is a told one without such a part of its handler.
+fn cannot_answer(part: Part, device: Option<DeviceDef>) -> bool
+    ensures { result ≡ cannot_answer part device }
+{
+    match device {
+        Some(told) => is_told(told.kind) && has_no_part(part, device),
+        None => true,
     }
 }
 
@@ -222,16 +256,18 @@ fn is_mask_empty(board: &Board, mask: Option<u32>) -> bool
     }
 }
 
-/// Whether the statement declares one more of its kind than a board may have.
-pub fn is_one_too_many(board: &Board, statement: &Statement) -> bool
-    ensures { result ≡ is_one_too_many board.now statement.now }
+/// Whether the statement declares one more of its kind than a board may have; `writer`: whose
+/// script is written.
+pub fn is_one_too_many(board: &Board, writer: Writer, statement: &Statement) -> bool
+    ensures { result ≡ is_one_too_many writer board.now statement.now }
 {
     match statement {
         Statement::Domain(_) => board.domains_len() >= MOST_DOMAINS,
         Statement::Line(_) => board.lines_len() >= MOST_LINES,
-        Statement::Device { .. } => board.devices_len() >= MOST_DEVICES,
+        Statement::Device(_) => board.devices_len() >= MOST_DEVICES,
+        Statement::Answers { dev, answers, .. } => has_no_room_for(board, *dev, answers),
         Statement::Driver(_) => board.drivers_len() >= MOST_DRIVERS,
-        Statement::Call(_) => board.calls_len() >= MOST_CALLS,
+        Statement::Call(_) => has_no_room_to_call(board, writer),
         Statement::Picks(picks) => has_no_room(board.picks_len(), picks),
         _ => false,
     }

@@ -76,7 +76,13 @@ impl Owners {
             | Call::Enable
             | Call::Sync
             | Call::Affinity { .. }
-            | Call::Moment { .. } => false,
+            | Call::Moment { .. }
+            | Call::SyncHard
+            | Call::DisableHard
+            | Call::Wake { .. }
+            | Call::Quiet { .. }
+            | Call::Arm { .. }
+            | Call::Serve { .. } => false,
         }
     }
 
@@ -94,7 +100,13 @@ impl Owners {
             | Call::Enable
             | Call::Sync
             | Call::Affinity { .. }
-            | Call::Moment { .. } => Ok(()),
+            | Call::Moment { .. }
+            | Call::SyncHard
+            | Call::DisableHard
+            | Call::Wake { .. }
+            | Call::Quiet { .. }
+            | Call::Arm { .. }
+            | Call::Serve { .. } => Ok(()),
         }
     }
 

@@ -27,7 +27,8 @@ pub enum BoardRefused {
 }
 
 /// Reads the text of a board, at most `LONGEST_TEXT` bytes: the board that it states, or its first
-/// fault, or that memory was refused. The time is linear in the bytes and in the picks.
+/// fault, or that memory was refused. The time is linear in the bytes and in the picks, but for a
+/// count of the answers so far, at most 65,536, by each statement of answers.
 pub fn read_board(alloc: Global, bytes: &[u8]) -> Result<Board, BoardRefused>
     ensures exact { Gives (board_of_text bytes.now) result }
 {

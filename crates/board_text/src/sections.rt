@@ -1,6 +1,6 @@
 //! The sections of a text.
 ghost use Rattle.std.specs.Prelude.{◌≡◌, nat_lt};
-ghost use Rattle.board_stated.specs.Sections.{section_of};
+ghost use Rattle.board_stated.specs.Sections.{section_in};
 ghost use Rattle.board_text.specs.Kept.{place_of};
 
 use board_words::Statement;
@@ -18,6 +18,8 @@ pub enum Section {
     Lines,
     /// `device`.
     Devices,
+    /// `answers`, `handler` and `thread`, and the calls of runs.
+    Runs,
     /// `driver`, and the calls of its script.
     Scripts,
     /// `picks`.
@@ -25,9 +27,9 @@ pub enum Section {
 }
 
 impl Section {
-    /// The section of the statement.
-    pub fn of(statement: &Statement) -> Section
-        ensures { place_of result ≡ section_of statement.now }
+    /// The section of a statement behind this one; a call is of the one in which it stands.
+    pub fn of(self, statement: &Statement) -> Section
+        ensures { place_of result ≡ section_in (place_of self) statement.now }
     {
         match statement {
             Statement::Board(_) => Section::Header,
@@ -36,8 +38,10 @@ impl Section {
             }
             Statement::Domain(_) => Section::Domains,
             Statement::Line(_) => Section::Lines,
-            Statement::Device { .. } => Section::Devices,
-            Statement::Driver(_) | Statement::Call(_) => Section::Scripts,
+            Statement::Device(_) => Section::Devices,
+            Statement::Answers { .. } | Statement::Runs { .. } => Section::Runs,
+            Statement::Driver(_) => Section::Scripts,
+            Statement::Call(_) => self,
             Statement::Picks(_) => Section::Picks,
         }
     }
@@ -59,8 +63,9 @@ impl Section {
             Section::Domains => 2,
             Section::Lines => 3,
             Section::Devices => 4,
-            Section::Scripts => 5,
-            Section::Picks => 6,
+            Section::Runs => 5,
+            Section::Scripts => 6,
+            Section::Picks => 7,
         }
     }
 }

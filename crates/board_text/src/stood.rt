@@ -12,8 +12,6 @@ pub struct Stood {
     pub begun: bool,
     /// `board`.
     pub header: bool,
-    /// `board 2`, whose texts have moments.
-    pub moments: bool,
     /// `cpus`.
     pub cpus: bool,
     /// `spurious`.
@@ -30,7 +28,6 @@ impl Stood {
         Stood {
             begun: false,
             header: false,
-            moments: false,
             cpus: false,
             spurious: false,
             log: false,
@@ -44,10 +41,7 @@ impl Stood {
     {
         self.begun = true;
         match statement {
-            Statement::Board(version) => {
-                self.header = true;
-                self.moments = *version == 2 || self.moments;
-            }
+            Statement::Board(_) => self.header = true,
             Statement::Cpus(_) => self.cpus = true,
             Statement::Spurious { .. } => self.spurious = true,
             Statement::Log(_) => self.log = true,

@@ -1,9 +1,12 @@
 -- The forms that repeat: parents, options, and the way of a map.
 use Rattle.std.proofs.Common.{◌≡◌, ℕ, Bool, true, false, not, cond, ◌||◌, List, [], ◌∷◌, ◌++◌, drop, get_or, codes, Option, Some, None, refl, sym, ap, ◌∙◌}
 use Rattle.std.proofs.lemmas.List.{append-nil}
-use Rattle.std.specs.List.{list_any}
+use Rattle.std.specs.List.{list_any, flat_map}
+use Rattle.irq_base.specs.declared.devices.Part.{Part}
+use Rattle.irq_base.specs.declared.devices.Part.TheVariants as parts
 use Rattle.board_words.specs.Faults.{first_in_order}
 use Rattle.board_words.specs.Forms.{is, at, number, name, one_of, mask_number, parents_form, line_options, map_form, level_kinds}
+use Rattle.board_words.specs.Forms.{answer, answers_form, part_form}
 use Rattle.board_words.specs.Places.{both, fault_at, Takes, in_all, option_texts}
 use Rattle.board_words.specs.Seen.{words_left, are_none}
 use Rattle.board_words.specs.Statements.{name_at, parent_name, has_more_parents}
@@ -47,20 +50,41 @@ right_none (Some k) (Some j) h = chosen (cond_some _ j k h) where
   cond_some true j k h = cc
   cond_some false j k h = cc
 
-linear_words : (words rest : List (List ℕ)) (word : List ℕ) → words ≡ word ∷ rest → is word (codes "linear") ≡ true
-    → map_form words ≡ at (number 1 1024) (at (one_of level_kinds) parents_form) rest
-linear_words words rest word e h =
-    ap map_form e ∙ ap (λ t. cond t (at (number 1 1024) (at (one_of level_kinds) parents_form) rest)
-    (cond (is word (codes "tree")) (at (one_of level_kinds) parents_form rest) (faults.UnknownWord ∷ []))) h
+linear_words : (version : ℕ) (words rest : List (List ℕ)) (word : List ℕ) → words ≡ word ∷ rest → is word (codes "linear") ≡ true
+    → map_form version words ≡ at (number 1 1024) (at (one_of (level_kinds version)) parents_form) rest
+linear_words version words rest word e h =
+    ap (map_form version) e ∙ ap (λ t. cond t (at (number 1 1024) (at (one_of (level_kinds version)) parents_form) rest)
+    (cond (is word (codes "tree")) (at (one_of (level_kinds version)) parents_form rest) (faults.UnknownWord ∷ []))) h
 
-pub linear_taken : (old : Places) (word : List ℕ) {mid new : Places} → Takes (number 1 1024) mid new
+pub linear_taken : (version : ℕ) (old : Places) (word : List ℕ) {mid new : Places} → Takes (number 1 1024) mid new
     → mid.found ≡ old.found → words_left old.words ≡ word ∷ words_left mid.words → is word (codes "linear") ≡ true
-    → in_all old map_form ≡ in_all new (at (one_of level_kinds) parents_form)
-linear_taken old word {mid} {new} takes same e h =
-    let form = at (number 1 1024) (at (one_of level_kinds) parents_form) in
-    ap (λ kinds. both old.found (first_in_order kinds)) (linear_words (words_left old.words) (words_left mid.words) word e h)
+    → in_all old (map_form version) ≡ in_all new (at (one_of (level_kinds version)) parents_form)
+linear_taken version old word {mid} {new} takes same e h =
+    let form = at (number 1 1024) (at (one_of (level_kinds version)) parents_form) in
+    ap (λ kinds. both old.found (first_in_order kinds)) (linear_words version (words_left old.words) (words_left mid.words) word e h)
     ∙ ap (λ f. both f (first_in_order (form (words_left mid.words)))) (sym same)
-    ∙ step takes (at (one_of level_kinds) parents_form) refl
+    ∙ step takes (at (one_of (level_kinds version)) parents_form) refl
+
+-- the part whose answers follow
+
+pub thread_form : (words rest : List (List ℕ)) (word : List ℕ) → words ≡ word ∷ rest → is word (codes "thread") ≡ true
+    → part_form words ≡ answers_form parts.Thread rest
+thread_form words rest word e h =
+    ap part_form e ∙ ap (λ t. cond t (answers_form parts.Thread rest) (answers_form parts.Primary (word ∷ rest))) h
+
+pub primary_form : (words rest : List (List ℕ)) (word : List ℕ) → words ≡ word ∷ rest → is word (codes "thread") ≡ false
+    → part_form words ≡ answers_form parts.Primary words
+primary_form words rest word e h =
+    ap part_form e ∙ (ap (λ t. cond t (answers_form parts.Thread rest) (answers_form parts.Primary (word ∷ rest))) h
+    ∙ ap (answers_form parts.Primary) (sym e))
+
+pub no_form : (words : List (List ℕ)) → words ≡ [] → part_form words ≡ answers_form parts.Primary words
+no_form words e = ap part_form e ∙ ap (answers_form parts.Primary) (sym e)
+
+-- one or more answers, where a word is left
+pub some_answers : (part : Part) (words : List (List ℕ)) → are_none words ≡ false → answers_form part words ≡ flat_map (answer part) words
+some_answers part [] some = cc
+some_answers part (word ∷ words) some = refl
 
 -- options
 

@@ -20,11 +20,12 @@ rank faults.BadParent = 11
 rank faults.BadUnlazy = 12
 rank faults.BadMask = 13
 rank faults.BadOwner = 14
-rank faults.TooMany = 15
-rank faults.LogTooLarge = 16
-rank faults.NotForChain = 17
-rank faults.NotForHotplug = 18
-rank faults.NotForSleep = 19
+rank faults.BadRun = 15
+rank faults.TooMany = 16
+rank faults.LogTooLarge = 17
+rank faults.NotForChain = 18
+rank faults.NotForHotplug = 19
+rank faults.NotForSleep = 20
 
 abbrev pub earlier : FaultKind → Option FaultKind → Option FaultKind
 earlier kind None = Some kind

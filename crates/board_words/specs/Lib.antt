@@ -2,6 +2,7 @@ pub mod TextLines
 pub mod Ends
 pub mod Spelling
 pub mod Faults
+pub mod Versions
 pub mod Forms
 pub mod Statements
 pub mod Seen

@@ -1,5 +1,5 @@
 -- What reading a text line's words comes to.
-use Rattle.std.specs.Prelude.{◌≡◌, ℕ, Bool, true, Some, None, List, [], ◌∷◌, Result, Ok, Err, codes}
+use Rattle.std.specs.Prelude.{◌≡◌, ℕ, true, ◌||◌, Some, None, List, [], ◌∷◌, Result, Ok, Err, codes}
 use Rattle.board_words.specs.Faults.{first_in_order}
 use Rattle.board_words.specs.Forms.{faults_of, is}
 use Rattle.board_words.specs.Statements.{statement_of}
@@ -15,16 +15,16 @@ Tells kinds said (Err (refusals.Fault kind)) = first_in_order kinds ≡ Some kin
 Tells kinds said (Err refusals.NoMemory) = Unit {0}
 
 -- the first fault of the words, or without a fault what they say
-abbrev pub Reads : Bool → List (List ℕ) → Result Statement StatementRefused → Type 0
-Reads has_moments words result = Tells (faults_of has_moments words) (statement_of words) result
+abbrev pub Reads : ℕ → List (List ℕ) → Result Statement StatementRefused → Type 0
+Reads version words result = Tells (faults_of version words) (statement_of words) result
 
--- the first word is `picks`
-abbrev pub ArePicks : List (List ℕ) → Type 0
-ArePicks [] = ⊥
-ArePicks (word ∷ words) = is word (codes "picks") ≡ true
+-- the first word is `picks` or `answers`
+abbrev pub AreListed : List (List ℕ) → Type 0
+AreListed [] = ⊥
+AreListed (word ∷ words) = (is word (codes "picks") || is word (codes "answers")) ≡ true
 
--- memory is needed for picks alone
-abbrev pub WantsForPicks : List (List ℕ) → Result Statement StatementRefused → Type 0
-WantsForPicks words (Ok statement) = Unit {0}
-WantsForPicks words (Err (refusals.Fault kind)) = Unit {0}
-WantsForPicks words (Err refusals.NoMemory) = ArePicks words
+-- memory is needed for picks and answers alone
+abbrev pub WantsForLists : List (List ℕ) → Result Statement StatementRefused → Type 0
+WantsForLists words (Ok statement) = Unit {0}
+WantsForLists words (Err (refusals.Fault kind)) = Unit {0}
+WantsForLists words (Err refusals.NoMemory) = AreListed words

@@ -1,10 +1,16 @@
--- How numbers and picks are spelled.
+-- How numbers, picks and answers are spelled.
 use Rattle.std.specs.Prelude.{ℕ, ◌+◌, ◌-◌, ◌*◌, Bool, false, not, ◌&&◌, ◌==◌, nat_le, nat_lt}
-use Rattle.std.specs.Prelude.{if◌then◌else◌, Option, Some, None, List, [], ◌∷◌, length}
+use Rattle.std.specs.Prelude.{if◌then◌else◌, Option, Some, None, List, [], ◌∷◌, length, codes}
 use Rattle.std.specs.List.{list_all}
+use Rattle.std.specs.Str.{bytes_eq}
 use Rattle.board_def.specs.Names.{is_digit}
 use Rattle.irq_base.specs.declared.entries.Actor.{Actor}
 use Rattle.irq_base.specs.declared.entries.Actor.TheVariants as actors
+use Rattle.irq_base.specs.declared.devices.Part.{Part}
+use Rattle.irq_base.specs.declared.devices.Part.TheVariants as parts
+use Rattle.irq_base.specs.declared.devices.ToldAnswer.{ToldAnswer}
+use Rattle.irq_base.specs.declared.devices.ToldAnswer.TheVariants as answers
+use Rattle.board_words.specs.declared.statements.AnswerWord.{AnswerWord}
 use Rattle.board_words.specs.declared.statements.PickWord.{PickWord}
 
 -- the number whose digits are those of n, followed by these
@@ -70,3 +76,25 @@ both_of _ _ = None
 -- the pick that the word spells
 abbrev pub pick_of : List ℕ → Option PickWord
 pick_of word = both_of (picked_of (before_star word)) (times_of (after_star word))
+
+-- a thread wakes nobody
+abbrev pub wake_by : Part → Option ToldAnswer
+wake_by parts.Primary = Some answers.Wake
+wake_by parts.Thread = None
+
+-- the answer of that part that the word names
+abbrev pub answer_named : Part → List ℕ → Option ToldAnswer
+answer_named part word =
+    if bytes_eq word (codes "handled") then Some answers.Handled
+    else if bytes_eq word (codes "nothing") then Some answers.Nothing
+    else if bytes_eq word (codes "claims") then Some answers.Claims
+    else if bytes_eq word (codes "wake") then wake_by part
+    else None
+
+abbrev pub answered : Option ToldAnswer → Option ℕ → Option AnswerWord
+answered (Some answer) (Some times) = Some (record { answer = answer; times = times })
+answered _ _ = None
+
+-- the answer that the word spells, and in how many runs
+abbrev pub answer_of : Part → List ℕ → Option AnswerWord
+answer_of part word = answered (answer_named part (before_star word)) (times_of (after_star word))

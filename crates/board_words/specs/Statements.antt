@@ -4,6 +4,8 @@ use Rattle.std.specs.Prelude.{Some, None, List, [], ◌∷◌, codes, drop, get_
 use Rattle.std.specs.List.{list_any}
 use Rattle.irq_base.specs.declared.devices.Kind.{Kind}
 use Rattle.irq_base.specs.declared.devices.Kind.TheVariants as kinds
+use Rattle.irq_base.specs.declared.devices.Part.{Part}
+use Rattle.irq_base.specs.declared.devices.Part.TheVariants as parts
 use Rattle.irq_base.specs.declared.domains.ControllerKind.{ControllerKind}
 use Rattle.irq_base.specs.declared.domains.ControllerKind.TheVariants as levels
 use Rattle.irq_base.specs.declared.domains.MapKind.{MapKind}
@@ -13,9 +15,11 @@ use Rattle.irq_base.specs.declared.numbers.LineNo.{LineNo}
 use Rattle.board_def.specs.Names.{name_of}
 use Rattle.board_def.specs.declared.names.Name.{Name}
 use Rattle.board_words.specs.Forms.{is}
-use Rattle.board_words.specs.Spelling.{value_of, pick_of}
+use Rattle.board_words.specs.Spelling.{value_of, pick_of, answer_of}
+use Rattle.board_words.specs.declared.statements.AnswerWord.{AnswerWord}
 use Rattle.board_words.specs.declared.statements.CallWords.{CallWords}
 use Rattle.board_words.specs.declared.statements.CallWords.TheVariants as calls
+use Rattle.board_words.specs.declared.statements.DeviceWords.{DeviceWords}
 use Rattle.board_words.specs.declared.statements.DomainWords.{DomainWords}
 use Rattle.board_words.specs.declared.statements.LineWords.{LineWords}
 use Rattle.board_words.specs.declared.statements.PickWord.{PickWord}
@@ -55,6 +59,7 @@ controller_kind word =
     else if is word (codes "vector") then levels.Vector
     else if is word (codes "msi") then levels.Msi
     else if is word (codes "lpi") then levels.Lpi
+    else if is word (codes "pin") then levels.Pin
     else levels.Remap
 
 abbrev pub device_kind : List ℕ → Kind
@@ -62,6 +67,8 @@ device_kind word =
     if is word (codes "direct") then kinds.Direct
     else if is word (codes "check") then kinds.Check
     else if is word (codes "null") then kinds.Null
+    else if is word (codes "odd") then kinds.Odd
+    else if is word (codes "told") then kinds.Told false
     else kinds.Stuck
 
 -- the name after `parent`
@@ -109,6 +116,18 @@ line_words words =
           || (stands_again (codes "later") options || stands_again (codes "mask") options);
     }
 
+abbrev pub device_words : List (List ℕ) → DeviceWords
+device_words words =
+    let options = drop 3 words in
+    record {
+      dev = dev_at 0 words;
+      line = line_at 1 words;
+      kind = device_kind (get_or words 2 []);
+      held = stands (codes "held") options;
+      forgets = stands (codes "forgets") options;
+      twice = stands_again (codes "held") options || stands_again (codes "forgets") options;
+    }
+
 abbrev pub request_words : List (List ℕ) → CallWords
 request_words words =
     let flags = drop 1 words in
@@ -128,6 +147,26 @@ abbrev pub picks_of : List (List ℕ) → List PickWord
 picks_of [] = []
 picks_of (word ∷ words) = onto_picks (pick_of word) (picks_of words)
 
+-- the part whose answers these words are: `thread` stands before a thread's
+abbrev pub part_at : List (List ℕ) → Part
+part_at words = if is (get_or words 0 []) (codes "thread") then parts.Thread else parts.Primary
+
+abbrev pub after_part : List (List ℕ) → List (List ℕ)
+after_part words = if is (get_or words 0 []) (codes "thread") then drop 1 words else words
+
+abbrev pub onto_answers : Option AnswerWord → List AnswerWord → List AnswerWord
+onto_answers (Some answer) answers = answer ∷ answers
+onto_answers None answers = answers
+
+abbrev pub answers_of : Part → List (List ℕ) → List AnswerWord
+answers_of part [] = []
+answers_of part (word ∷ words) = onto_answers (answer_of part word) (answers_of part words)
+
+abbrev pub answers_words : List (List ℕ) → Statement
+answers_words words =
+    let rest = drop 1 words in
+    statements.Answers (dev_at 0 words) (part_at rest) (answers_of (part_at rest) (after_part rest))
+
 abbrev pub call_of : List ℕ → List (List ℕ) → CallWords
 call_of word words =
     if is word (codes "request") then request_words words
@@ -138,6 +177,12 @@ call_of word words =
     else if is word (codes "enable") then calls.Enable (line_at 0 words)
     else if is word (codes "sync") then calls.Sync (line_at 0 words)
     else if is word (codes "moment") then calls.Moment (line_at 0 words) (number_at 1 words)
+    else if is word (codes "sync_hard") then calls.SyncHard (line_at 0 words)
+    else if is word (codes "disable_hard") then calls.DisableHard (line_at 0 words)
+    else if is word (codes "wake") then calls.Wake (dev_at 0 words)
+    else if is word (codes "quiet") then calls.Quiet (dev_at 0 words)
+    else if is word (codes "arm") then calls.Arm (dev_at 0 words)
+    else if is word (codes "serve") then calls.Serve (dev_at 0 words)
     else calls.Affinity (line_at 0 words) (number_at 1 words)
 
 abbrev pub statement_after : List ℕ → List (List ℕ) → Statement
@@ -149,8 +194,10 @@ statement_after word words =
     else if is word (codes "log") then statements.Log (number_at 0 words)
     else if is word (codes "domain") then statements.Domain (domain_words words)
     else if is word (codes "line") then statements.Line (line_words words)
-    else if is word (codes "device")
-    then statements.Device (dev_at 0 words) (line_at 1 words) (device_kind (get_or words 2 []))
+    else if is word (codes "device") then statements.Device (device_words words)
+    else if is word (codes "answers") then answers_words words
+    else if is word (codes "handler") then statements.Runs (dev_at 0 words) parts.Primary
+    else if is word (codes "thread") then statements.Runs (dev_at 0 words) parts.Thread
     else if is word (codes "driver") then statements.Driver (record { 0 = number_at 0 words })
     else if is word (codes "picks") then statements.Picks (picks_of words)
     else statements.Call (call_of word words)

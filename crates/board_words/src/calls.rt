@@ -1,5 +1,6 @@
 //! Calls of scripts.
 ghost use Rattle.std.specs.Prelude.{◌≡◌};
+ghost use Rattle.std.specs.List.{flat_map};
 ghost use Rattle.board_words.specs.Forms as forms;
 ghost use Rattle.board_words.specs.Keywords.{call_text};
 ghost use Rattle.board_words.specs.Places.{reads};
@@ -17,7 +18,7 @@ use irq_base::{DevNo, Flags, LineNo};
 /// The call that the words say; `call` is the first word, `words` are those after it.
 pub(crate) fn read_call(call: CallWord, words: Words<'_>) -> Result<CallWords, FaultKind>
     ensures { result
-        ≡ reads (forms.form_after (call_text call)) (said.call_of (call_text call)) words.entry }
+        ≡ reads (forms.call_form (call_text call)) (said.call_of (call_text call)) words.entry }
 {
     match call {
         CallWord::Request => request(words),
@@ -29,6 +30,12 @@ pub(crate) fn read_call(call: CallWord, words: Words<'_>) -> Result<CallWords, F
         CallWord::Sync => Ok(CallWords::Sync { line: line(words)? }),
         CallWord::Affinity => affinity(words),
         CallWord::Moment => moment(words),
+        CallWord::SyncHard => Ok(CallWords::SyncHard { line: line(words)? }),
+        CallWord::DisableHard => Ok(CallWords::DisableHard { line: line(words)? }),
+        CallWord::Wake => Ok(CallWords::Wake { dev: dev(words)? }),
+        CallWord::Quiet => Ok(CallWords::Quiet { dev: dev(words)? }),
+        CallWord::Arm => Ok(CallWords::Arm { dev: dev(words)? }),
+        CallWord::Serve => Ok(CallWords::Serve { dev: dev(words)? }),
     }
 }
 
@@ -51,7 +58,8 @@ fn line(words: Words<'_>) -> Result<LineNo, FaultKind>
 /// What follows `request`.
 fn request(words: Words<'_>) -> Result<CallWords, FaultKind>
     ensures { result
-        ≡ reads (forms.form_after (call_text calls.Request)) said.request_words words.entry }
+        ≡ reads (forms.at forms.part_number (flat_map (forms.one_of forms.request_flags)))
+        said.request_words words.entry }
 {
     let mut places = Places::new(words);
     let dev = DevNo(places.number(1, 65_535));
@@ -69,7 +77,7 @@ fn request(words: Words<'_>) -> Result<CallWords, FaultKind>
 /// What follows `affinity`.
 fn affinity(words: Words<'_>) -> Result<CallWords, FaultKind>
     ensures { result
-        ≡ reads (forms.form_after (call_text calls.Affinity))
+        ≡ reads (forms.at forms.part_number (forms.at forms.mask_number forms.full))
         (said.call_of (call_text calls.Affinity)) words.entry }
 {
     let mut places = Places::new(words);
@@ -82,8 +90,8 @@ fn affinity(words: Words<'_>) -> Result<CallWords, FaultKind>
 /// What follows `moment`.
 fn moment(words: Words<'_>) -> Result<CallWords, FaultKind>
     ensures { result
-        ≡ reads (forms.form_after (call_text calls.Moment)) (said.call_of (call_text calls.Moment))
-        words.entry }
+        ≡ reads (forms.at forms.part_number (forms.at forms.moment_number forms.full))
+        (said.call_of (call_text calls.Moment)) words.entry }
 {
     let mut places = Places::new(words);
     let line = LineNo(places.number(1, 65_535));

@@ -25,12 +25,13 @@ pub enum FaultKind {
     BadNumber,
     /// A name or a pick is misspelled.
     BadName,
-    /// A statement of an earlier section, a call before any driver, or a number that doesn't rise.
+    /// A statement of an earlier section, a call that is of no script, or a number that doesn't
+    /// rise.
     OutOfOrder,
     /// A setting, a domain's name or an option stands again.
     Twice,
-    /// A domain, line, device, processor or driver isn't declared before; or a pick's device has no
-    /// thread.
+    /// A domain, line, device, processor or driver isn't declared before; or the device of a pick,
+    /// of `thread` or of a thread's answers has no thread.
     NotThere,
     /// A parent that the kind of the level doesn't allow, or too many levels.
     BadParent,
@@ -40,6 +41,8 @@ pub enum FaultKind {
     BadMask,
     /// Two drivers request or free a device, or it is requested again without a free between.
     BadOwner,
+    /// A call or an answer that the device's runs may not make or give.
+    BadRun,
     /// One more of its kind than a board may have.
     TooMany,
     /// The log limit times the number of lines is above 4,000,000.
@@ -75,6 +78,7 @@ impl FaultKind {
             FaultKind::BadUnlazy => "bad unlazy",
             FaultKind::BadMask => "bad mask",
             FaultKind::BadOwner => "bad owner",
+            FaultKind::BadRun => "bad run",
             FaultKind::TooMany => "too many",
             FaultKind::LogTooLarge => "log too large",
             FaultKind::NotForChain => "not for a chain",

@@ -3,6 +3,7 @@ ghost use Rattle.std.specs.Prelude.{◌≡◌, true, false, codes, MatchOption};
 ghost use Rattle.std.specs.List.{list_any};
 ghost use Rattle.board_words.specs.Forms.{is};
 ghost use Rattle.board_words.specs.Keywords.{part_text, part_texts, call_text, call_texts};
+ghost use Rattle.board_words.specs.Keywords.{run_call_texts};
 
 use crate::words::is;
 
@@ -16,6 +17,8 @@ pub(crate) enum PartWord {
     Domain,
     Line,
     Device,
+    Handler,
+    Thread,
     Driver,
 }
 
@@ -31,6 +34,12 @@ pub(crate) enum CallWord {
     Sync,
     Affinity,
     Moment,
+    SyncHard,
+    DisableHard,
+    Wake,
+    Quiet,
+    Arm,
+    Serve,
 }
 
 /// The part that the word names.
@@ -58,6 +67,12 @@ pub(crate) fn part_word(word: &[u8]) -> Option<PartWord>
     }
     if is(word, b"device") {
         return Some(PartWord::Device);
+    }
+    if is(word, b"handler") {
+        return Some(PartWord::Handler);
+    }
+    if is(word, b"thread") {
+        return Some(PartWord::Thread);
     }
     if is(word, b"driver") {
         return Some(PartWord::Driver);
@@ -97,6 +112,32 @@ pub(crate) fn call_word(word: &[u8]) -> Option<CallWord>
     }
     if is(word, b"moment") {
         return Some(CallWord::Moment);
+    }
+    run_call_word(word)
+}
+
+/// The call of version 3 that the word names.
+fn run_call_word(word: &[u8]) -> Option<CallWord>
+    ensures { MatchOption result (list_any (is word.now) run_call_texts ≡ false)
+        (λ call. word.now ≡ call_text call) }
+{
+    if is(word, b"sync_hard") {
+        return Some(CallWord::SyncHard);
+    }
+    if is(word, b"disable_hard") {
+        return Some(CallWord::DisableHard);
+    }
+    if is(word, b"wake") {
+        return Some(CallWord::Wake);
+    }
+    if is(word, b"quiet") {
+        return Some(CallWord::Quiet);
+    }
+    if is(word, b"arm") {
+        return Some(CallWord::Arm);
+    }
+    if is(word, b"serve") {
+        return Some(CallWord::Serve);
     }
     None
 }

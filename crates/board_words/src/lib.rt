@@ -16,13 +16,15 @@ pub mod reading;
 pub mod spelling;
 pub mod statements;
 pub mod text_lines;
+mod versions;
 pub mod words;
 
 pub use faults::{BoardFault, FaultKind};
 pub use reading::read_statement;
 pub use spelling::{name, number, pick};
 pub use statements::{
-    CallWords, DomainWords, LineWords, PickList, PickWord, Statement, StatementRefused,
+    AnswerList, AnswerWord, CallWords, DeviceWords, DomainWords, LineWords, PickList, PickWord,
+    Statement, StatementRefused,
 };
 pub use text_lines::{TextLines, has_bad_byte};
 pub use words::Words;

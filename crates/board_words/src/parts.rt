@@ -6,13 +6,14 @@ ghost use Rattle.board_words.specs.Places.{reads};
 ghost use Rattle.board_words.specs.Seen.{words_left};
 ghost use Rattle.board_words.specs.Statements as said;
 ghost use Rattle.board_words.specs.declared.keywords.PartWord.TheVariants as parts;
+ghost use Rattle.board_words.specs.declared.statements.Statement.TheVariants as statements;
 
 use crate::faults::FaultKind;
 use crate::keywords::PartWord;
 use crate::places::Places;
-use crate::statements::{DomainWords, LineWords, Statement};
+use crate::statements::{DeviceWords, DomainWords, LineWords, Statement};
 use crate::words::Words;
-use irq_base::{DevNo, DriverNo, LineNo};
+use irq_base::{DevNo, DriverNo, LineNo, Part};
 
 /// The one number of a statement that has nothing else.
 pub(crate) fn sole_number(words: Words<'_>, low: u32, high: u32) -> Result<u32, FaultKind>
@@ -25,20 +26,27 @@ pub(crate) fn sole_number(words: Words<'_>, low: u32, high: u32) -> Result<u32, 
     places.give(number)
 }
 
-/// What a statement on a part of the board says; `words` are those after the first.
-pub(crate) fn read_part(part: PartWord, words: Words<'_>) -> Result<Statement, FaultKind>
+/// What a statement on a part of the board says in a text of this version; `words` are those after
+/// the first.
+pub(crate) fn read_part(
+    part: PartWord,
+    words: Words<'_>,
+    version: u32,
+) -> Result<Statement, FaultKind>
     ensures { result
-        ≡ reads (forms.form_after (part_text part)) (said.statement_after (part_text part))
+        ≡ reads (forms.form_after version (part_text part)) (said.statement_after (part_text part))
         words.entry }
 {
     match part {
-        PartWord::Board => Ok(Statement::Board(sole_number(words, 1, 2)?)),
+        PartWord::Board => Ok(Statement::Board(sole_number(words, 1, 3)?)),
         PartWord::Cpus => Ok(Statement::Cpus(sole_number(words, 1, 32)?)),
         PartWord::Spurious => spurious(words),
         PartWord::Log => Ok(Statement::Log(sole_number(words, 1, 1_000_000)?)),
-        PartWord::Domain => domain(words),
+        PartWord::Domain => domain(words, version),
         PartWord::Line => line(words),
-        PartWord::Device => device(words),
+        PartWord::Device => device(words, version),
+        PartWord::Handler => runs(words, Part::Primary),
+        PartWord::Thread => runs(words, Part::Thread),
         PartWord::Driver => {
             let driver = sole_number(words, 1, 65_535)?;
             Ok(Statement::Driver(DriverNo(driver)))
@@ -59,15 +67,15 @@ fn spurious(words: Words<'_>) -> Result<Statement, FaultKind>
 }
 
 /// What follows `domain`.
-fn domain(words: Words<'_>) -> Result<Statement, FaultKind>
+fn domain(words: Words<'_>, version: u32) -> Result<Statement, FaultKind>
     ensures { result
-        ≡ reads (forms.form_after (part_text parts.Domain))
+        ≡ reads (forms.form_after version (part_text parts.Domain))
         (said.statement_after (part_text parts.Domain)) words.entry }
 {
     let mut places = Places::new(words);
     let name = places.name();
     let map = places.map();
-    let kind = places.controller_kind();
+    let kind = places.controller_kind(version);
     let (parent, twice) = places.parent();
     places.give(Statement::Domain(DomainWords {
         name,
@@ -81,7 +89,8 @@ fn domain(words: Words<'_>) -> Result<Statement, FaultKind>
 /// What follows `line`.
 fn line(words: Words<'_>) -> Result<Statement, FaultKind>
     ensures { result
-        ≡ reads (forms.form_after (part_text parts.Line))
+        ≡ reads (forms.at forms.part_number
+        (forms.at forms.name (forms.at forms.mask_number forms.line_options)))
         (said.statement_after (part_text parts.Line)) words.entry }
 {
     let mut places = Places::new(words);
@@ -111,16 +120,43 @@ pub(crate) fn has_one_again(words: Words<'_>, one: &[u8], two: &[u8], three: &[u
     words.has_again(one) || words.has_again(two) || words.has_again(three)
 }
 
-/// What follows `device`.
-fn device(words: Words<'_>) -> Result<Statement, FaultKind>
+/// Whether one of the two texts is among the words more than once.
+fn has_either_again(words: Words<'_>, one: &[u8], two: &[u8]) -> bool
     ensures { result
-        ≡ reads (forms.form_after (part_text parts.Device))
+        ≡ (said.stands_again one.now (words_left words.entry) || said.stands_again two.now
+        (words_left words.entry)) }
+{
+    words.has_again(one) || words.has_again(two)
+}
+
+/// What follows `device`.
+fn device(words: Words<'_>, version: u32) -> Result<Statement, FaultKind>
+    ensures { result
+        ≡ reads (forms.form_after version (part_text parts.Device))
         (said.statement_after (part_text parts.Device)) words.entry }
 {
     let mut places = Places::new(words);
     let dev = DevNo(places.number(1, 65_535));
     let line = LineNo(places.number(1, 65_535));
-    let kind = places.device_kind();
-    places.full();
-    places.give(Statement::Device { dev, line, kind })
+    let kind = places.device_kind(version);
+    let options = places.words;
+    places.device_options(version);
+    places.give(Statement::Device(DeviceWords {
+        dev,
+        line,
+        kind,
+        held: options.has(b"held"),
+        forgets: options.has(b"forgets"),
+        twice: has_either_again(options, b"held", b"forgets"),
+    }))
+}
+
+/// What follows `handler` or `thread`.
+fn runs(words: Words<'_>, part: Part) -> Result<Statement, FaultKind>
+    ensures { result
+        ≡ reads (forms.at forms.part_number forms.full)
+        (λ words. statements.Runs (said.dev_at 0 words) part) words.entry }
+{
+    let dev = DevNo(sole_number(words, 1, 65_535)?);
+    Ok(Statement::Runs { dev, part })
 }

@@ -1,6 +1,6 @@
 //! The places of a statement's form.
 ghost use Rattle.std.specs.Prelude.{◌≡◌, ℕ, ◌<◌, false, Some, None, [], ◌∷◌, codes, length, drop};
-ghost use Rattle.std.specs.Prelude.{get_or};
+ghost use Rattle.std.specs.Prelude.{get_or, OnOk, IfOk};
 ghost use Rattle.std.specs.List.{flat_map};
 ghost use Rattle.std.specs.Option.{option_or};
 ghost use Rattle.board_def.specs.declared.names.Name.{Name};
@@ -9,13 +9,17 @@ ghost use Rattle.board_words.specs.Forms as forms;
 ghost use Rattle.board_words.specs.Places.{both, in_all, outcome, Takes, map_kind, after_map};
 ghost use Rattle.board_words.specs.Places.{option_texts};
 ghost use Rattle.board_words.specs.Seen.{words_left, are_none};
+ghost use Rattle.board_words.specs.Spelling.{answer_of};
 ghost use Rattle.board_words.specs.Statements as said;
 
 use crate::faults::FaultKind;
+use crate::statements::{AnswerList, AnswerWord};
+use crate::versions::has_runs;
 use crate::words::{Words, is};
 use crate::{kinds, spelling};
 use board_def::Name;
-use irq_base::{ControllerKind, Kind, MapKind};
+use irq_base::{ControllerKind, Kind, MapKind, NoMemory, Part};
+use std::alloc::Global;
 
 /// The words of a statement that are left, and the first fault, in the order of faults, that was
 /// found in the words before them.
@@ -94,8 +98,8 @@ impl<'a> Places<'a> {
     }
 
     /// A kind of level.
-    pub(crate) fn controller_kind(&mut self) -> ControllerKind
-        ensures takes { Takes (forms.one_of forms.level_kinds) self.old self.new }
+    pub(crate) fn controller_kind(&mut self, version: u32) -> ControllerKind
+        ensures takes { Takes (forms.one_of (forms.level_kinds version)) self.old self.new }
         ensures value { self.new.found ≡ None
             → result ≡ said.controller_kind (get_or (words_left self.old.words) 0 []) }
     {
@@ -103,7 +107,7 @@ impl<'a> Places<'a> {
             self.note(FaultKind::WrongCount);
             return ControllerKind::Remap;
         };
-        match kinds::controller_kind(word) {
+        match kinds::controller_kind(word, version) {
             Some(kind) => kind,
             None => {
                 self.note(FaultKind::UnknownWord);
@@ -113,8 +117,8 @@ impl<'a> Places<'a> {
     }
 
     /// A kind of device.
-    pub(crate) fn device_kind(&mut self) -> Kind
-        ensures takes { Takes (forms.one_of forms.device_kinds) self.old self.new }
+    pub(crate) fn device_kind(&mut self, version: u32) -> Kind
+        ensures takes { Takes (forms.one_of (forms.device_kinds version)) self.old self.new }
         ensures value { self.new.found ≡ None
             → result ≡ said.device_kind (get_or (words_left self.old.words) 0 []) }
     {
@@ -122,7 +126,7 @@ impl<'a> Places<'a> {
             self.note(FaultKind::WrongCount);
             return Kind::Stuck;
         };
-        match kinds::device_kind(word) {
+        match kinds::device_kind(word, version) {
             Some(kind) => kind,
             None => {
                 self.note(FaultKind::UnknownWord);
@@ -147,8 +151,9 @@ impl<'a> Places<'a> {
 
     /// How a domain maps numbers. After a word that is neither way nothing is read.
     pub(crate) fn map(&mut self) -> MapKind
-        ensures found { in_all self.old forms.map_form
-            ≡ in_all self.new (forms.at (forms.one_of forms.level_kinds) forms.parents_form) }
+        ensures found { (version : ℕ) → in_all self.old (forms.map_form version)
+            ≡ in_all self.new
+            (forms.at (forms.one_of (forms.level_kinds version)) forms.parents_form) }
         ensures value { self.new.found ≡ None → result ≡ map_kind (words_left self.old.words) }
         ensures words { self.new.found ≡ None
             → words_left self.new.words ≡ after_map (words_left self.old.words) }
@@ -262,6 +267,93 @@ impl<'a> Places<'a> {
             }
             None => self.note(FaultKind::WrongCount),
         }
+    }
+
+    /// Options of a device, to the end; only texts of version 3 have them.
+    pub(crate) fn device_options(&mut self, version: u32)
+        ensures { self.new.found ≡ in_all self.old (forms.device_options version) }
+    {
+        if has_runs(version) {
+            self.device_flags();
+        } else {
+            self.full();
+        }
+    }
+
+    fn device_flags(&mut self)
+        ensures { self.new.found ≡ in_all self.old (flat_map (forms.one_of forms.device_flags)) }
+    {
+        while !self.words.is_empty() {
+            self.device_flag();
+        }
+    }
+
+    fn device_flag(&mut self)
+        ensures { Takes (forms.one_of forms.device_flags) self.old self.new }
+    {
+        match self.words.next() {
+            Some(word) => {
+                if !kinds::is_device_flag(word) {
+                    self.note(FaultKind::UnknownWord);
+                }
+            }
+            None => self.note(FaultKind::WrongCount),
+        }
+    }
+
+    /// The part whose answers follow: takes `thread`, if it stands.
+    pub(crate) fn part(&mut self) -> Part
+        ensures found { in_all self.old forms.part_form
+            ≡ in_all self.new (forms.answers_form result) }
+        ensures value { result ≡ said.part_at (words_left self.old.words) }
+        ensures words { words_left self.new.words ≡ said.after_part (words_left self.old.words) }
+    {
+        let mut rest = self.words;
+        let Some(word) = rest.next() else {
+            return Part::Primary;
+        };
+        if is(word, b"thread") {
+            self.words = rest;
+            return Part::Thread;
+        }
+        Part::Primary
+    }
+
+    /// One or more answers of the part, to the end.
+    pub(crate) fn answers(&mut self, alloc: Global, part: Part) -> Result<AnswerList, NoMemory>
+        ensures found { OnOk result
+            (self.new.found ≡ in_all self.old (forms.answers_form part)) }
+        ensures value { IfOk result (λ answers. self.new.found ≡ None
+            → answers ≡ said.answers_of part (words_left self.old.words)) }
+    {
+        let mut answers = AnswerList::new(alloc);
+        if self.words.is_empty() {
+            self.note(FaultKind::WrongCount);
+            return Ok(answers);
+        }
+        while !self.words.is_empty() {
+            if let Some(answer) = self.answer(part) {
+                answers.push(answer)?;
+            }
+        }
+        Ok(answers)
+    }
+
+    /// An answer of the part.
+    fn answer(&mut self, part: Part) -> Option<AnswerWord>
+        requires { are_none (words_left self.old.words) ≡ false }
+        ensures takes { Takes (forms.answer part) self.old self.new }
+        ensures value { result ≡ answer_of part (get_or (words_left self.old.words) 0 []) }
+    {
+        let Some(word) = self.words.next() else {
+            self.note(FaultKind::WrongCount);
+            return None;
+        };
+        let answer = spelling::answer(word, part);
+        if answer.is_none() {
+            self.note(FaultKind::UnknownWord);
+        }
+        answer
     }
 
     /// Nothing more may stand.

@@ -4,7 +4,7 @@ ghost use Rattle.std.specs.List.{list_any};
 ghost use Rattle.board_words.specs.Forms as forms;
 ghost use Rattle.board_words.specs.Keywords.{call_text, call_texts};
 ghost use Rattle.board_words.specs.Places.{reads};
-ghost use Rattle.board_words.specs.Reads.{Reads, Tells, WantsForPicks};
+ghost use Rattle.board_words.specs.Reads.{Reads, Tells, WantsForLists};
 ghost use Rattle.board_words.specs.Seen.{words_left};
 ghost use Rattle.board_words.specs.Statements as said;
 ghost use Rattle.board_words.specs.declared.statements.Statement.TheVariants as statements;
@@ -13,27 +13,29 @@ use crate::calls::read_call;
 use crate::faults::FaultKind;
 use crate::keywords::{CallWord, call_word, part_word};
 use crate::parts::read_part;
+use crate::places::Places;
 use crate::spelling;
 use crate::statements::{PickList, Statement, StatementRefused};
+use crate::versions::{has_moments, has_runs};
 use crate::words::{Words, is};
+use irq_base::DevNo;
 use std::alloc::Global;
 
-/// What the words of a text line say. `has_moments`: the text's version has moments. Only picks
-/// take memory.
+/// What the words of a text line say in a text of this version. Only picks and answers take memory.
 pub fn read_statement(
     alloc: Global,
     words: Words<'_>,
-    has_moments: bool,
+    version: u32,
 ) -> Result<Statement, StatementRefused>
-    ensures exact { Reads has_moments (words_left words.entry) result }
-    ensures memory { WantsForPicks (words_left words.entry) result }
+    ensures exact { Reads version (words_left words.entry) result }
+    ensures memory { WantsForLists (words_left words.entry) result }
 {
     let mut rest = words;
     let Some(word) = rest.next() else {
         return Err(StatementRefused::Fault(FaultKind::UnknownWord));
     };
     if let Some(call) = call_word(word) {
-        if is_unknown_moment(call, has_moments) {
+        if is_call_of_later(call, version) {
             return Err(StatementRefused::Fault(FaultKind::UnknownWord));
         }
         return match read_call(call, rest) {
@@ -44,30 +46,55 @@ pub fn read_statement(
     if is(word, b"picks") {
         return read_picks(alloc, rest);
     }
-    match read_named_part(word, rest) {
+    if is_part_of_later(word, version) {
+        return Err(StatementRefused::Fault(FaultKind::UnknownWord));
+    }
+    if is(word, b"answers") {
+        return read_answers(alloc, rest);
+    }
+    match read_named_part(word, rest, version) {
         Ok(statement) => Ok(statement),
         Err(kind) => Err(StatementRefused::Fault(kind)),
     }
 }
 
-/// Whether the call is a moment, in a text whose version has no moments.
-fn is_unknown_moment(call: CallWord, has_moments: bool) -> bool
-    ensures { result ≡ forms.is_unknown_moment has_moments (call_text call) }
+/// Whether the call is one of a later version.
+fn is_call_of_later(call: CallWord, version: u32) -> bool
+    ensures { result ≡ forms.is_of_later version (call_text call) }
 {
-    !has_moments && matches!(call, CallWord::Moment)
+    match call {
+        CallWord::Moment => !has_moments(version),
+        CallWord::SyncHard
+        | CallWord::DisableHard
+        | CallWord::Wake
+        | CallWord::Quiet
+        | CallWord::Arm
+        | CallWord::Serve => !has_runs(version),
+        _ => false,
+    }
+}
+
+/// Whether the word, which is no call, begins a statement of a later version.
+#[tactic(auto, using(crate::proofs::CallStatements::later_part))]
+fn is_part_of_later(word: &[u8], version: u32) -> bool
+    requires call { list_any (forms.is word.now) call_texts ≡ false }
+    ensures { result ≡ forms.is_of_later version word.now }
+{
+    (is(word, b"answers") || is(word, b"handler") || is(word, b"thread")) && !has_runs(version)
 }
 
 /// What a statement on a part says, by its first word and the words after it. It stands apart: most
 /// statements are calls.
 #[inline(never)]
-fn read_named_part(word: &[u8], words: Words<'_>) -> Result<Statement, FaultKind>
+fn read_named_part(word: &[u8], words: Words<'_>, version: u32) -> Result<Statement, FaultKind>
     requires picks { forms.is word.now (codes "picks") ≡ false }
+    requires answers { forms.is word.now (codes "answers") ≡ false }
     requires call { list_any (forms.is word.now) call_texts ≡ false }
     ensures { result
-        ≡ reads (forms.form_after word.now) (said.statement_after word.now) words.entry }
+        ≡ reads (forms.form_after version word.now) (said.statement_after word.now) words.entry }
 {
     match part_word(word) {
-        Some(part) => read_part(part, words),
+        Some(part) => read_part(part, words, version),
         None => Err(FaultKind::UnknownWord),
     }
 }
@@ -92,4 +119,22 @@ fn read_picks(alloc: Global, words: Words<'_>) -> Result<Statement, StatementRef
         }
     }
     Ok(Statement::Picks(picks))
+}
+
+/// The answers that the words spell.
+#[inline(never)]
+fn read_answers(alloc: Global, words: Words<'_>) -> Result<Statement, StatementRefused>
+    ensures { Tells (forms.at forms.part_number forms.part_form (words_left words.entry))
+        (said.answers_words (words_left words.entry)) result }
+{
+    let mut places = Places::new(words);
+    let dev = DevNo(places.number(1, 65_535));
+    let part = places.part();
+    let Ok(answers) = places.answers(alloc, part) else {
+        return Err(StatementRefused::NoMemory);
+    };
+    match places.give(()) {
+        Ok(()) => Ok(Statement::Answers { dev, part, answers }),
+        Err(wrong) => Err(StatementRefused::Fault(wrong)),
+    }
 }

@@ -1,4 +1,4 @@
-//! How numbers, names and picks are spelled.
+//! How numbers, names, picks and answers are spelled.
 ghost use Rattle.std.specs.Prelude.{◌≡◌, ℕ, Some, None, ◌&&◌, nat_le, nat_lt, if◌then◌else◌};
 ghost use Rattle.std.specs.Prelude.{length, true, IfSome};
 ghost use Rattle.std.specs.List.{list_all, position};
@@ -6,11 +6,12 @@ ghost use Rattle.std.specs.Option.{option_copied};
 ghost use Rattle.board_def.specs.Names.{is_digit, is_letter, is_name_byte, is_name, name_of};
 ghost use Rattle.board_words.specs.Spelling.{value_of, is_decimal, begins_with_zero, is_star};
 ghost use Rattle.board_words.specs.Spelling.{number_between, before_star, after_star, times_of};
-ghost use Rattle.board_words.specs.Spelling.{picked_of, pick_of};
+ghost use Rattle.board_words.specs.Spelling.{picked_of, pick_of, answer_named, answer_of};
 
-use crate::statements::PickWord;
+use crate::statements::{AnswerWord, PickWord};
+use crate::words::is;
 use board_def::{LONGEST_NAME, Name};
-use irq_base::{Actor, CpuNo, DevNo, DriverNo};
+use irq_base::{Actor, CpuNo, DevNo, DriverNo, Part, ToldAnswer};
 
 /// The most digits of a number.
 const LONGEST_NUMBER: usize = 10;
@@ -194,4 +195,33 @@ fn times(digits: Option<&[u8]>) -> Option<u32>
         Some(digits) => number(digits, 1, 65_535),
         None => Some(1),
     }
+}
+
+/// The answer of that part that the word spells, and in how many runs.
+pub fn answer(word: &[u8], part: Part) -> Option<AnswerWord>
+    ensures { result ≡ answer_of part word.now }
+{
+    let (before, after) = split_at_star(word);
+    let answer = answer_named(before, part)?;
+    let times = times(after)?;
+    Some(AnswerWord { answer, times })
+}
+
+/// The answer of that part that the word names. A thread wakes nobody.
+fn answer_named(word: &[u8], part: Part) -> Option<ToldAnswer>
+    ensures { result ≡ answer_named part word.now }
+{
+    if is(word, b"handled") {
+        return Some(ToldAnswer::Handled);
+    }
+    if is(word, b"nothing") {
+        return Some(ToldAnswer::Nothing);
+    }
+    if is(word, b"claims") {
+        return Some(ToldAnswer::Claims);
+    }
+    if is(word, b"wake") && part == Part::Primary {
+        return Some(ToldAnswer::Wake);
+    }
+    None
 }

@@ -2,7 +2,8 @@
 use crate::faults::FaultKind;
 use board_def::Name;
 use irq_base::{
-    Actor, ControllerKind, DevNo, DriverNo, Flags, ItemList, Kind, LineNo, MapKind, NoMemory,
+    Actor, ControllerKind, DevNo, DriverNo, Flags, ItemList, Kind, LineNo, MapKind, NoMemory, Part,
+    ToldAnswer,
 };
 use thiserror::Error;
 
@@ -36,6 +37,23 @@ pub struct LineWords {
     pub later: bool,
     /// The number after `mask`, if it stands; the first one if it stands again.
     pub mask: Option<u32>,
+    /// An option stands again.
+    pub twice: bool,
+}
+
+/// A `device` statement.
+#[derive(Clone, Copy, PartialEq, Eq)]
+pub struct DeviceWords {
+    /// Its number.
+    pub dev: DevNo,
+    /// The line that it raises.
+    pub line: LineNo,
+    /// How its handlers work; a told device has no thread yet.
+    pub kind: Kind,
+    /// `held` stands.
+    pub held: bool,
+    /// `forgets` stands.
+    pub forgets: bool,
     /// An option stands again.
     pub twice: bool,
 }
@@ -83,7 +101,43 @@ pub enum CallWords {
         line: LineNo,
         at: u32,
     },
+    /// `sync_hard`.
+    SyncHard {
+        line: LineNo,
+    },
+    /// `disable_hard`.
+    DisableHard {
+        line: LineNo,
+    },
+    /// `wake`.
+    Wake {
+        dev: DevNo,
+    },
+    /// `quiet`.
+    Quiet {
+        dev: DevNo,
+    },
+    /// `arm`.
+    Arm {
+        dev: DevNo,
+    },
+    /// `serve`.
+    Serve {
+        dev: DevNo,
+    },
 }
+
+/// One word of an `answers` statement.
+#[derive(Clone, Copy, PartialEq, Eq)]
+pub struct AnswerWord {
+    /// What is answered.
+    pub answer: ToldAnswer,
+    /// In how many runs, 1 to 65,535.
+    pub times: u32,
+}
+
+/// The words of an `answers` statement.
+pub type AnswerList = ItemList<AnswerWord>;
 
 /// One word of a `picks` statement.
 #[derive(Clone, Copy, PartialEq, Eq)]
@@ -100,7 +154,7 @@ pub type PickList = ItemList<PickWord>;
 /// What one text line says.
 #[derive(Drop)]
 pub enum Statement {
-    /// `board`: the version of the text, 1 or 2.
+    /// `board`: the version of the text, 1 to 3.
     Board(u32),
     /// `cpus`: the number of processors, 1 to 32.
     Cpus(u32),
@@ -117,14 +171,21 @@ pub enum Statement {
     /// `line`.
     Line(LineWords),
     /// `device`.
-    Device {
+    Device(DeviceWords),
+    /// `answers`: what the part of the told device answers in turn.
+    Answers {
         dev: DevNo,
-        line: LineNo,
-        kind: Kind,
+        part: Part,
+        answers: AnswerList,
+    },
+    /// `handler` or `thread`: the script of the device's runs of that part begins.
+    Runs {
+        dev: DevNo,
+        part: Part,
     },
     /// `driver`.
     Driver(DriverNo),
-    /// A call of the last driver before it.
+    /// A call of the last `handler`, `thread` or `driver` before it.
     Call(CallWords),
     /// `picks`.
     Picks(PickList),
@@ -136,7 +197,7 @@ pub enum StatementRefused {
     /// The first fault of the words.
     #[error("{0}")]
     Fault(FaultKind),
-    /// Memory was needed for the picks, and refused.
+    /// Memory was needed for picks or answers, and refused.
     #[error("out of memory")]
     NoMemory,
 }

@@ -1,34 +1,19 @@
-//! Handlers that know nothing but the kind of their device.
-ghost use Rattle.std.specs.Prelude.{◌≡◌};
-ghost use Rattle.callbacks.specs.Seen.{answer_to};
+//! Handlers that know nothing but their run.
 
 use crate::handler::{Handler, SharedHandler};
-use irq_base::{Answer, Kind, Part, Run};
+use irq_base::{Answer, Run};
 
-/// Each device's handler answers by the kind of the device alone: for a program without drivers of
-/// its own.
+/// Each device's handler answers by the kind of the device, and a told device's as the run says:
+/// for a program without drivers of its own.
 #[derive(Clone, Copy)]
 pub struct ByKind;
-
-/// What the run's device answers.
-fn answer_by_kind(run: Run) -> Answer
-    ensures { result ≡ answer_to run }
-{
-    match (run.def.kind, run.part) {
-        (Kind::Null, Part::Primary) => Answer::Wake,
-        (Kind::Check, Part::Primary) if run.unserved > 0 => Answer::Wake,
-        (Kind::Direct, Part::Primary) | (Kind::Check | Kind::Null, Part::Thread)
-            if run.unserved > 0 => { Answer::Handled }
-        _ => Answer::Nothing,
-    }
-}
 
 impl Handler for ByKind {
     // a call leaves no trace
     ghost hears = { λ old run new. Unit {0} };
 
     fn answer(&mut self, run: Run) -> Answer {
-        answer_by_kind(run)
+        run.answer()
     }
 }
 
@@ -36,6 +21,6 @@ impl SharedHandler for ByKind {
     ghost gave = { λ handlers run answer. Unit {0} };
 
     fn answer(&self, run: Run) -> Answer {
-        answer_by_kind(run)
+        run.answer()
     }
 }

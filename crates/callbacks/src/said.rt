@@ -3,7 +3,7 @@ ghost use Rattle.std.specs.Prelude.{◌≡◌, ◌↔◌, IsTrue};
 ghost use Rattle.callbacks.specs.Seen.{answer_to};
 
 use crate::handler::SharedHandler;
-use irq_base::{Answer, Part, Run};
+use irq_base::{Answer, DeviceDef, Part, Run};
 use std::marker::Model;
 
 /// An answer of a handler, with the run that it answers. Only a call of the handler makes one, and
@@ -62,6 +62,22 @@ impl Said {
         ensures sound { IsTrue result → self.now.run ≡ run }
         ensures complete { self.now.run ≡ run → IsTrue result }
     {
-        self.run == run
+        same_device(self.run.def, run.def) && same_run(self.run, run)
     }
+}
+
+/// Whether both are the same device.
+fn same_device(first: DeviceDef, second: DeviceDef) -> bool
+    ensures sound { IsTrue result → first ≡ second }
+    ensures complete { first ≡ second → IsTrue result }
+{
+    first == second
+}
+
+/// Whether both runs of one device are the same.
+fn same_run(first: Run, second: Run) -> bool
+    ensures sound { IsTrue result → first.def ≡ second.def → first ≡ second }
+    ensures complete { first ≡ second → IsTrue result }
+{
+    first.part == second.part && first.unserved == second.unserved && first.told == second.told
 }

@@ -23,6 +23,23 @@ impl ChipKind for Latch {
 /// Such a controller.
 pub type LatchChip = Controller<Latch>;
 
+/// A pin controller: an edge input with a latch that can't send an edge again, like most inputs of
+/// a GPIO controller. An edge that comes while it is masked is stored, and masking takes back into
+/// store what was sent; the software resends (`irq_sw_resend`, `kernel/irq/resend.c`). Its lines
+/// have the edge flow (`handle_edge_irq`).
+pub struct Pin;
+
+impl ChipKind for Pin {
+    ghost fresh = { fresh_cell triggers.Edge true true false false };
+
+    fn chip() -> Cell {
+        Cell::new(Trigger::Edge, true, true, false, false)
+    }
+}
+
+/// Such a controller.
+pub type PinChip = Controller<Pin>;
+
 /// A plain controller: an edge input without a latch. An edge that comes while it is masked is
 /// lost, what was sent stays sent, and it can't send an edge again, so the software resends
 /// (`irq_sw_resend`, `kernel/irq/resend.c`). Its lines have the edge flow (`handle_edge_irq`).

@@ -3,6 +3,7 @@
 //! | | presents | stores while masked | recalls | sends again | in service |
 //! |---|---|---|---|---|---|
 //! | `LatchChip` | edges | yes | yes | yes | no |
+//! | `PinChip` | edges | yes | yes | no | no |
 //! | `PlainChip` | edges | no | no | no | no |
 //! | `LevelChip` | a level | no | no | no | no |
 //! | `EoiChip` | a level | no | no | no | yes |
@@ -17,5 +18,7 @@ pub mod kinds;
 pub mod vector;
 
 pub use controller::{ChipKind, Controller};
-pub use kinds::{Eoi, EoiChip, Latch, LatchChip, Level, LevelChip, Lpi, LpiChip, Plain, PlainChip};
+pub use kinds::{
+    Eoi, EoiChip, Latch, LatchChip, Level, LevelChip, Lpi, LpiChip, Pin, PinChip, Plain, PlainChip,
+};
 pub use vector::VectorChip;

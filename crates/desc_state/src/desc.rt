@@ -226,8 +226,9 @@ impl Desc {
         self.masked = true;
     }
 
-    /// Opens the chip's mask (`unmask_irq`, `kernel/irq/chip.c`).
+    /// Opens the chip's mask (`unmask_irq`, `kernel/irq/chip.c`). Only of an active interrupt.
     pub fn unmask<C: Chip>(&mut self, chip: &mut C)
+        requires activated { C.active chip.old ≡ true }
         ensures desc { self.new ≡ record self.old { masked = false } }
         ensures cell { C.cell chip.new ≡ after_unmask (C.cell chip.old) }
         ensures active { C.active chip.new ≡ C.active chip.old }
@@ -270,8 +271,9 @@ impl Desc {
 
     /// Starts the line: no disable stands, the mask is open, and what was pending on an edge line
     /// is sent again (`irq_startup`, `kernel/irq/chip.c`; `check_irq_resend`,
-    /// `kernel/irq/resend.c`). Answers who sends it.
+    /// `kernel/irq/resend.c`). Answers who sends it. The interrupt was activated before.
     pub fn startup<C: Chip>(&mut self, chip: &mut C, trigger: Trigger) -> Resend
+        requires activated { C.active chip.old ≡ true }
         ensures answer { result ≡ resend_by trigger self.old (C.cell chip.old) }
         ensures desc { self.new ≡ started_up result self.old }
         ensures cell { C.cell chip.new ≡ cell_started result (C.cell chip.old) }
@@ -310,8 +312,9 @@ impl Desc {
 
     /// One disable less; if it was the last the line is started (`__enable_irq`,
     /// `kernel/irq/manage.c`). `linked`: the line has an action. If it has none, or no disable
-    /// stands, the answer is Unbalanced, and nothing changes.
+    /// stands, the answer is Unbalanced, and nothing changes. What is linked is active.
     pub fn enable<C: Chip>(&mut self, chip: &mut C, linked: bool, trigger: Trigger) -> EnableAnswer
+        requires activated { linked ≡ true → C.active chip.old ≡ true }
         ensures answer { result ≡ enable_by linked trigger self.old (C.cell chip.old) }
         ensures desc { self.new ≡ enabled result self.old }
         ensures cell { C.cell chip.new ≡ cell_enabled result (C.cell chip.old) }

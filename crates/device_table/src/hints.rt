@@ -10,7 +10,7 @@ const HINTS: usize = 256;
 /// whoever looks there sees whether the device stands there.
 #[derive(Drop)]
 pub(crate) struct Hints {
-    places: [u16; HINTS],
+    places: [u8; HINTS],
 }
 
 impl Hints {
@@ -26,11 +26,11 @@ impl Hints {
         usize::from(self.places[dev.0 as usize % HINTS])
     }
 
-    /// Notes that the device stands at `place`. A place that doesn't fit 16 bits isn't noted.
+    /// Notes that the device stands at `place`. A place that doesn't fit 8 bits isn't noted.
     pub(crate) fn note(&mut self, dev: DevNo, place: usize)
-        ensures { place < 2 ^ 16 → self.new.places ≡ slice_set self.old.places (dev.0 % 256) place }
+        ensures { place < 2 ^ 8 → self.new.places ≡ slice_set self.old.places (dev.0 % 256) place }
     {
-        if let Ok(place) = u16::try_from(place) {
+        if let Ok(place) = u8::try_from(place) {
             self.places[dev.0 as usize % HINTS] = place;
         }
     }

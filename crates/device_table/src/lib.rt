@@ -6,10 +6,12 @@
 #![tactic(auto)]
 
 mod hints;
+pub mod parts;
 pub mod rank_set;
 pub mod ranks;
 pub mod table;
 
+pub use parts::same_part;
 pub use rank_set::RankSet;
 pub use ranks::Ranks;
 pub use table::DeviceTable;

@@ -4,7 +4,7 @@ use Rattle.std.proofs.Common.{◌∷◌, length, refl, sym, ap, ◌∙◌, arith
 use Rattle.std.specs.Prelude.{slice_index_or}
 use Rattle.std.proofs.lemmas.Bool.{false≢true}
 use Rattle.chip_msi.specs.Messages.{LevelSeen}
-use Rattle.irq_base.specs.Cell.{Cell, fresh_cell, after_unmask}
+use Rattle.irq_base.specs.Cell.{Cell, fresh_cell}
 use Rattle.irq_base.specs.declared.domains.ControllerKind.{ControllerKind}
 use Rattle.irq_base.specs.declared.domains.ControllerKind.TheVariants as levels
 use Rattle.domain_rules.specs.Domains.{is_msi}
@@ -29,6 +29,7 @@ masking_of (levels.Plain ∷ []) p m = by_root refl refl refl
 masking_of (levels.Level ∷ []) p m = by_root refl refl refl
 masking_of (levels.Eoi ∷ []) p m = by_root refl refl refl
 masking_of (levels.Lpi ∷ []) p m = by_root refl refl refl
+masking_of (levels.Pin ∷ []) p m = by_root refl refl refl
 masking_of (levels.Vector ∷ []) p m = absurd (false≢true m)
 masking_of (levels.Msi ∷ []) p m = absurd (false≢true p)
 masking_of (levels.Remap ∷ []) p m = absurd (false≢true p)
@@ -40,6 +41,7 @@ masking_of (levels.Level ∷ (x ∷ xs)) p m = absurd (false≢true p)
 masking_of (levels.Eoi ∷ (x ∷ xs)) p m = absurd (false≢true p)
 masking_of (levels.Vector ∷ (x ∷ xs)) p m = absurd (false≢true p)
 masking_of (levels.Lpi ∷ (x ∷ xs)) p m = absurd (false≢true p)
+masking_of (levels.Pin ∷ (x ∷ xs)) p m = absurd (false≢true p)
 
 pub root_is_root : (kinds : List ControllerKind) → is_path_of_kinds kinds ≡ true → is_root_kind (root_kind kinds) ≡ true
 root_is_root [] p = absurd (false≢true p)
@@ -50,6 +52,7 @@ root_is_root (levels.Level ∷ (x ∷ xs)) p = absurd (false≢true p)
 root_is_root (levels.Eoi ∷ (x ∷ xs)) p = absurd (false≢true p)
 root_is_root (levels.Vector ∷ (x ∷ xs)) p = absurd (false≢true p)
 root_is_root (levels.Lpi ∷ (x ∷ xs)) p = absurd (false≢true p)
+root_is_root (levels.Pin ∷ (x ∷ xs)) p = absurd (false≢true p)
 root_is_root (levels.Msi ∷ (x ∷ xs)) p = root_is_root (x ∷ xs) p
 root_is_root (levels.Remap ∷ (x ∷ xs)) p = root_is_root (x ∷ xs) p
 
@@ -72,6 +75,7 @@ root_is_last (levels.Level ∷ (x ∷ xs)) (suc n) p e = absurd (false≢true p)
 root_is_last (levels.Eoi ∷ (x ∷ xs)) (suc n) p e = absurd (false≢true p)
 root_is_last (levels.Vector ∷ (x ∷ xs)) (suc n) p e = absurd (false≢true p)
 root_is_last (levels.Lpi ∷ (x ∷ xs)) (suc n) p e = absurd (false≢true p)
+root_is_last (levels.Pin ∷ (x ∷ xs)) (suc n) p e = absurd (false≢true p)
 
 -- which of the two it is, by whether the masking level is one of messages
 pub by_messages : (kinds : List ControllerKind) → is_path_of_kinds kinds ≡ true → is_some (masking_kind kinds) ≡ true
@@ -94,29 +98,34 @@ by_its_root kinds p m t =
 
 -- ---- the cell
 
+abbrev opened_cell : Cell → Cell
+opened_cell root = record root { masked = false }
+
 abbrev cell_by : ControllerKind → Option ControllerKind → Cell
 cell_by k m = fresh_cell (trigger_of_root k) (is_some_kind keeps_kind m) (is_some_kind stores_at_root m) (retriggers_kind k) (serves_kind k)
 
 abbrev pub fresh_level : LevelSeen
 fresh_level = record { masked = true; pending = false }
 
-behind_kind : (k : ControllerKind) → presents_level_kind k ≡ false → chain_cell (Some fresh_level) (after_unmask (root_cell k)) ≡ cell_by k (Some levels.Msi)
+behind_kind : (k : ControllerKind) → presents_level_kind k ≡ false → chain_cell (Some fresh_level) (opened_cell (root_cell k)) ≡ cell_by k (Some levels.Msi)
 behind_kind levels.Latch p = refl
 behind_kind levels.Plain p = refl
 behind_kind levels.Level p = absurd (false≢true (sym p))
 behind_kind levels.Eoi p = absurd (false≢true (sym p))
 behind_kind levels.Vector p = refl
 behind_kind levels.Lpi p = refl
+behind_kind levels.Pin p = refl
 behind_kind levels.Msi p = refl
 behind_kind levels.Remap p = refl
 
-open_kind : (k : ControllerKind) → presents_level_kind k ≡ false → IsOpenBehind (Some fresh_level) (after_unmask (root_cell k))
+open_kind : (k : ControllerKind) → presents_level_kind k ≡ false → IsOpenBehind (Some fresh_level) (opened_cell (root_cell k))
 open_kind levels.Latch p = (refl, refl)
 open_kind levels.Plain p = (refl, refl)
 open_kind levels.Level p = absurd (false≢true (sym p))
 open_kind levels.Eoi p = absurd (false≢true (sym p))
 open_kind levels.Vector p = (refl, refl)
 open_kind levels.Lpi p = (refl, refl)
+open_kind levels.Pin p = (refl, refl)
 open_kind levels.Msi p = (refl, refl)
 open_kind levels.Remap p = (refl, refl)
 
@@ -134,15 +143,15 @@ pub root_after : (kinds : List ControllerKind) (root : Cell) → is_path_of_kind
 root_after kinds root p e = e ∙ ap root_cell (root_is_last kinds (length kinds - 1) p (omega (arith, has_level kinds p)))
 
 -- behind a level of messages the root is open
-pub open_behind : (kind : ControllerKind) (root after : Cell) → root ≡ root_cell kind → after ≡ after_unmask root
+pub open_behind : (kind : ControllerKind) (root after : Cell) → root ≡ root_cell kind → after ≡ opened_cell root
     → presents_level_kind kind ≡ false → IsOpenBehind (Some fresh_level) after
-open_behind kind root after e o p = subst (IsOpenBehind (Some fresh_level)) (sym (o ∙ ap after_unmask e)) (open_kind kind p)
+open_behind kind root after e o p = subst (IsOpenBehind (Some fresh_level)) (sym (o ∙ ap opened_cell e)) (open_kind kind p)
 
 -- and the cell of both is the path's
 pub behind_messages : (kinds : List ControllerKind) (root after : Cell) → root ≡ root_cell (root_kind kinds)
-    → after ≡ after_unmask root → masking_kind kinds ≡ Some levels.Msi → presents_level_kind (root_kind kinds) ≡ false
+    → after ≡ opened_cell root → masking_kind kinds ≡ Some levels.Msi → presents_level_kind (root_kind kinds) ≡ false
     → chain_cell (Some fresh_level) after ≡ cell_of kinds
-behind_messages kinds root after e o m p = ap (chain_cell (Some fresh_level)) (o ∙ ap after_unmask e)
+behind_messages kinds root after e o m p = ap (chain_cell (Some fresh_level)) (o ∙ ap opened_cell e)
     ∙ (behind_kind (root_kind kinds) p ∙ ap (cell_by (root_kind kinds)) (sym m))
 
 -- if the root masks, the path's cell is the root's
@@ -155,7 +164,7 @@ same_chain : (a b : Cell) (n : ℕ) (s t : Option ℕ) → a ≡ b → s ≡ t �
 same_chain a b n s t x y = ap (λ c. fresh_chain c n s) x ∙ ap (fresh_chain b n) y
 
 pub message_chain : (kinds : List ControllerKind) (root after : Cell) (level : LevelSeen) (number : ℕ)
-    → level ≡ fresh_level → root ≡ root_cell (root_kind kinds) → after ≡ after_unmask root
+    → level ≡ fresh_level → root ≡ root_cell (root_kind kinds) → after ≡ opened_cell root
     → masking_kind kinds ≡ Some levels.Msi → has_messages kinds ≡ true → presents_level_kind (root_kind kinds) ≡ false
     → fresh_chain (chain_cell (Some level) after) (length kinds) (Some number)
     ≡ fresh_chain (cell_of kinds) (length kinds) (some_if (has_messages kinds) number)

@@ -7,7 +7,7 @@ ghost use Rattle.domain_chain.specs.Chains.{fresh_chain, chain_cell, IsOpenBehin
 ghost use Rattle.domain_chain.specs.Chains.{message_by, some_if, wiring_of};
 ghost use Rattle.domain_rules.specs.Levels.{masking_kind, root_kind, presents_level_kind, cell_of};
 
-use crate::roots::{masks_by_message, root_of};
+use crate::roots::{masks_by_message, opened, root_of};
 use chip_msi::{Message, MsiLevel, compose};
 use irq_base::{Chip, ControllerKind, CpuNo};
 use line_cell::Cell;
@@ -15,15 +15,14 @@ use std::marker::Model;
 
 /// The chip of a path (`struct irq_data` with its `parent_data`, `include/linux/irq.h`). What a
 /// level can't do is passed to its parent. So the interrupt is masked by the first level that can,
-/// counted from the device; the other levels stay open.
+/// counted from the device; the other levels stay open. The root keeps whether all levels are
+/// active, and where they are aimed.
 #[derive(Drop)]
 pub struct Chain {
     message: Option<MsiLevel>,
     root: Cell,
     levels: u32,
     number: u32,
-    active: bool,
-    target: CpuNo,
 }
 
 impl Model for Chain {
@@ -34,14 +33,14 @@ impl Model for Chain {
 
     ghost view = { λ c. record {
       cell = chain_cell c.message (⟦<Cell as Chip>⟧.cell c.root);
-      active = c.active;
-      aimed = c.target.0;
+      active = ⟦<Cell as Chip>⟧.active c.root;
+      aimed = ⟦<Cell as Chip>⟧.aimed c.root;
       levels = c.levels;
       number = number_sent c.message c.number;
     } };
 
     ghost invariant = { λ c. IsOpenBehind c.message (⟦<Cell as Chip>⟧.cell c.root)
-        × (c.target.0 < 32) };
+        × (⟦<Cell as Chip>⟧.aimed c.root < 32) };
 }
 
 impl Chain {
@@ -58,17 +57,18 @@ impl Chain {
             (some_if (has_messages kinds.now) number) }
     {
         let levels = kinds.len() as u32;
-        let mut root = root_of(kinds[kinds.len() - 1]);
+        let root = root_of(kinds[kinds.len() - 1]);
         if masks_by_message(kinds) {
-            root.unmask();
-            return Chain::made(Some(MsiLevel::new()), root, levels, number);
+            return Chain::made(Some(MsiLevel::new()), opened(root), levels, number);
         }
         Chain::made(None, root, levels, number)
     }
 
     // The chip of the root and, if there is one, of the level of messages before it.
     fn made(message: Option<MsiLevel>, root: Cell, levels: u32, number: u32) -> Chain
-        requires { IsOpenBehind message (⟦<Cell as Chip>⟧.cell root) }
+        requires open { IsOpenBehind message (⟦<Cell as Chip>⟧.cell root) }
+        requires inactive { ⟦<Cell as Chip>⟧.active root ≡ false }
+        requires aimed { ⟦<Cell as Chip>⟧.aimed root ≡ 0 }
         ensures { result ≡ fresh_chain (chain_cell message (⟦<Cell as Chip>⟧.cell root)) levels
             (number_sent message number) }
     {
@@ -77,8 +77,6 @@ impl Chain {
             root,
             levels,
             number,
-            active: false,
-            target: CpuNo(0),
         }
     }
 
@@ -86,7 +84,11 @@ impl Chain {
     pub fn active_levels(&self) -> u32
         ensures { result ≡ (if self.now.active then self.now.levels else 0) }
     {
-        if self.active { self.levels } else { 0 }
+        if self.root.marks().active {
+            self.levels
+        } else {
+            0
+        }
     }
 
     /// The message that the path sends (`irq_chip_compose_msi_msg`, `kernel/irq/chip.c`): it goes
@@ -95,8 +97,9 @@ impl Chain {
     pub fn message(&self) -> Option<Message>
         ensures { result ≡ message_by self.now }
     {
-        if self.active && self.message.is_some() {
-            Some(compose(self.target, self.number))
+        let root = self.root.marks();
+        if root.active && self.message.is_some() {
+            Some(compose(root.target, self.number))
         } else {
             None
         }
@@ -162,15 +165,15 @@ impl Chip for Chain {
     }
 
     fn activate(&mut self) {
-        self.active = true;
+        self.root.activate();
     }
 
     fn deactivate(&mut self) {
-        self.active = false;
+        self.root.deactivate();
     }
 
     fn aim(&mut self, cpu: CpuNo) {
-        self.target = cpu;
+        self.root.aim(cpu);
     }
 
     fn signal(&self) -> bool {

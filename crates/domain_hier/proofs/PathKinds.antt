@@ -78,6 +78,7 @@ root_alone levels.Level r = record { path = refl; edges = refl }
 root_alone levels.Eoi r = record { path = refl; edges = refl }
 root_alone levels.Vector r = record { path = refl; edges = refl }
 root_alone levels.Lpi r = record { path = refl; edges = refl }
+root_alone levels.Pin r = record { path = refl; edges = refl }
 root_alone levels.Msi r = absurd (false≢true r)
 root_alone levels.Remap r = absurd (false≢true r)
 
@@ -92,6 +93,7 @@ child_above levels.Level (x ∷ xs) r m h = absurd (false≢true (sym r))
 child_above levels.Eoi (x ∷ xs) r m h = absurd (false≢true (sym r))
 child_above levels.Vector (x ∷ xs) r m h = absurd (false≢true (sym r))
 child_above levels.Lpi (x ∷ xs) r m h = absurd (false≢true (sym r))
+child_above levels.Pin (x ∷ xs) r m h = absurd (false≢true (sym r))
 
 kinds_by : (domains : List DomainDef) → EachAfter IsDomainAfter domains → (i : ℕ) (def : DomainDef) → slice_get domains i ≡ Some def
     → ((p : ℕ) → p < i → IsPathOfKinds (kinds_from domains (Some p))) → (o : Option ℕ) → def.parent ≡ o → IsBelow i o

@@ -45,6 +45,15 @@ eoi = refl
 remap_eoi : cell (levels.Remap ∷ levels.Eoi ∷ []) ≡ (false, false, false, true)
 remap_eoi = refl
 
+pin : cell (levels.Pin ∷ []) ≡ (true, true, false, false)
+pin = refl
+
+remap_pin : cell (levels.Remap ∷ levels.Pin ∷ []) ≡ (true, true, false, false)
+remap_pin = refl
+
+msi_pin : cell (levels.Msi ∷ levels.Pin ∷ []) ≡ (true, false, false, false)
+msi_pin = refl
+
 lpi : cell (levels.Lpi ∷ []) ≡ (true, true, true, false)
 lpi = refl
 
@@ -75,6 +84,9 @@ edges = refl
 
 plain_edges : handling levels.Plain ≡ handled_by triggers.Edge flows.Edge
 plain_edges = refl
+
+pin_edges : handling levels.Pin ≡ handled_by triggers.Edge flows.Edge
+pin_edges = refl
 
 vectors : handling levels.Vector ≡ handled_by triggers.Edge flows.Edge
 vectors = refl

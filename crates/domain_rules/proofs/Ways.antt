@@ -74,6 +74,7 @@ keeps_more levels.Msi ks h rest = refl
 keeps_more levels.Remap ks h rest = rest
 keeps_more levels.Vector ks h rest = absurd cc
 keeps_more levels.Lpi ks h rest = absurd cc
+keeps_more levels.Pin ks h rest = absurd cc
 
 lpi_alone : (k : ControllerKind) → k ≡ levels.Lpi → keeps (k ∷ []) ≡ true
 lpi_alone k h = ap (λ k. keeps (k ∷ [])) h

@@ -27,6 +27,7 @@ abbrev pub keeps_kind : ControllerKind → Bool
 keeps_kind levels.Latch = true
 keeps_kind levels.Msi = true
 keeps_kind levels.Lpi = true
+keeps_kind levels.Pin = true
 keeps_kind _ = false
 
 -- it can send an edge again

@@ -1,7 +1,7 @@
 //! The definition of the line.
 use irq_base::{
     Call, CallList, DevNo, DeviceDef, DeviceList, DriverNo, Flags, FlowKind, Kind, LineDef, LineNo,
-    NoMemory, Trigger,
+    NoMemory, RunCallList, ToldList, Trigger,
 };
 use std::alloc::Global;
 
@@ -17,6 +17,8 @@ pub fn one_line(alloc: Global) -> Result<LineDef, NoMemory> {
         dev: DEV,
         line: LINE,
         kind: Kind::Direct,
+        held: false,
+        forgets: false,
     })?;
     let mut calls = CallList::new(alloc);
     let request = Call::Request {
@@ -42,5 +44,7 @@ pub fn one_line(alloc: Global) -> Result<LineDef, NoMemory> {
         log: 1000,
         devices,
         calls,
+        runs: RunCallList::new(alloc),
+        told: ToldList::new(alloc),
     })
 }

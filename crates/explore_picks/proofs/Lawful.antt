@@ -1,5 +1,5 @@
 -- What is printed of a play is lawful: it is the text of a log of the board, on which `check` says so.
-use Rattle.std.proofs.Common.{◌≡◌, ℕ, ◌+◌, ◌*◌, ◌/◌, ◌<◌, Bool, true, false, not, ◌&&◌, cond, eqb, ltb, Some, None, List, [], ◌∷◌, ◌++◌}
+use Rattle.std.proofs.Common.{◌≡◌, ℕ, zero, suc, ◌+◌, ◌*◌, ◌/◌, ◌<◌, Bool, true, false, not, ◌&&◌, ◌||◌, cond, eqb, ltb, Some, None, List, [], ◌∷◌, ◌++◌}
 use Rattle.std.proofs.Common.{decimal, length, map, slice_get, reverse, codes, refl, sym, ap, subst, ◌∙◌, append_assoc, append-nil, arith}
 use Rattle.std.specs.List.{AllZip, filter, flat_map, join_with_byte, list_all, range_with_len}
 use Rattle.std.specs.Option.{option_map}
@@ -20,7 +20,9 @@ use Rattle.irq_model.specs.Kinds.{same_line}
 use Rattle.irq_model.specs.Legal.{IsLegal}
 use Rattle.irq_steps.proofs.Same.{line_from_same}
 use Rattle.board_def.specs.Layout.{layout_of}
-use Rattle.board_def.specs.LineOf.{line_of_row}
+use Rattle.irq_model.specs.Next.{next_past}
+use Rattle.irq_laws.proofs.OwnLaws.{due_is_own_past}
+use Rattle.board_def.specs.LineOf.{line_defs_of, line_of_row}
 use Rattle.board_def.specs.Rules.{IsBoard, has_line}
 use Rattle.board_def.specs.Seen.{BoardSeen}
 use Rattle.board_def.specs.declared.rows.LineRow.{LineRow}
@@ -41,7 +43,9 @@ use Rattle.domain_rules.specs.declared.layouts.Placement.TheVariants as placemen
 use Rattle.log_check.specs.Judging.{logs_of}
 use Rattle.log_check.specs.Verdicts.{ChecksLog, JudgedAt, JudgedLine}
 use Rattle.log_check.specs.declared.verdict.Verdict.TheVariants as verdicts
+use Rattle.board_words.specs.Versions.{has_runs}
 use Rattle.log_read.proofs.Telling.{present}
+use Rattle.log_read.specs.Versions.{may_have, needs_runs}
 use Rattle.log_read.specs.LogOf.{IsRowOn, LineEntry, begins_with_hash, entries_of, entries_on, is_feed, is_passed_over}
 use Rattle.log_read.specs.LogOf.{is_whole, onto_first, rows_of, saying}
 use Rattle.log_text.proofs.Splitting.{are_above, row_within, row_words}
@@ -51,8 +55,10 @@ use Rattle.log_text.specs.Formed.{IsSmall, IsWritable}
 use Rattle.log_text.specs.Rows.{entry_text}
 use Rattle.log_text.specs.Spaced.{spaced}
 use Rattle.play_report.specs.Report.{moves_text}
+use Rattle.explore_picks.proofs.Allowed.{may_have_row}
 use Rattle.explore_picks.proofs.Bytes.{above_feed, digits_plain, not_hash, is_plain, picks_pass}
 use Rattle.explore_picks.proofs.Named.{kept}
+use Rattle.board_versions.specs.OfVersion.{HasOldRows, IsOfItsVersion}
 use Rattle.explore_picks.specs.Rows.{pick_text, picks_line, picks_row, picks_text, row_at}
 use Rattle.explore_picks.specs.Stated.{IsNameable}
 use Rattle.explore_play.specs.Made.{ArePicked}
@@ -178,6 +184,11 @@ said_part line (m ∷ g) =
 
 -- ---- the lines
 
+pub of_all : {X : Type 0} (P : X → Type 0) (xs : List X) (i : ℕ) (x : X) → All P xs → slice_get xs i ≡ Some x → P x
+of_all P [] i x each at = cc
+of_all P (y ∷ ys) zero x each at = let same : y ≡ x = cc in subst P same (All-head P y ys each)
+of_all P (y ∷ ys) (suc i) x each at = of_all P ys i x (All-tail P y ys each) at
+
 module _ (b : BoardSeen) (board : IsBoard b) where
   -- a move's line is the board's
   declared : (lines : List BoardLine) → AreKept b lines → (place : ℕ) (x : BoardLine) → slice_get lines place ≡ Some x → has_line b.lines x.def.line ≡ true
@@ -194,6 +205,30 @@ module _ (b : BoardSeen) (board : IsBoard b) where
       All-cons (λ m. has_line b.lines m.0 ≡ true) m g
       (ap (has_line b.lines) on.number ∙ declared (lines_of b g) (kept b board picks g picked.0) on.place on.line on.at)
       (all_declared picks g picked.0)
+
+  -- the log may have each of the rows, if the board has what its version has
+  its_rows : IsOfItsVersion b → (lines : List BoardLine) → AreKept b lines → (place : ℕ) (x : BoardLine) → slice_get lines place ≡ Some x
+      → (a : Actor) (e : Entry) → next_past x.def x.past a ≡ Some e → may_have b.version e ≡ true
+  its_rows own lines k place x at a e due = by (has_runs b.version) refl
+    where
+      by : (t : Bool) → has_runs b.version ≡ t → may_have b.version e ≡ true
+      by true is = ap (λ r. r || not (needs_runs e)) is
+      by false is =
+          let o = def_of_row b place x.def (def_at b lines k place x at) in
+          let there : slice_get (line_defs_of b) o.place ≡ Some x.def =
+          slice_get-map (line_of_row b) b.lines o.place ∙ (ap (option_map (line_of_row b)) o.at ∙ ap (λ (d : LineDef). Some d) o.is) in
+          let old = of_all HasOldRows (line_defs_of b) o.place x.def (own is) there in
+          may_have_row x.def old b.version e x.past (k.legal place x at) (ap (next_past x.def x.past) (due_is_own_past x.def x.past a e due) ∙ due)
+
+  all_rows : IsOfItsVersion b → (picks : List Actor) (g : List Move) → ArePicked b picks g → All (λ m. may_have b.version m.1 ≡ true) g
+  all_rows own [] [] picked = All-nil (λ m. may_have b.version m.1 ≡ true)
+  all_rows own [] (m ∷ g) picked = absurd picked
+  all_rows own (a ∷ picks) [] picked = absurd picked
+  all_rows own (a ∷ picks) (m ∷ g) picked =
+      let on = moves_on b (lines_of b g) a m picked.1 in
+      All-cons (λ m. may_have b.version m.1 ≡ true) m g
+      (its_rows own (lines_of b g) (kept b board picks g picked.0) on.place on.line on.at a m.1 on.due)
+      (all_rows own picks g picked.0)
 
   -- a line that takes no part has no move
   none_moved : (line : LineNo) → ((lines : List BoardLine) → AreKept b lines → find_line lines line ≡ None) → (picks : List Actor) (g : List Move)
@@ -215,7 +250,7 @@ module _ (b : BoardSeen) (board : IsBoard b) where
           let never : ⊥ = none-some x (sym none ∙ there) in absurd never
       by k x number there rest false same = rest
 
-  module _ (picks : List Actor) (g : List Move) (picked : ArePicked b (reverse picks) (reverse g)) (writable : All CanWrite g)
+  module _ (own : IsOfItsVersion b) (picks : List Actor) (g : List Move) (picked : ArePicked b (reverse picks) (reverse g)) (writable : All CanWrite g)
       (named : All IsNameable picks) where
     abbrev lines : List BoardLine
     lines = lines_of b (reverse g)
@@ -255,15 +290,17 @@ module _ (b : BoardSeen) (board : IsBoard b) where
         let same : log_of row ≡ history = same_Some (log_of row) history (sym (slice_get-map log_of b.lines i ∙ ap (option_map log_of) at) ∙ there) in
         subst (λ (h : HistorySeen). JudgedLine b row placement h.entries None) same (judged i row placement at placed)
 
-    rows_on : (h : List Move) → All CanWrite h → All (λ m. has_line b.lines m.0 ≡ true) h → AllZip (IsRowOn b.lines) (map move_row h) h
-    rows_on [] w d = tt
-    rows_on (m ∷ h) w d =
+    rows_on : (h : List Move) → All CanWrite h → All (λ m. has_line b.lines m.0 ≡ true) h → All (λ m. may_have b.version m.1 ≡ true) h
+        → AllZip (IsRowOn b) (map move_row h) h
+    rows_on [] w d v = tt
+    rows_on (m ∷ h) w d v =
         let head = All-head CanWrite m h w in (
           record {
             formed = record { text = refl; number = head.0; writable = head.1 };
+            allowed = All-head (λ m. may_have b.version m.1 ≡ true) m h v;
             declared = All-head (λ m. has_line b.lines m.0 ≡ true) m h d;
           },
-          rows_on h (All-tail CanWrite m h w) (All-tail (λ m. has_line b.lines m.0 ≡ true) m h d),
+          rows_on h (All-tail CanWrite m h w) (All-tail (λ m. has_line b.lines m.0 ≡ true) m h d) (All-tail (λ m. may_have b.version m.1 ≡ true) m h v),
         )
 
     entries_are : (rows : List LineRow) → entries_of (logs_of rows g) ≡ map (λ (row : LineRow). entries_on g row.line) rows
@@ -279,8 +316,9 @@ module _ (b : BoardSeen) (board : IsBoard b) where
       logs_of b.lines g,
       record {
         said = g;
-        each = subst (λ (rows : List (List ℕ)). AllZip (IsRowOn b.lines) rows g) (sym said)
-            (rows_on g writable (back (λ m. has_line b.lines m.0 ≡ true) (all_declared (reverse picks) (reverse g) picked)));
+        each = subst (λ (rows : List (List ℕ)). AllZip (IsRowOn b) rows g) (sym said)
+            (rows_on g writable (back (λ m. has_line b.lines m.0 ≡ true) (all_declared (reverse picks) (reverse g) picked))
+            (back (λ m. may_have b.version m.1 ≡ true) (all_rows own (reverse picks) (reverse g) picked)));
         are = entries_are b.lines;
       },
       verdict,

@@ -4,4 +4,5 @@ mod Playing
 mod Bytes
 mod Stating
 mod Named
+pub mod Allowed
 pub mod Lawful

@@ -72,6 +72,6 @@ module _ (s : SystemSeen) (b : BoardSeen) (board : IsBoard b) (line : LineNo) (e
     picks = picks;
     play = play_to few;
     runs = runs;
-    lawful = checks b board picks s.log picked (can_write s.log (moves_have_rows b (reverse picks) s.log picked) small) named;
+    lawful = λ own. checks b board own picks s.log picked (can_write s.log (moves_have_rows b (reverse picks) s.log picked) small) named;
     printed = printed;
   }

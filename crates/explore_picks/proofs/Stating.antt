@@ -120,24 +120,19 @@ stated_once (a ∷ ps) = ap (λ (xs : List Actor). a ∷ xs) (stated_once ps)
 
 -- ---- the statement
 
-faultless : (ps : List Actor) → All IsNameable ps → 1 ≤ length ps → (has_moments : Bool) → fault_of_words has_moments (codes "picks" ∷ map word ps) ≡ None
-faultless ps named some true = ap first_in_order (none ps named some)
+faultless : (ps : List Actor) → All IsNameable ps → 1 ≤ length ps → (version : ℕ) → fault_of_words version (codes "picks" ∷ map word ps) ≡ None
+faultless ps named some version = ap first_in_order (none ps named some)
   where
-    none : (ps : List Actor) → All IsNameable ps → 1 ≤ length ps → faults_of true (codes "picks" ∷ map word ps) ≡ []
-    none [] named some = absurd (omega (arith, some))
-    none (a ∷ ps) named some = no_faults (a ∷ ps) named
-faultless ps named some false = ap first_in_order (none ps named some)
-  where
-    none : (ps : List Actor) → All IsNameable ps → 1 ≤ length ps → faults_of false (codes "picks" ∷ map word ps) ≡ []
+    none : (ps : List Actor) → All IsNameable ps → 1 ≤ length ps → faults_of version (codes "picks" ∷ map word ps) ≡ []
     none [] named some = absurd (omega (arith, some))
     none (a ∷ ps) named some = no_faults (a ∷ ps) named
 
 states : (ps : List Actor) → All IsNameable ps → 1 ≤ length ps → StatesPicks (picks_line ps) ps
 states ps named some = record {
   bytes = ap not (list_all-append is_allowed (codes "picks") (flat_map pick_text ps) ∙ picks_pass is_allowed refl allowed ps named);
-  sound = λ has_moments. ap (fault_of_words has_moments) (words_are ps named) ∙ faultless ps named some has_moments;
-  adds = λ b.
-      ap (λ (ws : List (List ℕ)). with_statement (statement_of ws) b) (words_are ps named)
+  sound = λ version. ap (fault_of_words version) (words_are ps named) ∙ faultless ps named some version;
+  adds = λ whose b.
+      ap (λ (ws : List (List ℕ)). with_statement whose (statement_of ws) b) (words_are ps named)
       ∙ ap (λ (xs : List Actor). record b { picks = b.picks ++ xs }) (ap (flat_map actors_picked) (all_spell ps named) ∙ stated_once ps);
 }
 

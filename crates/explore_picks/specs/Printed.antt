@@ -14,6 +14,7 @@ use Rattle.board_core.specs.Runs.{runs_of}
 use Rattle.log_check.specs.Verdicts.{ChecksLog}
 use Rattle.log_check.specs.declared.verdict.Verdict.TheVariants as verdicts
 use Rattle.play_report.specs.Report.{moves_text}
+use Rattle.board_versions.specs.OfVersion.{IsOfItsVersion}
 use Rattle.explore_picks.specs.Rows.{picks_text}
 use Rattle.explore_picks.specs.Stated.{AreStated}
 use Rattle.explore_picks.specs.declared.failing.ExploreFailed.{ExploreFailed}
@@ -38,7 +39,8 @@ pub record IsPlayTo (b : BoardSeen) (line : LineNo) (es : List Entry) (picks : L
   pub stated : AreStated picks
 
 -- such a play's moves and its picks are printed, or a beginning of them; `check` says of all of it,
--- behind the board, that it is lawful; and the runs that the moves ended were heard
+-- behind a board that has what its version has, that it is lawful; and the runs that the moves
+-- ended were heard
 pub record PrintsPlayTo (b : BoardSeen) (line : LineNo) (es : List Entry)
     (heard : List Run → Type 0) (old new : Option (List ℕ)) (end : Result Unit WriteFailed)
     : Type 0 where
@@ -46,15 +48,16 @@ pub record PrintsPlayTo (b : BoardSeen) (line : LineNo) (es : List Entry)
   pub picks : List Actor
   pub play : IsPlayTo b line es picks moves
   pub runs : heard (runs_of b (reverse moves))
-  pub lawful : ChecksLog b (moves_text moves ++ picks_text picks) verdicts.Lawful
+  pub lawful : IsOfItsVersion b
+      → ChecksLog b (moves_text moves ++ picks_text picks) verdicts.Lawful
   pub printed : WritesAll old new (moves_text moves ++ picks_text picks) end
 
 -- the runs of some play of the board so far were heard
 abbrev pub HeardSome : BoardSeen → (List Run → Type 0) → Type 0
 HeardSome b heard = (g : List Move) × IsHeardPlay b heard g
 
--- A play was found, and it is printed, or a beginning of it. Or nothing is, and what was heard is of
--- a play that was tried.
+-- A play was found, and it is printed, or a beginning of it. Or nothing is, and what was heard is
+-- of a play that was tried.
 abbrev pub PlaysTo : BoardSeen → LineNo → List Entry → (List Run → Type 0) → Option (List ℕ)
     → Option (List ℕ) → Result Bool ExploreFailed → Type 0
 PlaysTo b line es heard old new (Ok true) = PrintsPlayTo b line es heard old new (Ok tt)

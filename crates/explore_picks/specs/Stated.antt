@@ -1,8 +1,9 @@
 -- What a board's reader makes of the picks that are printed.
-use Rattle.std.specs.Prelude.{◌≡◌, ℕ, ◌*◌, ◌<◌, ◌≤◌, Bool, false, None, List, ◌++◌, length}
+use Rattle.std.specs.Prelude.{◌≡◌, ℕ, ◌*◌, ◌<◌, ◌≤◌, false, None, List, ◌++◌, length}
 use Rattle.board_def.specs.Rules.{IsNumber}
 use Rattle.board_def.specs.Seen.{BoardSeen}
 use Rattle.board_stated.specs.Stated.{with_statement}
+use Rattle.board_stated.specs.declared.writers.Writer.{Writer}
 use Rattle.board_words.specs.Forms.{fault_of_words}
 use Rattle.board_words.specs.Statements.{statement_of}
 use Rattle.board_words.specs.TextLines.{has_bad_byte, words_of}
@@ -16,12 +17,12 @@ IsNameable (actors.Thread dev) = IsNumber dev.0
 IsNameable (actors.Cpu cpu) = cpu.0 ≤ 31
 IsNameable (actors.Driver driver) = IsNumber driver.0
 
--- the text line is a statement without a fault, and states these picks behind those that were
--- stated before
+-- in a text of any version the line is a statement without a fault, and whoever the calls are of,
+-- it states these picks behind those that were stated before
 pub record StatesPicks (line : List ℕ) (picks : List Actor) : Type 0 where
   pub bytes : has_bad_byte line ≡ false
-  pub sound : (has_moments : Bool) → fault_of_words has_moments (words_of line) ≡ None
-  pub adds : (b : BoardSeen) → with_statement (statement_of (words_of line)) b
+  pub sound : (version : ℕ) → fault_of_words version (words_of line) ≡ None
+  pub adds : (whose : Writer) (b : BoardSeen) → with_statement whose (statement_of (words_of line)) b
       ≡ record b { picks = b.picks ++ picks }
 
 -- each row of these picks does, without its `# `

@@ -19,7 +19,7 @@ use Rattle.irq_model.specs.Kinds.{same_line, same_driver}
 use Rattle.irq_model.specs.Legal.{IsLegalPast}
 use Rattle.irq_model.specs.Due.{due_call}
 use Rattle.irq_model.specs.Lines.{has_device}
-use Rattle.irq_model.specs.Next.{next_of_call, next_of_thread, next_past}
+use Rattle.irq_model.specs.Next.{next_of_driver, next_of_thread, next_past}
 use Rattle.irq_model.specs.Rounds.{flow, is_cpu}
 use Rattle.irq_steps.proofs.Same.{same_self_line, line_from_same}
 use Rattle.board_def.specs.Rules.{IsBoard}
@@ -44,7 +44,7 @@ has_call : (def : LineDef) (r : DriverNo) (past : List Entry) (e : Entry) → ne
     → (x : Call × ℕ) × (due_call def r past ≡ Some x)
 has_call def r past e is = by_due (due_call def r past) refl is
   where
-    by_due : (o : Option (Call × ℕ)) → due_call def r past ≡ o → next_of_call def r past o ≡ Some e → (x : Call × ℕ) × (due_call def r past ≡ Some x)
+    by_due : (o : Option (Call × ℕ)) → due_call def r past ≡ o → next_of_driver def r past o ≡ Some e → (x : Call × ℕ) × (due_call def r past ≡ Some x)
     by_due None due is = cc
     by_due (Some x) due is = (x, due)
 

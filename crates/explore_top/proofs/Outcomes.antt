@@ -1,9 +1,11 @@
 -- What is done with a board that was read.
-use Rattle.std.proofs.Common.{◌≡◌, ◌⊎◌, inl, inr, ℕ, false, Option, Some, None, Result, Ok, Err, List, refl, sym, ap, subst, ◌∙◌}
+use Rattle.std.proofs.Common.{◌≡◌, ◌⊎◌, inl, inr, ℕ, true, false, Option, Some, None, Result, Ok, Err, List, refl, sym, ap, subst, ◌∙◌}
 use Rattle.board_def.specs.Rules.{IsBoard}
 use Rattle.board_def.specs.Seen.{BoardSeen}
+use Rattle.board_versions.proofs.OldTexts.{text_is_of_its_version}
 use Rattle.explore_picks.specs.declared.failing.ExploreFailed.{ExploreFailed}
 use Rattle.explore_picks.specs.declared.failing.ExploreFailed.TheVariants as fails
+use Rattle.explore_words.specs.Words.{may_ask}
 use Rattle.explore_words.specs.declared.Asked.{Asked}
 use Rattle.explore_words.specs.declared.What.{What}
 use Rattle.explore_words.specs.declared.What.TheVariants as whats
@@ -11,7 +13,7 @@ use Rattle.irq_base.specs.declared.devices.Run.{Run}
 use Rattle.irq_explore.specs.declared.exploring.Explored.{Explored}
 use Rattle.irq_explore.specs.declared.exploring.Explored.TheVariants as finds
 use Rattle.program_io.specs.Reading.{IsStated, ReadsBoard}
-use Rattle.explore_top.specs.Does.{Does, ExploresAs, ExploresInput, ExploresWhat, HeardBefore, IsReadToEnd}
+use Rattle.explore_top.specs.Does.{Does, ExploresAs, ExploresInput, ExploresOwn, ExploresWhat, HeardBefore, IsReadToEnd}
 use Rattle.explore_top.specs.Ending.{ending_of, is_read_fault_end}
 use Rattle.explore_top.specs.declared.ending.Ending.{Ending}
 
@@ -21,13 +23,15 @@ read_to_end (Some bytes) left b read = read.1
 
 module _ (asked : Asked) (heard : List Run → Type 0) (told left before now : Option (List ℕ)) (b : BoardSeen)
     (read : ReadsBoard told left (Ok b)) (stated : IsStated told b) (keeps : IsBoard b) where
-  input : (end : Result Explored ExploreFailed) → ExploresWhat asked.states asked.what heard b before now end
+  input : may_ask b.version asked.what ≡ true → (end : Result Explored ExploreFailed) → ExploresWhat asked.states asked.what heard b before now end
       → ExploresInput asked heard told left before now (ending_of asked.states end)
-  input end done = record {
+  input own end done = record {
     board = b;
     stated = stated;
     read = read_to_end told left b read;
     keeps_rules = keeps;
+    of_version = text_is_of_its_version stated.text b stated.states;
+    own = own;
     done = (end, refl, done);
   }
 
@@ -38,18 +42,21 @@ module _ (asked : Asked) (heard : List Run → Type 0) (told left before now : O
   some_heard (whats.Row line wanted) done = inl done.1
   some_heard (whats.Play line wanted) done = inr (b, stated, done)
 
-  by_end : (end : Result Explored ExploreFailed) → ExploresWhat asked.states asked.what heard b before now end
+  by_end : may_ask b.version asked.what ≡ true → (end : Result Explored ExploreFailed) → ExploresWhat asked.states asked.what heard b before now end
       → Does asked heard told left before now (ending_of asked.states end)
-  by_end (Ok finds.Done) done = input (Ok finds.Done) done
-  by_end (Ok finds.Never) done = input (Ok finds.Never) done
-  by_end (Ok (finds.Cut line)) done = input (Ok (finds.Cut line)) done
-  by_end (Ok finds.NoPlay) done = input (Ok finds.NoPlay) done
-  by_end (Err fails.NotThere) done = input (Err fails.NotThere) done
-  by_end (Err fails.NoMemory) done = some_heard asked.what done
-  by_end (Err (fails.Write failed)) done = input (Err (fails.Write failed)) done
+  by_end own (Ok finds.Done) done = input own (Ok finds.Done) done
+  by_end own (Ok finds.Never) done = input own (Ok finds.Never) done
+  by_end own (Ok (finds.Cut line)) done = input own (Ok (finds.Cut line)) done
+  by_end own (Ok finds.NoPlay) done = input own (Ok finds.NoPlay) done
+  by_end own (Err fails.NotThere) done = input own (Err fails.NotThere) done
+  by_end own (Err fails.NoMemory) done = some_heard asked.what done
+  by_end own (Err (fails.Write failed)) done = input own (Err (fails.Write failed)) done
 
-  pub explored : (ending : Ending) → ExploresAs asked heard b before now ending → Does asked heard told left before now ending
-  explored ending (end, is, done) = subst (λ (e : Ending). Does asked heard told left before now e) (sym is) (by_end end done)
+  pub explored : (ending : Ending) → ExploresOwn asked heard b before now ending → Does asked heard told left before now ending
+  explored ending (inl (own, (end, is, done))) = subst (λ (e : Ending). Does asked heard told left before now e) (sym is) (by_end own end done)
+  explored ending (inr (another, is, unheard)) =
+      subst (λ (e : Ending). Does asked heard told left before now e) (sym is)
+      (record { board = b; stated = stated; read = read_to_end told left b read; another = another }, unheard)
 
 no_read_fault : (states : ℕ) (end : Result Explored ExploreFailed) → is_read_fault_end (ending_of states end) ≡ false
 no_read_fault states (Ok finds.Done) = refl
@@ -62,5 +69,6 @@ no_read_fault states (Err (fails.Write failed)) = refl
 
 -- it came without a read fault
 pub explored_unread : (asked : Asked) (heard : List Run → Type 0) (b : BoardSeen) (before now : Option (List ℕ)) (ending : Ending)
-    → ExploresAs asked heard b before now ending → is_read_fault_end ending ≡ false
-explored_unread asked heard b before now ending (end, is, done) = ap is_read_fault_end is ∙ no_read_fault asked.states end
+    → ExploresOwn asked heard b before now ending → is_read_fault_end ending ≡ false
+explored_unread asked heard b before now ending (inl (own, (end, is, done))) = ap is_read_fault_end is ∙ no_read_fault asked.states end
+explored_unread asked heard b before now ending (inr (another, is, unheard)) = ap is_read_fault_end is

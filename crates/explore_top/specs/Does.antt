@@ -1,11 +1,13 @@
 -- What the program does, ending by ending. `heard` says which runs the handlers were called for;
 -- `told` is what the source told of its bytes, `left` what it has left of them; `before` and `now`
 -- are what the output has.
-use Rattle.std.specs.Prelude.{◌≡◌, ◌⊎◌, ℕ, Option, Some, None, Result, Err, List, []}
+use Rattle.std.specs.Prelude.{◌≡◌, ◌⊎◌, ℕ, true, false, Option, Some, None, Result, Err, List, []}
 use Rattle.board_def.specs.Rules.{IsBoard}
 use Rattle.board_def.specs.Seen.{BoardSeen}
+use Rattle.board_versions.specs.OfVersion.{IsOfItsVersion}
 use Rattle.explore_picks.specs.Printed.{HeardSome}
 use Rattle.explore_picks.specs.declared.failing.ExploreFailed.{ExploreFailed}
+use Rattle.explore_words.specs.Words.{may_ask}
 use Rattle.explore_words.specs.declared.Asked.{Asked}
 use Rattle.explore_words.specs.declared.What.{What}
 use Rattle.explore_words.specs.declared.What.TheVariants as whats
@@ -45,6 +47,20 @@ ExploresAs asked heard b before now ending =
     (end : Result Explored ExploreFailed) × (ending ≡ ending_of asked.states end)
     × ExploresWhat asked.states asked.what heard b before now end
 
+-- The same, if the board can be asked for it; else nothing was done, and that is a fault of usage.
+abbrev pub ExploresOwn : Asked → (List Run → Type 0) → BoardSeen → Option (List ℕ)
+    → Option (List ℕ) → Ending → Type 0
+ExploresOwn asked heard b before now ending =
+    ((may_ask b.version asked.what ≡ true) × ExploresAs asked heard b before now ending)
+    ⊎ ((may_ask b.version asked.what ≡ false) × (ending ≡ endings.Usage) × heard [])
+
+-- the row that is asked for is no row of the board that the source told
+pub record AsksAnother (asked : Asked) (told left : Option (List ℕ)) : Type 0 where
+  pub board : BoardSeen
+  pub stated : IsStated told board
+  pub read : IsReadToEnd told left
+  pub another : may_ask board.version asked.what ≡ false
+
 -- it was done with the board that the source told
 pub record ExploresInput (asked : Asked) (heard : List Run → Type 0)
     (told left before now : Option (List ℕ)) (ending : Ending) : Type 0 where
@@ -52,6 +68,8 @@ pub record ExploresInput (asked : Asked) (heard : List Run → Type 0)
   pub stated : IsStated told board
   pub read : IsReadToEnd told left
   pub keeps_rules : IsBoard board
+  pub of_version : IsOfItsVersion board
+  pub own : may_ask board.version asked.what ≡ true
   pub done : ExploresAs asked heard board before now ending
 
 -- where memory was refused: nothing was heard, or the runs of a play of the board that the source
@@ -60,11 +78,11 @@ abbrev pub HeardBefore : (List Run → Type 0) → Option (List ℕ) → Type 0
 HeardBefore heard told =
     heard [] ⊎ ((b : BoardSeen) × IsStated told b × HeardSome b heard)
 
--- what was asked was done with the board that the source told; or the source gave no board; or
--- memory was refused
+-- what was asked was done with the board that the source told; or that board can't be asked for it;
+-- or the source gave no board; or memory was refused
 abbrev pub Does : Asked → (List Run → Type 0) → Option (List ℕ) → Option (List ℕ)
     → Option (List ℕ) → Option (List ℕ) → Ending → Type 0
-Does asked heard told left before now endings.Usage = ⊥
+Does asked heard told left before now endings.Usage = AsksAnother asked told left × heard []
 Does asked heard told left before now (endings.Board fault)
     = ReadsBoard told left (Err (refusals.Fault fault)) × heard []
 Does asked heard told left before now endings.ReadFault = heard []

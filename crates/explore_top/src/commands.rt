@@ -35,7 +35,6 @@ pub fn command<S: Source, O: Sink, E: Sink, M: MakesDomainLine, H: Handler>(
     maker: &M,
     handlers: &mut H,
 ) -> Ending
-    ensures form { (asked : Asked) → IsForm args asked → result ≡ Ending.Usage → ⊥ }
     ensures usage { IsNoForm args → (result ≡ Ending.Usage) ⊎ (result ≡ Ending.NoMemory) }
     ensures not_text { IsNotText args → result ≡ Ending.Usage }
     ensures unread { IsNoForm args → src.new ≡ src.old }
@@ -72,8 +71,6 @@ fn with_words<S: Source, O: Sink, E: Sink, M: MakesDomainLine, H: Handler>(
     maker: &M,
     handlers: &mut H,
 ) -> Ending
-    ensures form { (asked : Asked) → Asks (map string_bytes words.now) asked
-        → result ≡ Ending.Usage → ⊥ }
     ensures usage { AsksNothing (map string_bytes words.now)
         → (result ≡ Ending.Usage) ⊎ (result ≡ Ending.NoMemory) }
     ensures unread { AsksNothing (map string_bytes words.now) → src.new ≡ src.old }

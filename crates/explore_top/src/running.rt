@@ -52,7 +52,6 @@ pub fn run<R: Read + Drop, O: Write + Drop, E: Write + Drop, M: MakesDomainLine,
 ) -> Ended<R, O, E>
     ensures status { result.status ≡ status_of result.ending }
     ensures buffer { result.output ≡ None → result.ending ≡ Ending.NoMemory }
-    ensures form { (asked : Asked) → IsForm args asked → result.ending ≡ Ending.Usage → ⊥ }
     ensures usage { IsNoForm args
         → (result.ending ≡ Ending.Usage) ⊎ (result.ending ≡ Ending.NoMemory) }
     ensures not_text { IsNotText args → IsSome result.output → result.ending ≡ Ending.Usage }

@@ -1,11 +1,11 @@
 //! The top call.
-ghost use Rattle.std.specs.Prelude.{◌≡◌, ◌↔◌, [], false, true, map};
+ghost use Rattle.std.specs.Prelude.{◌≡◌, [], false, true, map};
 ghost use Rattle.callbacks.specs.Heard.{Heard};
 ghost use Rattle.explore_words.specs.Words.{Asks, AsksNothing, IsCount};
 ghost use Rattle.explore_words.specs.declared.Asked.{Asked};
 ghost use Rattle.irq_io.specs.Faults.{Counts};
 ghost use Rattle.program_io.specs.ErrorRows.{Tells};
-ghost use Rattle.explore_top.specs.Does.{Does, ExploresAs, ExploresWhat};
+ghost use Rattle.explore_top.specs.Does.{Does, ExploresAs, ExploresOwn, ExploresWhat};
 ghost use Rattle.explore_top.specs.Ending.{error_text, is_printed, is_printing, is_quiet};
 ghost use Rattle.explore_top.specs.Ending.{is_read_fault_end, is_write_fault_end};
 ghost use Rattle.irq_explore.specs.Explored.{is_printed as is_whole, is_printing as is_saying};
@@ -15,7 +15,7 @@ use crate::ending::Ending;
 use crate::error_rows::error_row;
 use board_def::Board;
 use callbacks::Handler;
-use explore_words::{Asked, What, read_words};
+use explore_words::{Asked, What, may_ask, read_words};
 use irq_explore::{ExploreFailed, Explored, explore_play, explore_row, explore_survey};
 use irq_io::{Sink, Source};
 use line_makers::MakesDomainLine;
@@ -27,8 +27,9 @@ use text_row::TextRow;
 /// lines: it surveys all lines, or one, or looks for a shortest log of a line that ends with the
 /// row, or that leaves the line so, and prints it, or a play of the board that comes to it: the
 /// maker makes the lines that are played, and these handlers are called for the runs that the play
-/// ends. Other words are refused before anything is read. What went wrong is told on `err`, in one
-/// row; a fault of `err` itself changes nothing.
+/// ends. Other words are refused before anything is read, and a row that the board's logs can't
+/// have once it is read. What went wrong is told on `err`, in one row; a fault of `err` itself
+/// changes nothing.
 pub fn explore_main<S: Source, O: Sink, E: Sink, M: MakesDomainLine, H: Handler>(
     alloc: Global,
     words: &[&str],
@@ -38,7 +39,7 @@ pub fn explore_main<S: Source, O: Sink, E: Sink, M: MakesDomainLine, H: Handler>
     maker: &M,
     handlers: &mut H,
 ) -> Ending
-    ensures usage { (result ≡ Ending.Usage) ↔ AsksNothing (map (λ w. w.now) words.now) }
+    ensures usage { AsksNothing (map (λ w. w.now) words.now) → result ≡ Ending.Usage }
     ensures unread { AsksNothing (map (λ w. w.now) words.now) → src.new ≡ src.old }
     ensures unheard { AsksNothing (map (λ w. w.now) words.now) → handlers.new ≡ handlers.old }
     ensures does { (asked : Asked) → Asks (map (λ w. w.now) words.now) asked
@@ -72,7 +73,7 @@ fn work<S: Source, O: Sink, M: MakesDomainLine, H: Handler>(
     maker: &M,
     handlers: &mut H,
 ) -> Ending
-    ensures usage { (result ≡ Ending.Usage) ↔ AsksNothing (map (λ w. w.now) words.now) }
+    ensures usage { AsksNothing (map (λ w. w.now) words.now) → result ≡ Ending.Usage }
     ensures unread { AsksNothing (map (λ w. w.now) words.now) → src.new ≡ src.old }
     ensures unheard { AsksNothing (map (λ w. w.now) words.now) → handlers.new ≡ handlers.old }
     ensures does { (asked : Asked) → Asks (map (λ w. w.now) words.now) asked
@@ -111,9 +112,33 @@ fn act<S: Source, O: Sink, M: MakesDomainLine, H: Handler>(
     match read_input(alloc, src) {
         Ok(board) => {
             board.is_board();
-            explore(alloc, &board, asked, out, maker, handlers)
+            explore_own(alloc, &board, asked, out, maker, handlers)
         }
         Err(refused) => Ending::from(refused),
+    }
+}
+
+/// Does with the board what is asked, if the board can be asked for it.
+fn explore_own<O: Sink, M: MakesDomainLine, H: Handler>(
+    alloc: Global,
+    board: &Board,
+    asked: Asked,
+    out: &mut O,
+    maker: &M,
+    handlers: &mut H,
+) -> Ending
+    requires { IsCount asked.states }
+    ensures does { ExploresOwn asked (λ runs. Heard H.hears runs handlers.old handlers.new)
+        board.now (O.written out.old) (O.written out.new) result }
+    ensures emptied { is_printed result ≡ true → O.kept out.new ≡ [] }
+    ensures write_fault { Counts (O.faults out.old) (O.faults out.new)
+        (is_write_fault_end result) }
+    ensures silent { is_printing result ≡ false → out.new ≡ out.old }
+{
+    if may_ask(board, &asked.what) {
+        explore(alloc, board, asked, out, maker, handlers)
+    } else {
+        Ending::Usage
     }
 }
 

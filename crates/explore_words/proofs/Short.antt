@@ -1,5 +1,6 @@
 -- A row has at most 320 bytes.
 use Rattle.std.proofs.Common.{◌≡◌, ℕ, ◌+◌, ◌<◌, ◌≤◌, Bool, true, false, List, [], ◌∷◌, length, decimal}
+use Rattle.std.specs.Prelude.{nat_lt}
 use Rattle.std.proofs.Common.{ap, arith}
 use Rattle.std.proofs.lemmas.Fmt.{length-decimal-le}
 use Rattle.std.proofs.lemmas.List.{length-append}
@@ -41,7 +42,8 @@ use Rattle.line_wanted.specs.declared.wanted.Wanted.TheVariants as wants
 use Rattle.log_text.specs.EntryWords.{call_words, cpu_words, driver_words, entry_words, thread_words}
 use Rattle.log_text.specs.Formed.{HasSmallCall, HasSmallCpu, HasSmallDriver, HasSmallThread, IsSmall, IsWritable}
 use Rattle.log_text.specs.Words.{way_word, take_word, answer_word, loop_word, mask_word, note_word, bit_word}
-use Rattle.log_text.specs.Words.{flags_word, enable_words, link_words, unlink_word, affinity_words, yes_word}
+use Rattle.log_text.specs.Words.{flags_word, enable_words, link_words, unlink_word, affinity_words, yes_word, edge_words}
+use Rattle.log_text.specs.Words.{handled_words}
 use Rattle.explore_words.specs.Rows.{HasRow, Spells, joined, standing_word, waits_word, wanted_words}
 
 -- the bytes of words, each with a byte behind it
@@ -149,6 +151,16 @@ yes_fits : (x : Bool) → length (yes_word x) ≤ 11
 yes_fits true = omega arith
 yes_fits false = omega arith
 
+edge_fits : (x : Bool) → Fit 30 (edge_words x)
+edge_fits true = omega arith
+edge_fits false = omega arith
+
+handled_fits : (x y : Bool) → Fit 30 (handled_words x y)
+handled_fits true true = omega arith
+handled_fits true false = omega arith
+handled_fits false true = omega arith
+handled_fits false false = omega arith
+
 cpu_fits : (e : CpuEntry) → HasSmallCpu e → Fit 100 (cpu_words e)
 cpu_fits (cpus.Take way answer) w = let a = way_fits way in let b = take_fits answer in omega (arith, a, b)
 cpu_fits (cpus.Begin dev) w = let a = number_short dev.0 w in omega (arith, a)
@@ -159,12 +171,12 @@ cpu_fits (cpus.End again unmask note) w =
 
 thread_fits : (e : ThreadEntry) → HasSmallThread e → Fit 100 (thread_words e)
 thread_fits threads.Begin w = omega arith
-thread_fits (threads.Return handled served) w = let a = number_short served w in omega (arith, a)
+thread_fits (threads.Return handled served) w = let a = number_short served w in let b = handled_fits handled (nat_lt 0 served) in omega (arith, a, b)
 thread_fits (threads.Finish kept unmask) w = let a = bit_fits kept in let b = mask_fits unmask in omega (arith, a, b)
 thread_fits threads.Done w = omega arith
 
 driver_fits : (e : DriverEntry) → HasSmallDriver e → Fit 100 (driver_words e)
-driver_fits (drivers.Ask edge dev) w = let a = number_short dev.0 w in omega (arith, a)
+driver_fits (drivers.Ask edge dev) w = let a = number_short dev.0 w in let b = edge_fits edge in omega (arith, a, b)
 driver_fits (drivers.Request flags answer opened dev) w =
     let a = number_short dev.0 w in
     let b = flags_by flags.shared flags.oneshot flags.noauto in

@@ -1,8 +1,10 @@
 -- The words of the command line, and what they ask for.
-use Rattle.std.specs.Prelude.{◌≡◌, ◌⊎◌, ℕ, ◌≤◌, Option, MatchOption, List, [], ◌∷◌, codes, decimal}
+use Rattle.std.specs.Prelude.{◌≡◌, ◌⊎◌, ℕ, ◌≤◌, Bool, true, Option, MatchOption, List, [], ◌∷◌, codes, decimal}
 use Rattle.log_text.specs.Formed.{IsSmall}
 use Rattle.irq_base.specs.declared.numbers.LineNo.{LineNo}
 use Rattle.line_wanted.specs.declared.wanted.Wanted.{Wanted}
+use Rattle.line_wanted.specs.declared.wanted.Wanted.TheVariants as wants
+use Rattle.log_read.specs.Versions.{may_have}
 use Rattle.explore_words.specs.Rows.{Spells, joined}
 use Rattle.explore_words.specs.declared.Asked.{Asked}
 use Rattle.explore_words.specs.declared.What.{What}
@@ -53,3 +55,14 @@ AsksNothing words = (asked : Asked) → Asks words asked → ⊥
 -- what the words ask for; none if they ask for nothing
 abbrev pub Finds : List (List ℕ) → Option Asked → Type 0
 Finds words found = MatchOption found (AsksNothing words) (Asks words)
+
+-- whether the row that is asked for, if it is an entry's, is one that a board of this version has
+abbrev pub may_want : ℕ → Wanted → Bool
+may_want version (wants.Row e) = may_have version e
+may_want version (wants.Rest left) = true
+
+-- a board of this version can be asked for it
+abbrev pub may_ask : ℕ → What → Bool
+may_ask version (whats.Row line wanted) = may_want version wanted
+may_ask version (whats.Play line wanted) = may_want version wanted
+may_ask version _ = true

@@ -3,7 +3,8 @@
 //! it.
 //!
 //! A row may be one argument or several. It is the row of an entry, as logs have it, or it says how
-//! a line is left at rest: `1 rest disabled 0 pending`.
+//! a line is left at rest: `1 rest disabled 0 pending`. Whether a board's logs can have the row is
+//! asked of the board, once it is read.
 #![tactic(auto)]
 
 ghost use Rattle.std.specs.Prelude.{◌≡◌, ℕ, List, map};
@@ -13,10 +14,12 @@ mod asking;
 mod joining;
 mod rests;
 mod rows;
+mod versions;
 
 pub use asking::{MOST_STATES, USUAL_STATES, read_words};
 use irq_base::LineNo;
 use line_wanted::Wanted;
+pub use versions::may_ask;
 
 /// What is asked of a line, or of all.
 #[derive(Clone, Copy, PartialEq, Eq)]

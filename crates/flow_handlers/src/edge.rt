@@ -1,5 +1,5 @@
 //! The edge flow (`handle_edge_irq`).
-ghost use Rattle.std.specs.Prelude.{◌≡◌};
+ghost use Rattle.std.specs.Prelude.{◌≡◌, true};
 ghost use Rattle.flow_handlers.specs.Flows.{answer_by, edge_desc, edge_cell, edge_left};
 ghost use Rattle.flow_handlers.specs.Flows.{edge_ended, unmasked_if};
 
@@ -42,8 +42,9 @@ pub fn enter<C: Chip>(desc: &mut Desc, chip: &mut C, cpu: CpuNo, linked: bool) -
 /// Ends a round, after the note on spurious interrupts, and after the kill that it may have made.
 /// If an interrupt is pending and the line isn't disabled by now, the same flow goes on with a new
 /// round, and the mask opens if it is closed. Else the flow is over, and the mask stays. On this
-/// flow it doesn't matter whether threads hold the line.
+/// flow it doesn't matter whether threads hold the line. At depth 0 the line comes in active.
 pub fn leave<C: Chip>(desc: &mut Desc, chip: &mut C, _held: bool) -> LeaveAnswer
+    requires activated { desc.old.depth ≡ 0 → C.active chip.old ≡ true }
     ensures left { result ≡ edge_left desc.old }
     ensures desc { desc.new ≡ edge_ended desc.old }
     ensures cell { C.cell chip.new ≡ unmasked_if result.unmask (C.cell chip.old) }

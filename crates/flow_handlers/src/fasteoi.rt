@@ -104,10 +104,11 @@ fn turn_off<C: Chip>(desc: &mut Desc, chip: &mut C) -> TakeAnswer
 /// the end of interrupt. On a one-shot level line the mask opens unless the line is disabled by
 /// now, or `held`: some one-shot thread hasn't finished (`cond_unmask_eoi_irq`). On an edge line,
 /// if an interrupt is pending and the line isn't disabled by now, the chip is made to send it again
-/// (ours); so at depth 0 such a line must come in open.
+/// (ours); so at depth 0 such a line must come in open, and each line active.
 pub fn leave<C: Chip>(desc: &mut Desc, chip: &mut C, held: bool, trigger: Trigger) -> LeaveAnswer
     requires open { is_edge_trigger trigger ≡ true → desc.old.depth ≡ 0
         → (C.cell chip.old).masked ≡ false }
+    requires activated { desc.old.depth ≡ 0 → C.active chip.old ≡ true }
     ensures left { result ≡ eoi_left trigger held desc.old }
     ensures desc { desc.new ≡ eoi_ended result desc.old }
     ensures cell { C.cell chip.new ≡ eoi_ended_cell result (C.cell chip.old) }
@@ -126,6 +127,7 @@ pub fn leave<C: Chip>(desc: &mut Desc, chip: &mut C, held: bool, trigger: Trigge
 /// The chip sends the pending interrupt again.
 fn send_again<C: Chip>(desc: &mut Desc, chip: &mut C) -> LeaveAnswer
     requires open { desc.old.depth ≡ 0 → (C.cell chip.old).masked ≡ false }
+    requires activated { desc.old.depth ≡ 0 → C.active chip.old ≡ true }
     ensures left { result ≡ record { again = goes_on desc.old; unmask = false } }
     ensures desc { desc.new ≡ record desc.old { pending = desc.old.pending && not result.again } }
     ensures cell { C.cell chip.new ≡ retriggered_if result.again (C.cell chip.old) }
@@ -146,6 +148,7 @@ fn send_again<C: Chip>(desc: &mut Desc, chip: &mut C) -> LeaveAnswer
 
 /// A one-shot line opens if nothing holds it.
 fn open_again<C: Chip>(desc: &mut Desc, chip: &mut C, held: bool) -> LeaveAnswer
+    requires activated { desc.old.depth ≡ 0 → C.active chip.old ≡ true }
     ensures left { result ≡ record {
       again = false;
       unmask = desc.old.oneshot && may_open held desc.old;

@@ -1,5 +1,5 @@
 //! The level flow (`handle_level_irq`).
-ghost use Rattle.std.specs.Prelude.{◌≡◌};
+ghost use Rattle.std.specs.Prelude.{◌≡◌, true};
 ghost use Rattle.flow_handlers.specs.Flows.{answer_by, level_desc, level_cell, level_left};
 ghost use Rattle.flow_handlers.specs.Flows.{level_ended, unmasked_if};
 
@@ -38,8 +38,9 @@ pub fn enter<C: Chip>(desc: &mut Desc, chip: &mut C, cpu: CpuNo, linked: bool) -
 
 /// Ends the flow, after the note on spurious interrupts, and after the kill that it may have made.
 /// The mask opens unless the line is disabled by now, or `held`: some one-shot thread hasn't
-/// finished (`threads_oneshot`; see `cond_unmask_irq`).
+/// finished (`threads_oneshot`; see `cond_unmask_irq`). At depth 0 the line comes in active.
 pub fn leave<C: Chip>(desc: &mut Desc, chip: &mut C, held: bool) -> LeaveAnswer
+    requires activated { desc.old.depth ≡ 0 → C.active chip.old ≡ true }
     ensures left { result ≡ level_left held desc.old }
     ensures desc { desc.new ≡ level_ended held desc.old }
     ensures cell { C.cell chip.new ≡ unmasked_if result.unmask (C.cell chip.old) }

@@ -23,7 +23,7 @@ use Rattle.irq_base.specs.declared.numbers.DriverNo.{DriverNo}
 use Rattle.irq_model.specs.Due.{calls_by, due_call, due_of, entries_by, entries_of_call}
 use Rattle.irq_model.specs.Kinds.{is_by_driver, is_driver, same_driver}
 use Rattle.irq_model.specs.Legal.{IsDue, IsLegalPast}
-use Rattle.irq_model.specs.Next.{affinity_answer, next_of_call, next_past}
+use Rattle.irq_model.specs.Next.{affinity_answer, next_of_driver, next_past}
 use Rattle.irq_model.specs.Places.{last_place, since}
 use Rattle.irq_model.specs.Signal.{lowest_in, mask_of, puts_in_force, target}
 use Rattle.irq_steps.proofs.Same.{driver_from_same}
@@ -210,9 +210,9 @@ module _ (def : LineDef) (r : DriverNo) where
       → (mask : ℕ) × (answer : AffinityAnswer) × (e ≡ by.Driver r (drivers.Affinity answer mask))
   own_move moved e past due =
       by_case (drop (length (own_entries past)) (calls_by r def.calls)) (All-drop (Fits def.cpus) (length (own_entries past)) (calls_by r def.calls) moved.own)
-      (sym (ap (next_of_call def r past) (due_first moved past)) ∙ due)
+      (sym (ap (next_of_driver def r past) (due_first moved past)) ∙ due)
     where
-      by_case : (cs : List Call) → All (Fits def.cpus) cs → next_of_call def r past (first_due cs) ≡ Some e
+      by_case : (cs : List Call) → All (Fits def.cpus) cs → next_of_driver def r past (first_due cs) ≡ Some e
           → (mask : ℕ) × (answer : AffinityAnswer) × (e ≡ by.Driver r (drivers.Affinity answer mask))
       by_case [] fits due = absurd cc
       by_case (calls.Affinity mask ∷ cs) fits due =

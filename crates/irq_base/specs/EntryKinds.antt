@@ -39,6 +39,7 @@ abbrev pub kind_of_call : CallEntry → EntryKind
 kind_of_call called.Disable = kinds.Standing
 kind_of_call (called.Enable answer) = kinds.Standing
 kind_of_call (called.Unlink answer dev) = kinds.Standing
+kind_of_call (called.Serve dev served) = kinds.Serve served
 kind_of_call _ = kinds.Other
 
 -- the kind of an entry, among the kinds that a summary tells apart

@@ -1,7 +1,7 @@
--- How an entry stands in one word (ours). From its low end a word has two bits that say who made the
--- entry (0 a processor, 1 a thread, 2 a driver), four of its kind, a code of 8, a first number of 16
--- and a second of 32. The first number is that of its maker, the code holds its small answers. The
--- kinds below 4 are the maker's own, those from 4 on calls.
+-- How an entry stands in one word (ours). From its low end a word has two bits that say who made
+-- the entry (0 a processor, 1 a thread, 2 a driver), four of its kind, a code of 8, a first number
+-- of 16 and a second of 32. The first number is that of its maker, the code holds its small
+-- answers. The kinds below 4 are the maker's own, those from 4 on calls.
 use Rattle.std.specs.Prelude.{ℕ, ◌/◌, ◌%◌, ◌<◌, ◌==◌, nat_lt, ◌≡◌, Bool, true, ◌&&◌}
 use Rattle.std.specs.Prelude.{if◌then◌else◌, List, get_or}
 use Rattle.irq_base.specs.declared.numbers.CpuNo.{CpuNo}

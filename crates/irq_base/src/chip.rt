@@ -47,8 +47,9 @@ pub trait Chip {
         ensures aimed { aimed self.new ≡ aimed self.old }
         ensures wiring { wiring self.new ≡ wiring self.old };
 
-    /// Opens the mask (`irq_unmask`).
+    /// Opens the mask (`irq_unmask`). Only of an active interrupt.
     fn unmask(&mut self)
+        requires activated { active self.old ≡ true }
         ensures cell { cell self.new ≡ after_unmask (cell self.old) }
         ensures active { active self.new ≡ active self.old }
         ensures aimed { aimed self.new ≡ aimed self.old }
@@ -76,10 +77,11 @@ pub trait Chip {
         ensures aimed { aimed self.new ≡ aimed self.old }
         ensures wiring { wiring self.new ≡ wiring self.old };
 
-    /// Sends the interrupt again, and answers whether the chips can (`irq_retrigger`). The mask is
-    /// open.
+    /// Sends the interrupt again, and answers whether the chips can (`irq_retrigger`). The
+    /// interrupt is active, and the mask open.
     fn retrigger(&mut self) -> bool
-        requires { (cell self.old).masked ≡ false }
+        requires activated { active self.old ≡ true }
+        requires open { (cell self.old).masked ≡ false }
         ensures answer { result ≡ can_retrigger (cell self.old) }
         ensures cell { cell self.new ≡ after_retrigger (cell self.old) }
         ensures active { active self.new ≡ active self.old }

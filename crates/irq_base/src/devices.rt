@@ -1,6 +1,6 @@
 //! Devices: what raises interrupts, and how a device's handlers answer.
 ghost use Rattle.std.specs.Prelude.{◌≡◌};
-ghost use Rattle.irq_base.specs.Handlers.{has_thread};
+ghost use Rattle.irq_base.specs.Handlers.{answer_of, answer_of_run, answer_of_told, has_thread};
 
 use crate::lists::ItemList;
 use crate::numbers::{DevNo, LineNo};
@@ -37,6 +37,25 @@ pub enum Kind {
     Null,
     /// The handler never serves and never recognises its device.
     Stuck,
+    /// The handler never recognises its device, and what was asked is gone by then: a glitch, or a
+    /// posted write that came late. There is no thread.
+    Odd,
+    /// Handler and thread answer as the board says (`ToldAnswer`). `threaded`: some answer of the
+    /// handler wakes the thread; the thread serves then, and else the handler.
+    Told { threaded: bool },
+}
+
+/// What the board says that a run of a told device does.
+#[derive(Clone, Copy, PartialEq, Eq)]
+pub enum ToldAnswer {
+    /// `IRQ_HANDLED`; the part that serves has served.
+    Handled,
+    /// `IRQ_WAKE_THREAD`.
+    Wake,
+    /// `IRQ_NONE`.
+    Nothing,
+    /// `IRQ_HANDLED`, and nothing is served: a poll or a program serves later.
+    Claims,
 }
 
 impl Kind {
@@ -46,8 +65,36 @@ impl Kind {
     {
         match self {
             Kind::Check | Kind::Null => true,
-            Kind::Direct | Kind::Stuck => false,
+            Kind::Direct | Kind::Stuck | Kind::Odd => false,
+            Kind::Told { threaded } => threaded,
         }
+    }
+
+    /// What a run of that part answers that began with so many unserved asks; `told`: what a told
+    /// device is to answer.
+    #[inline(always)]
+    pub fn answer(self, part: Part, unserved: u32, told: Option<ToldAnswer>) -> Answer
+        ensures { result ≡ answer_of self part unserved told }
+    {
+        match (self, part) {
+            (Kind::Told { .. }, _) => answer_of_told(told),
+            (Kind::Null, Part::Primary) => Answer::Wake,
+            (Kind::Check, Part::Primary) if unserved > 0 => Answer::Wake,
+            (Kind::Direct, Part::Primary) | (Kind::Check | Kind::Null, Part::Thread)
+                if unserved > 0 => { Answer::Handled }
+            _ => Answer::Nothing,
+        }
+    }
+}
+
+/// What a told device answers; nothing after its last answer.
+fn answer_of_told(told: Option<ToldAnswer>) -> Answer
+    ensures { result ≡ answer_of_told told }
+{
+    match told {
+        Some(ToldAnswer::Handled | ToldAnswer::Claims) => Answer::Handled,
+        Some(ToldAnswer::Wake) => Answer::Wake,
+        Some(ToldAnswer::Nothing) | None => Answer::Nothing,
     }
 }
 
@@ -60,6 +107,11 @@ pub struct DeviceDef {
     pub line: LineNo,
     /// How its handlers work.
     pub kind: Kind,
+    /// On an edge line its signal stays until all is served: an ask makes an edge only if nothing
+    /// of it was unserved.
+    pub held: bool,
+    /// On an edge line no edge comes as its own interrupt is turned on.
+    pub forgets: bool,
 }
 
 /// A run of a handler.
@@ -71,6 +123,17 @@ pub struct Run {
     pub part: Part,
     /// How many asks of the device were unserved as the run began.
     pub unserved: u32,
+    /// What a told device is to answer in this run; none for others.
+    pub told: Option<ToldAnswer>,
+}
+
+impl Run {
+    /// What it answers by the kind of its device.
+    pub fn answer(self) -> Answer
+        ensures { result ≡ answer_of_run self }
+    {
+        self.def.kind.answer(self.part, self.unserved, self.told)
+    }
 }
 
 /// The devices of a line, in order.

@@ -31,6 +31,9 @@ pub enum ControllerKind {
     Vector,
     /// A root that presents edges, stores them, and is handled by the fast-EOI flow.
     Lpi,
+    /// A root that presents edges, and stores an edge that comes while it is masked, but can't send
+    /// one again: most GPIO controllers.
+    Pin,
 }
 
 /// A domain (`struct irq_domain`).

@@ -211,14 +211,13 @@ pub enum CallEntry {
     Unlink { answer: UnlinkAnswer, dev: DevNo },
     /// The last step of `__free_irq`: the device's thread is at rest.
     Freed { dev: DevNo },
-    /// `irq_wake_thread`. `woken`: whether the thread is woken by it. No step makes it yet.
+    /// `irq_wake_thread`. `woken`: whether the thread is woken by it.
     Wake { woken: bool, dev: DevNo },
-    /// The device's own interrupt is turned off. No step makes it yet.
+    /// The device's own interrupt is turned off.
     Quiet { dev: DevNo },
-    /// The device's own interrupt is turned on. `edge`: whether that makes an edge. No step makes
-    /// it yet.
+    /// The device's own interrupt is turned on. `edge`: whether that makes an edge.
     Arm { edge: bool, dev: DevNo },
-    /// The device is served outside of a return. `served`: how many asks. No step makes it yet.
+    /// The device is served outside of a return. `served`: how many asks.
     Serve { dev: DevNo, served: u32 },
 }
 
@@ -232,9 +231,9 @@ pub enum Entry {
     Thread(DevNo, ThreadEntry),
     /// By a driver.
     Driver(DriverNo, DriverEntry),
-    /// By a handler, on its processor. No step makes it yet.
+    /// By a handler, on its processor.
     CpuCall(CpuNo, CallEntry),
-    /// By the handler of a device's thread. No step makes it yet.
+    /// By the handler of a device's thread.
     ThreadCall(DevNo, CallEntry),
     /// By a driver.
     DriverCall(DriverNo, CallEntry),

@@ -20,6 +20,8 @@ pub enum EntryKind {
     ThreadBegin,
     /// The thread's handler returned. `served`: how many asks it served.
     ThreadReturn { served: u32 },
+    /// A call served a device. `served`: how many asks it served.
+    Serve { served: u32 },
     /// What may change the line's depth or the devices that are linked: a disable, an enable, a
     /// request, an unlink, or an end that found too many interrupts unhandled.
     Standing,
@@ -79,13 +81,13 @@ fn kind_of_call(call: CallEntry) -> EntryKind
         CallEntry::Disable | CallEntry::Enable { .. } | CallEntry::Unlink { .. } => {
             EntryKind::Standing
         }
+        CallEntry::Serve { served, .. } => EntryKind::Serve { served },
         CallEntry::HardClear
         | CallEntry::Synced
         | CallEntry::Freed { .. }
         | CallEntry::Wake { .. }
         | CallEntry::Quiet { .. }
-        | CallEntry::Arm { .. }
-        | CallEntry::Serve { .. } => EntryKind::Other,
+        | CallEntry::Arm { .. } => EntryKind::Other,
     }
 }
 

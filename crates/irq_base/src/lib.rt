@@ -24,9 +24,9 @@ mod parts;
 pub mod reporting;
 pub mod waiting;
 
-pub use calls::{Call, CallList, Flags};
+pub use calls::{Call, CallList, Flags, RunCallList, ToldList};
 pub use chip::Chip;
-pub use devices::{Answer, DeviceDef, DeviceList, Kind, Part, Run};
+pub use devices::{Answer, DeviceDef, DeviceList, Kind, Part, Run, ToldAnswer};
 pub use domains::{ControllerKind, DomainDef, MapKind, Path};
 pub use entries::{
     Actor, AffinityAnswer, CallEntry, CpuEntry, DriverEntry, EnableAnswer, Entry, Errno,

@@ -1,7 +1,7 @@
 //! What is fixed of a line.
 ghost use Rattle.std.specs.Prelude.{◌≡◌, IfOk};
 
-use crate::calls::CallList;
+use crate::calls::{CallList, RunCallList, ToldList};
 use crate::devices::DeviceList;
 use crate::memory::NoMemory;
 use crate::numbers::LineNo;
@@ -61,6 +61,10 @@ pub struct LineDef {
     pub devices: DeviceList,
     /// The drivers' calls on it, at most 16,384, each driver's in the order of its script.
     pub calls: CallList,
+    /// The calls that runs of its devices' handlers and threads make, at most 256.
+    pub runs: RunCallList,
+    /// What its told devices answer, at most 65,536.
+    pub told: ToldList,
 }
 
 impl LineDef {
@@ -70,6 +74,8 @@ impl LineDef {
     {
         let devices = self.devices.try_clone(alloc)?;
         let calls = self.calls.try_clone(alloc)?;
+        let runs = self.runs.try_clone(alloc)?;
+        let told = self.told.try_clone(alloc)?;
         Ok(LineDef {
             line: self.line,
             flow: self.flow,
@@ -86,6 +92,8 @@ impl LineDef {
             log: self.log,
             devices,
             calls,
+            runs,
+            told,
         })
     }
 }

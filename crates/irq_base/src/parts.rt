@@ -338,7 +338,10 @@ impl Content {
     {
         match self.kind {
             DISABLE | ENABLE | UNLINK => EntryKind::Standing,
-            _ => EntryKind::Other,
+            HARD_CLEAR | SYNCED | FREED | WAKE | QUIET | ARM => EntryKind::Other,
+            _ => EntryKind::Serve {
+                served: self.served_part(),
+            },
         }
     }
 }

@@ -1,62 +1,56 @@
 -- Which entries are no takes, and what is due in a flow.
-use Rattle.std.proofs.Common.{◌≡◌, Bool, true, false, cond, Option, Some}
-use Rattle.std.proofs.Common.{None, List, [], ◌∷◌, refl, sym, ap, ◌∙◌, subst}
+use Rattle.std.proofs.Common.{◌≡◌, Bool, true, false, cond, is_some, Option, Some}
+use Rattle.std.proofs.Common.{None, List, [], ◌∷◌, refl, sym, subst}
 use Rattle.irq_base.specs.Who.{actor_of}
 use Rattle.irq_base.specs.declared.entries.Actor.{Actor}
 use Rattle.irq_base.specs.declared.entries.Actor.TheVariants as actors
 use Rattle.irq_base.specs.declared.entries.Entry.{Entry}
 use Rattle.irq_base.specs.declared.entries.Entry.TheVariants as by
-use Rattle.irq_base.specs.declared.lines.FlowKind.{FlowKind}
-use Rattle.irq_base.specs.declared.lines.FlowKind.TheVariants as flows
 use Rattle.irq_base.specs.declared.lines.LineDef.{LineDef}
 use Rattle.irq_base.specs.declared.numbers.CpuNo.{CpuNo}
-use Rattle.irq_base.specs.declared.numbers.DevNo.{DevNo}
 use Rattle.irq_model.specs.Kinds.{is_take}
-use Rattle.irq_model.specs.Next.{begin_or_end, end_by_flow, end_of, next_in_flow, next_take}
-use Rattle.irq_model.specs.Rounds.{at_work, first_left as first_dev, flow, is_cpu}
-use Rattle.irq_model.specs.Links.{linked}
-use Rattle.irq_model.specs.Lines.{is_edge_line}
-use Rattle.irq_model.specs.Spurious.{note_of}
+use Rattle.irq_model.specs.Next.{next_past}
+use Rattle.irq_model.specs.Rounds.{flow, is_cpu}
 use Rattle.irq_laws.proofs.Chosen.{the_same}
+use Rattle.irq_laws.proofs.ImpliesFlow.{CpuRow, calls, returns, begins, ends, takes, resent, cpu_row}
+use Rattle.irq_laws.proofs.Lists.{both_ways}
+use Rattle.play_laws.proofs.Moves.{flow_goes_on}
 use Rattle.board_play.specs.Lines.{BoardLine, Move}
 use Rattle.board_play.specs.Order.{due_on, flow_line, move_on}
+use Rattle.board_play.proofs.OfBoard.{HasCalmRuns}
 use Rattle.irq_chained.specs.Turned.{IsOther}
 
 pub other_is_no_take : (e : Entry) (a : Actor) → actor_of e ≡ a → IsOther a → is_take e ≡ false
 other_is_no_take (by.Cpu cpu e) a is other = absurd (subst (λ (x : Actor). IsOther x) (sym is) other)
 other_is_no_take e a is other = refl
 
-end_is_no_take : (d : LineDef) (c : CpuNo) (past : List Entry) → is_take (end_of d c past) ≡ false
-end_is_no_take d c past = by_flow d.flow
+-- in a flow of the processor an entry is due, since no run waits
+pub in_flow_moves : (x : BoardLine) (c : CpuNo) → HasCalmRuns x.def → is_cpu c (flow x.def x.past) ≡ true
+    → (e : Entry) × (due_on (Some x) (actors.Cpu c) ≡ Some (x.def.line, e))
+in_flow_moves x c runs on = by_next (next_past x.def x.past (actors.Cpu c)) (flow_goes_on x.def x.past runs.runs runs.waits c on)
   where
-    by_edge : (b : Bool) (x y : Entry) → is_take x ≡ false → is_take y ≡ false → is_take (cond b x y) ≡ false
-    by_edge true x y p q = p
-    by_edge false x y p q = q
+    by_next : (o : Option Entry) → is_some o ≡ true → (e : Entry) × (move_on x.def.line o ≡ Some (x.def.line, e))
+    by_next None some = cc
+    by_next (Some e) some = (e, refl)
 
-    by_flow : (f : FlowKind) → is_take (end_by_flow d f c past (note_of d past)) ≡ false
-    by_flow flows.Edge = refl
-    by_flow flows.Level = refl
-    by_flow flows.Eoi = by_edge (is_edge_line d) _ _ refl refl
-
-flow_is_no_take : (d : LineDef) (c : CpuNo) (past : List Entry) (o : Option DevNo) → is_take (next_in_flow d c past o) ≡ false
-flow_is_no_take d c past (Some dev) = refl
-flow_is_no_take d c past None = by_left (first_dev d past (linked past))
-  where
-    by_left : (o : Option DevNo) → is_take (begin_or_end d c past o) ≡ false
-    by_left None = end_is_no_take d c past
-    by_left (Some dev) = refl
-
--- in a flow of the processor an entry is due
-pub in_flow_due : (x : BoardLine) (c : CpuNo) → is_cpu c (flow x.def x.past) ≡ true
-    → due_on (Some x) (actors.Cpu c) ≡ Some (x.def.line, next_in_flow x.def c x.past (at_work x.past))
-in_flow_due x c on = ap (λ (b : Bool). move_on x.def.line (cond b (Some (next_in_flow x.def c x.past (at_work x.past))) (next_take x.def c x.past))) on
+-- and it is no take
+row_is_no_take : (d : LineDef) (c : CpuNo) (past : List Entry) (e : Entry) → is_cpu c (flow d past) ≡ true → CpuRow d c past e → is_take e ≡ false
+row_is_no_take d c past e on (calls call due is) = subst (λ (f : Entry). is_take f ≡ false) is refl
+row_is_no_take d c past e on (returns dev f w none is) = subst (λ (f : Entry). is_take f ≡ false) is refl
+row_is_no_take d c past e on (begins dev f w left is) = subst (λ (f : Entry). is_take f ≡ false) is refl
+row_is_no_take d c past e on (ends f w left is) = subst (λ (f : Entry). is_take f ≡ false) is refl
+row_is_no_take d c past e on (takes off aimed signal is) = both_ways (is_cpu c (flow d past)) on off
+row_is_no_take d c past e on (resent off aimed signal soft is) = both_ways (is_cpu c (flow d past)) on off
 
 pub in_flow_is_no_take : (x : BoardLine) (c : CpuNo) (m : Move) → is_cpu c (flow x.def x.past) ≡ true
     → due_on (Some x) (actors.Cpu c) ≡ Some m → is_take m.1 ≡ false
-in_flow_is_no_take x c m on due =
-    let made : Move = (x.def.line, next_in_flow x.def c x.past (at_work x.past)) in
-    let is : Some made ≡ Some m = sym (in_flow_due x c on) ∙ due in
-    subst (λ (n : Move). is_take n.1 ≡ false) (the_same made m is) (flow_is_no_take x.def c x.past (at_work x.past))
+in_flow_is_no_take x c m on due = by_next (next_past x.def x.past (actors.Cpu c)) refl due
+  where
+    by_next : (o : Option Entry) → next_past x.def x.past (actors.Cpu c) ≡ o → move_on x.def.line o ≡ Some m → is_take m.1 ≡ false
+    by_next None is due = cc
+    by_next (Some e) is due =
+        let made : Move = (x.def.line, e) in
+        subst (λ (n : Move). is_take n.1 ≡ false) (the_same made m due) (row_is_no_take x.def c x.past e on (cpu_row x.def c x.past e is))
 
 pub flow_line_on : (lines : List BoardLine) (c : CpuNo) (x : BoardLine) → flow_line lines c ≡ Some x → is_cpu c (flow x.def x.past) ≡ true
 flow_line_on [] c x is = cc

@@ -25,6 +25,7 @@ use Rattle.board_play.specs.Order.{due_line, due_on, flow_line, line_for, move_o
 use Rattle.board_play.proofs.KeptAlways.{apart_kept}
 use Rattle.board_play.proofs.Members.{find_there}
 use Rattle.board_play.proofs.Moves.{line_stands}
+use Rattle.board_play.proofs.Standstill.{calm_line}
 use Rattle.board_ready.specs.First.{first_of}
 use Rattle.board_ready.specs.Sets.{has}
 use Rattle.board_ready.proofs.Lowest.{first_some}
@@ -53,7 +54,7 @@ use Rattle.irq_chained.proofs.Chained.{due_own, take_is_due}
 use Rattle.irq_chained.proofs.Further.{some_of_0, somebody}
 use Rattle.irq_chained.proofs.Lowest.{other_next}
 use Rattle.irq_chained.proofs.StatusBits.{left_place}
-use Rattle.irq_chained.proofs.NoTakes.{other_is_no_take, in_flow_due, in_flow_is_no_take, flow_line_on}
+use Rattle.irq_chained.proofs.NoTakes.{other_is_no_take, in_flow_moves, in_flow_is_no_take, flow_line_on}
 use Rattle.irq_chained.proofs.Stepping.{WalkGoes, child_turn, lines_are, mark_goes, mark_kept, parent_level, steps_of, walk_stays, walk_takes}
 
 pub level_cell : {s : SystemSeen} {ms : List Mark} {walk : Option Walk} {parent : Cell} → IsDemux s ms walk parent → is_edge_cell parent ≡ false
@@ -125,10 +126,11 @@ module _ {s : SystemSeen} (t : SystemSeen) {ms : List Mark} {walk : Option Walk}
           ap (λ (o : Option ℕ). of_cpu_0 g (lines_in s.board g) o) st.1
           ∙ (ap (λ (ls : List BoardLine). in_chain g ls st.0 (flow_line ls cpu_0)) (lines_are d)
           ∙ (ap (λ (o : Option BoardLine). in_chain g lines st.0 o) is ∙ sym (ap (λ (o : Option BoardLine). child (due_on o (actors.Cpu cpu_0))) found))) in
+          let due = in_flow_moves x cpu_0 (calm_line s.board isb lines kept stands.place x stands.at) (flow_line_on lines cpu_0 x is) in
           child_turn t walk (actors.Cpu cpu_0) (find_line lines line) d next shows turn
           (λ refused. some_step seen isb _
           (next ∙ (ap (λ (o : Option BoardLine). child (due_on o (actors.Cpu cpu_0))) found
-          ∙ ap (λ (o : Option Move). child o) (in_flow_due x cpu_0 (flow_line_on lines cpu_0 x is))))) by
+          ∙ ap (λ (o : Option Move). child o) due.1))) by
           (walks x (flow_line_on lines cpu_0 x is) found turn by)
         where
           walks : (x : BoardLine) → is_cpu cpu_0 (flow x.def x.past) ≡ true → find_line lines line ≡ Some x

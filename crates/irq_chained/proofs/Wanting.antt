@@ -18,6 +18,7 @@ use Rattle.board_play.specs.Order.{actors_of, due_line, due_on, flow_line, line_
 use Rattle.board_play.proofs.KeptAlways.{apart_kept}
 use Rattle.board_play.proofs.Members.{find_there}
 use Rattle.board_play.proofs.Moves.{line_stands}
+use Rattle.board_play.proofs.Standstill.{calm_line}
 use Rattle.board_core.specs.Firsts.{is_take_due, number_of}
 use Rattle.board_core.specs.Seen.{SystemSeen, board_lines}
 use Rattle.board_core.specs.Turns.{CanMove, Turns}
@@ -37,7 +38,7 @@ use Rattle.irq_chained.specs.declared.marks.Marked.TheVariants as marks
 use Rattle.irq_chained.specs.declared.marks.Walk.{Walk}
 use Rattle.irq_chained.proofs.Chained.{take_is_due}
 use Rattle.irq_chained.proofs.Further.{some_choice}
-use Rattle.irq_chained.proofs.NoTakes.{flow_line_on, in_flow_due}
+use Rattle.irq_chained.proofs.NoTakes.{flow_line_on, in_flow_moves}
 use Rattle.irq_chained.proofs.Playing.{Turned, answered, at_pick, choice_of, lowest_next, with_step}
 use Rattle.irq_chained.proofs.Stepping.{lines_are, steps_of}
 use Rattle.irq_chained.proofs.Turning.{some_of}
@@ -157,7 +158,8 @@ module _ (may_want : Option Entry → Type 0) where
               ap (λ (o : Option ℕ). line_in_chain g (lines_in s.board g) o) st.1
               ∙ (ap (λ (ls : List BoardLine). or_line (flow_line ls cpu_0) (first_left g ls st.0)) (lines_are d)
               ∙ ap (λ (o : Option BoardLine). or_line o (first_left g lines st.0)) is) in
-              cpu_0_wants (Some x) next (ap (λ (o : Option Move). is_some o) (in_flow_due x cpu_0 (flow_line_on lines cpu_0 x is)))
+              let due = in_flow_moves x cpu_0 (calm_line s.board its_board lines its_lines stands.place x stands.at) (flow_line_on lines cpu_0 x is) in
+              cpu_0_wants (Some x) next (ap (λ (o : Option Move). is_some o) due.1)
               its turn answer same (subst (λ (o : Option BoardLine). WantsOn may_want s o (actors.Cpu cpu_0) turn) found wants)
 
       -- on the child that is taken

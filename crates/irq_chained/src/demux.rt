@@ -24,13 +24,13 @@ ghost use Rattle.irq_chained.specs.declared.chain.ChainEntry.TheVariants as step
 
 use crate::chain::{ChainEntry, ChainTurn};
 use crate::marks::{Mark, Marked, Walk};
+use crate::parent::ParentInput;
 use crate::status::{CPU_0, first_left, number_at, read_status, show, walk_after};
 use crate::walking::ChainWalk;
 use board_core::{System, Turn};
 use board_def::{Board, Layout};
 use callbacks::Handler;
-use chip_kinds::LevelChip;
-use irq_base::{Actor, Chip, LineNo, NoMemory};
+use irq_base::{Actor, LineNo, NoMemory};
 use irq_line::{IrqLine, MakesLine, StepRefused};
 use std::alloc::Global;
 use std::marker::Model;
@@ -40,7 +40,7 @@ use std::marker::Model;
 #[derive(Drop)]
 pub struct Demux<'b, L: IrqLine> {
     system: System<'b, L>,
-    parent: LevelChip,
+    parent: ParentInput,
     walk: Option<Walk>,
     marks: Vec<Mark>,
 }
@@ -50,10 +50,9 @@ impl<'b, L: IrqLine> Model for Demux<'b, L> {
 
     ghost Value = { DemuxSeen };
 
-    ghost view = { λ d. seen_of d.system d.marks.items (⟦<LevelChip as Chip>⟧.cell d.parent) };
+    ghost view = { λ d. seen_of d.system d.marks.items d.parent };
 
-    ghost invariant = { λ d. IsDemux d.system d.marks.items d.walk
-        (⟦<LevelChip as Chip>⟧.cell d.parent) };
+    ghost invariant = { λ d. IsDemux d.system d.marks.items d.walk d.parent };
 }
 
 impl<'b, L: IrqLine> Demux<'b, L> {
@@ -74,8 +73,7 @@ impl<'b, L: IrqLine> Demux<'b, L> {
     {
         let system = System::new(alloc, board, layout, maker)?;
         board.is_board();
-        let mut parent = LevelChip::new();
-        parent.unmask();
+        let mut parent = ParentInput::new();
         show(&mut parent, &system);
         Ok(Demux {
             system,
@@ -206,8 +204,7 @@ impl<'b, L: IrqLine> Demux<'b, L> {
         match self.marks.push(mark) {
             Err(_) => Err(StepRefused::NoMemory),
             Ok(()) => {
-                self.parent.mask();
-                self.parent.ack();
+                self.parent.enter();
                 self.walk = Some(Walk { status, taken: 0 });
                 Ok(ChainTurn::Moved(ChainEntry::Enter { cpu: CPU_0, status }))
             }
@@ -294,7 +291,7 @@ impl<'b, L: IrqLine> Demux<'b, L> {
         match self.marks.push(mark) {
             Err(_) => Err(StepRefused::NoMemory),
             Ok(()) => {
-                self.parent.unmask();
+                self.parent.exit();
                 self.walk = None;
                 Ok(ChainTurn::Moved(ChainEntry::Exit { cpu: CPU_0 }))
             }

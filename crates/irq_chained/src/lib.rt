@@ -17,6 +17,7 @@ pub mod demux;
 pub mod fits;
 pub mod laws;
 pub mod marks;
+pub mod parent;
 pub mod status;
 pub mod walking;
 

@@ -12,9 +12,9 @@ ghost use Rattle.irq_chained.specs.Parent.{is_asked};
 ghost use Rattle.irq_chained.specs.Walk.{IsWalkAfter, is_in_words};
 
 use crate::marks::Walk;
+use crate::parent::ParentInput;
 use board_core::{System, Turn};
-use chip_kinds::LevelChip;
-use irq_base::{Chip, CpuNo, LineNo};
+use irq_base::{CpuNo, LineNo};
 use irq_line::{IrqLine, StepRefused};
 
 /// The processor that takes the parent's interrupts.
@@ -31,12 +31,10 @@ pub(crate) fn read_status<L: IrqLine>(system: &System<'_, L>) -> u32
 }
 
 /// The parent's input shows whether a child has a take due.
-pub(crate) fn show<L: IrqLine>(parent: &mut LevelChip, system: &System<'_, L>)
+pub(crate) fn show<L: IrqLine>(parent: &mut ParentInput, system: &System<'_, L>)
     requires fits { is_for_chain system.now.board ≡ true }
-    requires level { is_edge_cell (⟦<LevelChip as Chip>⟧.cell parent.old) ≡ false }
-    ensures { ⟦<LevelChip as Chip>⟧.cell parent.new
-        ≡ after_high (is_asked (board_lines system.now.lines))
-        (⟦<LevelChip as Chip>⟧.cell parent.old) }
+    requires level { is_edge_cell parent.old ≡ false }
+    ensures { parent.new ≡ after_high (is_asked (board_lines system.now.lines)) parent.old }
 {
     parent.set_high(read_status(system) != 0);
 }

@@ -4,6 +4,7 @@ use Rattle.domain_hier.specs.Hierarchies.{HierarchySeen}
 use Rattle.irq_base.specs.declared.lines.LineDef.{LineDef}
 use Rattle.irq_laws.specs.LogLimit.{with_log}
 use Rattle.irq_model.specs.Valid.{IsValid}
+use Rattle.irq_model.specs.ValidRuns.{HasValidRuns}
 use Rattle.line_makers.specs.Chips.{HasChips}
 
 valid_with : (def : LineDef) → IsValid def → IsValid (with_log def 100000000)
@@ -30,6 +31,27 @@ valid_with def v = record {
   freed = v.freed;
 }
 
+runs_with : (def : LineDef) → HasValidRuns def → HasValidRuns (with_log def 100000000)
+runs_with def v = record {
+  few_calls = v.few_calls;
+  short_scripts = v.short_scripts;
+  few_answers = v.few_answers;
+  short_answers = v.short_answers;
+  devices = v.devices;
+  scripts = v.scripts;
+  stand = v.stand;
+  named = v.named;
+  named_by_drivers = v.named_by_drivers;
+  told_arms = v.told_arms;
+  answers = v.answers;
+  threads = v.threads;
+}
+
 -- the chips don't depend on it
 pub limited : (h : HierarchySeen) (virq : ℕ) (def : LineDef) → HasChips h virq def → HasChips h virq (with_log def 100000000)
-limited h virq def has = record { valid = valid_with def has.valid; chips = has.chips }
+limited h virq def has = record {
+  valid = valid_with def has.valid;
+  runs = runs_with def has.runs;
+  waits = has.waits;
+  chips = has.chips;
+}

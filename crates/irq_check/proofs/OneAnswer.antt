@@ -15,11 +15,11 @@ use Rattle.irq_check.proofs.OneVerdict.{one_verdict}
 module _ (b : BoardSeen) (log : List ℕ) where
   same_verdict : (v w : Verdict) → HasVerdict b log v → HasVerdict b log w → v ≡ w
   same_verdict v w p q =
-      one_verdict b p.0 q.0 (as_many b.lines (rows_of log) p.0 p.1) (one_history b.lines (rows_of log) (entries_of p.0) (entries_of q.0) p.1 q.1)
+      one_verdict b p.0 q.0 (as_many b (rows_of log) p.0 p.1) (one_history b (rows_of log) (entries_of p.0) (entries_of q.0) p.1 q.1)
       v w p.2 q.2
 
   not_both : (v : Verdict) (row : ℕ) → HasVerdict b log v → ChecksLog b log (verdicts.Malformed row) → ⊥
-  not_both v row p bad = not_malformed b.lines (rows_of log) (entries_of p.0) row p.1 bad
+  not_both v row p bad = not_malformed b (rows_of log) (entries_of p.0) row p.1 bad
 
   pub one_answer : (one other : Verdict) → ChecksLog b log one → ChecksLog b log other → one ≡ other
   one_answer verdicts.Lawful verdicts.Lawful p q = refl
@@ -30,7 +30,7 @@ module _ (b : BoardSeen) (log : List ℕ) where
   one_answer (verdicts.Unlawful l m) (verdicts.Malformed row) p q = absurd (not_both (verdicts.Unlawful l m) row p q)
   one_answer (verdicts.Malformed row) verdicts.Lawful p q = absurd (not_both verdicts.Lawful row q p)
   one_answer (verdicts.Malformed row) (verdicts.Unlawful k n) p q = absurd (not_both (verdicts.Unlawful k n) row q p)
-  one_answer (verdicts.Malformed row) (verdicts.Malformed too) p q = ap (λ n. verdicts.Malformed n) (one_row b.lines (rows_of log) row too p q)
+  one_answer (verdicts.Malformed row) (verdicts.Malformed too) p q = ap (λ n. verdicts.Malformed n) (one_row b (rows_of log) row too p q)
 
 same_ok : (p q : BoardSeen × List ℕ) → ◌≡◌ {A = Result (BoardSeen × List ℕ) BoardFault} (Ok p) (Ok q) → p ≡ q
 same_ok p q is = cc

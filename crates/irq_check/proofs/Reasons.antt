@@ -27,7 +27,7 @@ use Rattle.irq_check.proofs.OneVerdict.{each_placed, entries_at, right_or_not, t
 -- what is found of each line of this number among the rows
 abbrev pub IsFound : BoardSeen → List ℕ → LineNo → Option Undue → Type 0
 IsFound b log line found = (place : ℕ) (row : LineRow) (said : List LineEntry) → slice_get b.lines place ≡ Some row → row.line ≡ line
-    → AllZip (IsRowOn b.lines) (saying (rows_of log)) said → Explains (part_at b row place) line (rows_of log) said found
+    → AllZip (IsRowOn b) (saying (rows_of log)) said → Explains (part_at b row place) line (rows_of log) said found
 
 legal_judged : (b : BoardSeen) (row : LineRow) (placement : Placement) (es : List Entry) → IsLegalOf (part_of b row (Some placement)) es
     → JudgedLine b row placement es None
@@ -60,7 +60,7 @@ module _ (b : BoardSeen) (log : List ℕ) (line : LineNo) (entry : ℕ) (has : H
   isnt_legal : IsLegalOf (part_at b row place) (entries_on said line) → ⊥
   isnt_legal legal =
       let placed = each_placed b in
-      let many = as_many b.lines (rows_of log) logs has.1 in
+      let many = as_many b (rows_of log) logs has.1 in
       let p = there (layout_of b) place (omega (arith, placed, within)) in
       let h = there logs place (omega (arith, many, within)) in
       let here : IsLegalOf (part_of b row (Some p.0)) (entries_on said row.line) =
@@ -84,7 +84,7 @@ explained b log verdict line entry found is checks finds =
 pub explained_if : (b : BoardSeen) (log : List ℕ) (verdict : Verdict) (line : LineNo) (entry : ℕ)
     → verdict ≡ verdicts.Unlawful line entry → ChecksLog b log verdict → (r : Result (Option Undue) NoMemory)
     → ((place : ℕ) (row : LineRow) (said : List LineEntry) → slice_get b.lines place ≡ Some row → row.line ≡ line
-    → AllZip (IsRowOn b.lines) (saying (rows_of log)) said → IfOk r (Explains (part_at b row place) line (rows_of log) said))
+    → AllZip (IsRowOn b) (saying (rows_of log)) said → IfOk r (Explains (part_at b row place) line (rows_of log) said))
     → IfOk r (λ (found : Option Undue). IsReason b log verdict found)
 explained_if b log verdict line entry is checks (Ok found) finds = explained b log verdict line entry found is checks finds
 explained_if b log verdict line entry is checks (Err refused) finds = tt

@@ -8,6 +8,7 @@ use Rattle.log_check.specs.declared.verdict.Verdict.TheVariants as verdicts
 use Rattle.log_check.specs.declared.why.DueThen.{DueThen}
 use Rattle.log_check.specs.declared.why.DueThen.TheVariants as dues
 use Rattle.log_check.specs.declared.why.Undue.{Undue}
+use Rattle.log_text.specs.EntryWords.{actor_word}
 use Rattle.log_text.specs.Rows.{entry_text}
 use Rattle.irq_check.specs.declared.answers.Judgement.{Judgement}
 
@@ -21,7 +22,7 @@ verdict_text (verdicts.Malformed row) = codes "malformed " ++ decimal row ++ cod
 abbrev pub obstacle_text : Obstacle → List ℕ
 obstacle_text (obstacles.Flow cpu) = codes "the flow of c" ++ decimal cpu.0
 obstacle_text (obstacles.Thread dev) = codes "the thread of " ++ decimal dev.0
-obstacle_text (obstacles.Mutex driver) = codes "the mutex of d" ++ decimal driver.0
+obstacle_text (obstacles.Mutex holder) = codes "the mutex of " ++ actor_word holder
 obstacle_text obstacles.Masked = codes "masked"
 obstacle_text obstacles.NoSignal = codes "no signal"
 obstacle_text (obstacles.Target cpu) = codes "the target is c" ++ decimal cpu.0

@@ -47,7 +47,7 @@ pub record IsWhy (board : BoardSeen) (log : List ℕ) (line : LineNo) (undue : U
   pub at : slice_get board.lines place ≡ Some row
   pub of : row.line ≡ line
   pub said : List LineEntry
-  pub each : AllZip (IsRowOn board.lines) (saying (rows_of log)) said
+  pub each : AllZip (IsRowOn board) (saying (rows_of log)) said
   pub is : IsUndue (part_at board row place) line (rows_of log) said undue
 
 -- why a log has this verdict: there is a reason exactly if it is unlawful

@@ -1,10 +1,11 @@
 //! The rows that say the verdict on a log, and why it is unlawful.
-ghost use Rattle.std.specs.Prelude.{◌≡◌, ◌+◌, ◌++◌, ◌≤◌, length, [], codes, decimal};
+ghost use Rattle.std.specs.Prelude.{◌≡◌, ◌+◌, ◌∷◌, ◌++◌, ◌≤◌, length, [], codes, decimal};
 ghost use Rattle.irq_check.specs.AnswerText.{answer_text, obstacle_text, verdict_text, why_text};
 ghost use Rattle.irq_check.specs.Checked.{IsPrintableAnswer};
 ghost use Rattle.log_check.specs.Why.{IsPrintableDue};
+ghost use Rattle.log_text.specs.EntryWords.{actor_word};
 
-use irq_base::LineNo;
+use irq_base::{Actor, LineNo};
 use line_obstacles::Obstacle;
 use log_check::{DueThen, Undue, Verdict};
 use log_text::entry_row;
@@ -92,9 +93,9 @@ fn push_obstacle(row: &mut TextRow, obstacle: Obstacle)
             row.push_bytes(b"the thread of ");
             row.push_number(dev.0);
         }
-        Obstacle::Mutex(driver) => {
-            row.push_bytes(b"the mutex of d");
-            row.push_number(driver.0);
+        Obstacle::Mutex(holder) => {
+            row.push_bytes(b"the mutex of ");
+            push_actor(row, holder);
         }
         Obstacle::Masked => row.push_bytes(b"masked"),
         Obstacle::NoSignal => row.push_bytes(b"no signal"),
@@ -103,4 +104,26 @@ fn push_obstacle(row: &mut TextRow, obstacle: Obstacle)
             row.push_number(cpu.0);
         }
     }
+}
+
+/// Adds the actor, a letter and the number right behind it.
+fn push_actor(row: &mut TextRow, actor: Actor)
+    requires { length row.old ≤ 120 }
+    ensures text { row.new ≡ row.old ++ actor_word actor }
+    ensures short { length row.new ≤ length row.old + 12 }
+{
+    match actor {
+        Actor::Cpu(cpu) => push_lettered(row, b'c', cpu.0),
+        Actor::Thread(dev) => push_lettered(row, b't', dev.0),
+        Actor::Driver(driver) => push_lettered(row, b'd', driver.0),
+    }
+}
+
+fn push_lettered(row: &mut TextRow, letter: u8, number: u32)
+    requires { length row.old ≤ 120 }
+    ensures text { row.new ≡ row.old ++ letter ∷ decimal number }
+    ensures short { length row.new ≤ length row.old + 12 }
+{
+    row.push(letter);
+    row.push_number(number);
 }

@@ -21,7 +21,8 @@ use text_row::TextRow;
 /// # Errors
 ///
 /// `Input` if the input gives no judgement: its first fault; a read fault; memory was refused.
-/// Nothing is printed then. `Write` if the input was judged, and a write or a flush of `out` failed.
+/// Nothing is printed then. `Write` if the input was judged, and a write or a flush of `out`
+/// failed.
 pub fn check_and_print<S: Source, O: Sink, M: MakesDomainLine>(
     alloc: Global,
     why: bool,

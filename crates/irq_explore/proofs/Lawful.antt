@@ -1,18 +1,21 @@
 -- A log that was found is lawful: its text is that of a log of the board, on which `check` says so.
-use Rattle.std.proofs.Common.{◌≡◌, ℕ, ◌<◌, Bool, true, false, not, ◌&&◌, cond, eqb, ltb, Some, None, List, [], ◌∷◌, ◌++◌}
+use Rattle.std.proofs.Common.{◌≡◌, ℕ, zero, suc, ◌<◌, Bool, true, false, not, ◌&&◌, ◌||◌, cond, eqb, Some, None, List, [], ◌∷◌}
 use Rattle.std.proofs.Common.{Vec, Global, length, map, slice_get, reverse, codes, All, refl, sym, ap, subst, ◌∙◌, append_assoc, arith}
 use Rattle.std.specs.List.{AllZip, filter, join_with_byte}
 use Rattle.std.specs.Option.{option_map}
-use Rattle.std.proofs.lemmas.Bool.{and_parts, ltb-true, ne_eqb, eqb-true}
-use Rattle.std.proofs.lemmas.List.{reverse-reverse}
+use Rattle.std.proofs.lemmas.Bool.{eqb-true}
+use Rattle.std.proofs.lemmas.List.{length-map, reverse-reverse}
 use Rattle.std.proofs.lemmas.List.Elements.{All-cons, All-head, All-nil, All-tail}
 use Rattle.std.proofs.lemmas.Option.{same_Some, slice_get-map}
 use Rattle.board_def.specs.Layout.{layout_of}
-use Rattle.board_def.specs.LineOf.{line_of_row}
+use Rattle.board_def.specs.LineOf.{line_defs_of, line_of_row}
 use Rattle.board_def.specs.Rules.{has_line}
 use Rattle.board_def.specs.Seen.{BoardSeen}
+use Rattle.board_def.specs.Unnamed.{defs_of, leaf_of, leaves_of}
 use Rattle.board_def.specs.declared.rows.LineRow.{LineRow}
 use Rattle.board_report.proofs.Printable.{printable, turned}
+use Rattle.board_words.specs.Versions.{has_runs}
+use Rattle.domain_rules.proofs.Placed.{laid_all}
 use Rattle.domain_rules.specs.declared.layouts.Placement.{Placement}
 use Rattle.domain_rules.specs.declared.layouts.Placement.TheVariants as placements
 use Rattle.irq_base.specs.Seen.{HistorySeen}
@@ -29,13 +32,17 @@ use Rattle.line_wanted.specs.declared.wanted.Wanted.TheVariants as wants
 use Rattle.log_check.specs.Judging.{logs_of}
 use Rattle.log_check.specs.Verdicts.{ChecksLog, JudgedAt, JudgedLine}
 use Rattle.log_check.specs.declared.verdict.Verdict.TheVariants as verdicts
-use Rattle.log_read.specs.LogOf.{IsRowOn, LineEntry, Tell, begins_with_hash, entries_of, entries_on, is_feed}
-use Rattle.log_read.specs.LogOf.{is_passed_over, is_whole, onto_first, rows_of, saying}
-use Rattle.log_text.proofs.Splitting.{are_above, row_within, row_words}
+use Rattle.log_read.specs.Adding.{IsPlaceOf}
+use Rattle.log_read.specs.LogOf.{IsRowOn, LineEntry, Tell, entries_of, entries_on}
+use Rattle.log_read.specs.LogOf.{is_passed_over, is_whole, rows_of, saying}
+use Rattle.log_read.specs.Versions.{may_have, needs_runs}
+use Rattle.log_text.proofs.Splitting.{row_within, row_words}
 use Rattle.log_text.specs.EntryWords.{IsPrintable}
 use Rattle.log_text.specs.Formed.{HasSmallNumbers, IsSmall, IsWritable}
 use Rattle.log_text.specs.Rows.{entry_text, history_text}
-use Rattle.explore_picks.proofs.Lawful.{no_hash, row_first}
+use Rattle.explore_picks.proofs.Allowed.{may_have_row}
+use Rattle.explore_picks.proofs.Lawful.{no_hash, of_all, row_first}
+use Rattle.board_versions.specs.OfVersion.{HasOldRows, IsOfItsVersion}
 use Rattle.irq_explore.specs.Answered.{Answered, AnsweredLine, AnsweredRefused, IsLawful}
 use Rattle.irq_explore.specs.Printing.{HasSmallAnswer, IsPrintableAnswer}
 
@@ -85,12 +92,16 @@ module _ (line : LineNo) (number : IsSmall line.0) where
   abbrev said_of : List Entry → List LineEntry
   said_of es = map (λ (e : Entry). (line, e)) es
 
-  rows_on : (lines : List LineRow) → has_line lines line ≡ true → (es : List Entry) → All IsWritable es
-      → AllZip (IsRowOn lines) (map (entry_text line) es) (said_of es)
-  rows_on lines there [] w = tt
-  rows_on lines there (e ∷ es) w = (
-    record { formed = record { text = refl; number = number; writable = All-head IsWritable e es w }; declared = there },
-    rows_on lines there es (All-tail IsWritable e es w),
+  rows_on : (b : BoardSeen) → has_line b.lines line ≡ true → (es : List Entry) → All IsWritable es → All (λ e. may_have b.version e ≡ true) es
+      → AllZip (IsRowOn b) (map (entry_text line) es) (said_of es)
+  rows_on b there [] w v = tt
+  rows_on b there (e ∷ es) w v = (
+    record {
+      formed = record { text = refl; number = number; writable = All-head IsWritable e es w };
+      allowed = All-head (λ e. may_have b.version e ≡ true) e es v;
+      declared = there;
+    },
+    rows_on b there es (All-tail IsWritable e es w) (All-tail (λ e. may_have b.version e ≡ true) e es v),
   )
 
   -- the entries that they say of a line
@@ -141,18 +152,19 @@ on_none b row (placements.Mapped virq path) = tt
 on_none b row (placements.Refused why) = refl
 
 module _ (states : ℕ) (b : BoardSeen) (line : LineNo) (wanted : Wanted) (answer : Answer) (answered : Answered states b line wanted answer)
-    (es : List Entry) (found : IsFound answer es) (there : has_line b.lines line ≡ true) (number : IsSmall line.0) (writable : All IsWritable es) where
+    (es : List Entry) (found : IsFound answer es) (there : has_line b.lines line ≡ true) (number : IsSmall line.0) (writable : All IsWritable es)
+    (allowed : All (λ e. may_have b.version e ≡ true) es) where
   abbrev said : List LineEntry
   said = said_of line number es
 
   abbrev log_of : LineRow → HistorySeen
   log_of row = record { entries = entries_on said row.line; spare = 0 }
 
-  tells : Tell b.lines (rows_of (history_text line es)) (entries_of (logs_of b.lines said))
+  tells : Tell b (rows_of (history_text line es)) (entries_of (logs_of b.lines said))
   tells = record {
     said = said;
-    each = subst (λ rows. AllZip (IsRowOn b.lines) rows said)
-        (sym (ap saying (text_rows line number es writable) ∙ all_say line number es writable)) (rows_on line number b.lines there es writable);
+    each = subst (λ rows. AllZip (IsRowOn b) rows said)
+        (sym (ap saying (text_rows line number es writable) ∙ all_say line number es writable)) (rows_on line number b there es writable allowed);
     are = entries_are b.lines said;
   }
 
@@ -176,12 +188,69 @@ module _ (states : ℕ) (b : BoardSeen) (line : LineNo) (wanted : Wanted) (answe
   checks : ChecksLog b (history_text line es) verdicts.Lawful
   checks = (logs_of b.lines said, tells, verdict)
 
+-- the board's log may have each row of what was found, if the board has what its version has
+past_allowed : (def : LineDef) (version : ℕ) (own : has_runs version ≡ false → HasOldRows def) (past : List Entry) → IsLegalPast def past
+    → All (λ e. may_have version e ≡ true) past
+past_allowed def version own [] legal = All-nil (λ e. may_have version e ≡ true)
+past_allowed def version own (e ∷ past) legal =
+    All-cons (λ e. may_have version e ≡ true) e past (by (has_runs version) refl) (past_allowed def version own past legal.1)
+  where
+    by : (t : Bool) → has_runs version ≡ t → may_have version e ≡ true
+    by true is = ap (λ r. r || not (needs_runs e)) is
+    by false is = may_have_row def (own is) version e past legal.1 legal.0
+
+row_allowed : (b : BoardSeen) (row : LineRow) (i : ℕ) → IsOfItsVersion b → slice_get b.lines i ≡ Some row → (es : List Entry)
+    → IsLegal (line_of_row b row) es → All (λ e. may_have b.version e ≡ true) es
+row_allowed b row i own at es legal =
+    subst (All (λ e. may_have b.version e ≡ true)) (reverse-reverse es)
+    (turned (λ e. may_have b.version e ≡ true) (reverse es) (past_allowed (line_of_row b row) b.version old (reverse es) legal))
+  where
+    there : slice_get (line_defs_of b) i ≡ Some (line_of_row b row)
+    there = slice_get-map (line_of_row b) b.lines i ∙ ap (option_map (line_of_row b)) at
+
+    old : has_runs b.version ≡ false → HasOldRows (line_of_row b row)
+    old is = of_all HasOldRows (line_defs_of b) i (line_of_row b row) (own is) there
+
+-- of a line with its place in the layout
+found_allowed : (states : ℕ) (b : BoardSeen) (row : LineRow) (i : ℕ) → IsOfItsVersion b → slice_get b.lines i ≡ Some row → (placement : Placement)
+    (wanted : Wanted) (v : Vec Entry Global) → AnsweredLine states b row placement wanted (answers.Found v)
+    → All (λ e. may_have b.version e ≡ true) v.items
+found_allowed states b row i own at (placements.Mapped virq path) wanted v says =
+    row_allowed b row i own at v.items (legal_of (line_of_row b row) wanted (reverse v.items) says.meets)
+found_allowed states b row i own at (placements.Refused why) wanted v says =
+    subst (All (λ e. may_have b.version e ≡ true)) (sym (none_found wanted v says)) (All-nil (λ e. may_have b.version e ≡ true))
+
+there_at : {X : Type 0} (xs : List X) (i : ℕ) → i < length xs → (x : X) × (slice_get xs i ≡ Some x)
+there_at [] i within = absurd (omega (arith, within))
+there_at (x ∷ xs) zero within = (x, refl)
+there_at (x ∷ xs) (suc i) within = there_at xs i (omega (arith, within))
+
+-- there is a place in the layout for each line
+layout_length : (b : BoardSeen) → length (layout_of b) ≡ length b.lines
+layout_length b = laid_all (defs_of b.domains) [] (leaves_of b.lines) ∙ length-map b.lines leaf_of
+
+-- the place of a line that the board has
+place_of : (lines : List LineRow) (line : LineNo) → has_line lines line ≡ true → (i : ℕ) × IsPlaceOf lines line i × (i < length lines)
+place_of [] line there = cc
+place_of (row ∷ rows) line there = by (eqb row.line.0 line.0) refl (place_of rows line)
+  where
+    by : (t : Bool) → eqb row.line.0 line.0 ≡ t → (has_line rows line ≡ true → (i : ℕ) × IsPlaceOf rows line i × (i < length rows))
+        → (i : ℕ) × IsPlaceOf (row ∷ rows) line i × (i < length (row ∷ rows))
+    by true is behind = (0, (row, refl, ap line_no (eqb-true row.line.0 line.0 is)), omega arith)
+    by false is behind =
+        let rest = behind (sym (ap (λ t. t || has_line rows line) is) ∙ there) in
+        (suc rest.0, rest.1, omega (arith, rest.2))
+
 pub lawful : (states : ℕ) (b : BoardSeen) (line : LineNo) (wanted : Wanted) (answer : Answer) → Answered states b line wanted answer
-    → has_line b.lines line ≡ true → IsSmall line.0 → IsPrintableAnswer answer → HasSmallAnswer answer → IsLawful b line answer
-lawful states b line wanted (answers.Found v) answered there number printable small =
+    → has_line b.lines line ≡ true → IsSmall line.0 → IsPrintableAnswer answer → HasSmallAnswer answer → IsOfItsVersion b → IsLawful b line answer
+lawful states b line wanted (answers.Found v) answered there number printable small own =
+    let o = place_of b.lines line there in
+    let row = o.1.0 in
+    let placed = there_at (layout_of b) o.0 (omega (arith, o.2, layout_length b)) in
     checks states b line wanted (answers.Found v) answered v.items refl there number (all_writable v.items printable small)
-lawful states b line wanted answers.Never answered there number printable small = tt
-lawful states b line wanted (answers.NotWithin n) answered there number printable small = tt
+    (found_allowed states b row o.0 own o.1.1 placed.0 wanted v (answered o.0 row placed.0 o.1.1 o.1.2 placed.1))
+lawful states b line wanted answers.Never answered there number printable small own = tt
+lawful states b line wanted (answers.NotWithin n) answered there number printable small own = tt
 
 -- what is answered of a line can be printed
 pub printable_said : (states : ℕ) (def : LineDef) (wanted : Wanted) (answer : Answer) → IsAnswer states def wanted answer → IsPrintableAnswer answer

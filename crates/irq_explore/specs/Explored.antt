@@ -1,6 +1,7 @@
 -- What the exploring of a board says, by how it ended.
 use Rattle.std.specs.Prelude.{◌≡◌, ℕ, Bool, true, false, Option, Some, None, List, Result, Ok, Err}
 use Rattle.board_def.specs.Seen.{BoardSeen}
+use Rattle.board_versions.specs.OfVersion.{IsOfItsVersion}
 use Rattle.explore_picks.specs.declared.failing.ExploreFailed.{ExploreFailed}
 use Rattle.explore_picks.specs.declared.failing.ExploreFailed.TheVariants as fails
 use Rattle.irq_base.specs.declared.numbers.LineNo.{LineNo}
@@ -23,13 +24,14 @@ found_by line (answers.Found es) = finds.Done
 found_by line answers.Never = finds.Never
 found_by line (answers.NotWithin n) = finds.Cut line
 
--- this is the answer, a log in it is lawful, and the output gained its text
+-- this is the answer, a log in it is lawful if the board has what its version has, and the output
+-- gained its text
 pub record SaysAnswer (states : ℕ) (b : BoardSeen) (line : LineNo) (wanted : Wanted)
     (before now : Option (List ℕ)) (write : Result Unit WriteFailed) (answer : Answer)
     : Type 0 where
   pub there : has_all b line wanted ≡ true
   pub answered : Answered states b line wanted answer
-  pub lawful : IsLawful b line answer
+  pub lawful : IsOfItsVersion b → IsLawful b line answer
   pub written : WritesAll before now (answer_text line answer) write
 
 -- What is wanted of a line was looked for, through its states up to a limit. The answer is

@@ -11,21 +11,22 @@ use Rattle.irq_base.specs.declared.calls.Call.TheVariants as calls
 use Rattle.irq_base.specs.declared.devices.DeviceDef.{DeviceDef}
 use Rattle.irq_base.specs.declared.lines.LineDef.{LineDef}
 use Rattle.irq_base.specs.declared.entries.Entry.{Entry}
-use Rattle.irq_base.specs.declared.entries.Entry.TheVariants as by
 use Rattle.irq_base.specs.declared.entries.CallEntry.{CallEntry}
 use Rattle.irq_base.specs.declared.entries.CallEntry.TheVariants as called
 use Rattle.irq_base.specs.declared.waiting.WaitFor.{WaitFor}
 use Rattle.irq_base.specs.declared.waiting.WaitFor.TheVariants as waits
 use Rattle.irq_model.specs.Legal.{IsLegalPast}
+use Rattle.irq_model.specs.Kinds.{made_by}
 use Rattle.irq_model.specs.Lines.{is_device}
 use Rattle.irq_model.specs.Places.{count_of}
 use Rattle.irq_model.specs.Reason.{is_being_freed}
 use Rattle.irq_model.specs.Rounds.{has_flow}
 use Rattle.irq_model.specs.Threads.{is_woken, is_running, active_count}
 use Rattle.irq_model.specs.Due.{due_call, holds_mutex}
-use Rattle.irq_model.specs.Next.{next_of_free, next_of_disable, next_of_sync, next_of_call, hard_clear_of, synced_of}
+use Rattle.irq_model.specs.Next.{next_of_free, next_of_disable, next_of_disable_hard, next_of_sync, next_of_driver, hard_clear_of, synced_of}
 use Rattle.irq_model.specs.Next.{freed_of, request_of, unlink_answer, next_past}
 use Rattle.irq_model.specs.Valid.{IsValid}
+use Rattle.irq_base.specs.declared.entries.Actor.{Actor}
 use Rattle.irq_base.specs.declared.entries.Actor.TheVariants as actors
 use Rattle.irq_steps.proofs.Same.{dev_from_same}
 use Rattle.irq_laws.specs.Blocks.{block_of, stands_in_way, is_freed_at_work}
@@ -41,7 +42,7 @@ use Rattle.irq_laws.proofs.ReasonLaws.{one_is_freed}
 not_none : (n : ℕ) → 1 ≤ n → (n == 0) ≡ false
 not_none n some = false_from_ne_true (n == 0) (λ h. let z = eqb-true n 0 h in omega (arith, z, some))
 
-none_counted : {A : Type 0} (p q : A → Bool) (xs : List A) → ((count_of p xs + count_of q xs) == 0) ≡ not (list_any (λ x. p x || q x) xs)
+pub none_counted : {A : Type 0} (p q : A → Bool) (xs : List A) → ((count_of p xs + count_of q xs) == 0) ≡ not (list_any (λ x. p x || q x) xs)
 none_counted p q [] = refl
 none_counted p q (x ∷ xs) = by_tests (p x) (q x) (none_counted p q xs)
   where
@@ -66,7 +67,7 @@ any_same false (x ∷ xs) h = any_same false xs h
 
 module _ (def : LineDef) (past : List Entry) (valid : IsValid def) (legal : IsLegalPast def past) where
   -- the device of the free that is under way is the one that is being freed
-  being_freed : (r : DriverNo) (d : DevNo) → freeing past ≡ Some (r, d) → is_being_freed past d ≡ true
+  being_freed : (r : Actor) (d : DevNo) → freeing past ≡ Some (r, d) → is_being_freed past d ≡ true
   being_freed r d under =
       let held = (one_is_freed def past valid legal).held (freeing_holds past (r, d) under) in
       let one = (kept def past valid legal).frees.one_device held.0 held.1 in
@@ -78,7 +79,7 @@ module _ (def : LineDef) (past : List Entry) (valid : IsValid def) (legal : IsLe
   abbrev freed_at_work : DevNo → Bool
   freed_at_work d = is_being_freed past d && at_work d
 
-  pub freed_is : (r : DriverNo) (d : DevNo) → freeing past ≡ Some (r, d) → (is_woken past d || is_running past d) ≡ is_freed_at_work def past
+  pub freed_is : (r : Actor) (d : DevNo) → freeing past ≡ Some (r, d) → (is_woken past d || is_running past d) ≡ is_freed_at_work def past
   freed_is r d under = same_tests (at_work d) (is_freed_at_work def past) told meant
     where
       told : at_work d ≡ true → is_freed_at_work def past ≡ true
@@ -106,15 +107,9 @@ IsFreed def past _ _ = Unit {0}
 pub its_free : (def : LineDef) (past : List Entry) → IsValid def → IsLegalPast def past
     → (r : DriverNo) (c : Call) (n : ℕ) → due_call def r past ≡ Some (c, n) → IsFreed def past c n
 its_free def past valid legal r (calls.Free d) zero is = tt
-its_free def past valid legal r (calls.Free d) (suc n) is = freed_is def past valid legal r d ((kept def past valid legal).frees.within r d n is)
-its_free def past valid legal r (calls.Ask d) n is = tt
-its_free def past valid legal r (calls.Request d flags) n is = tt
-its_free def past valid legal r calls.Disable n is = tt
-its_free def past valid legal r calls.DisableNosync n is = tt
-its_free def past valid legal r calls.Enable n is = tt
-its_free def past valid legal r calls.Sync n is = tt
-its_free def past valid legal r (calls.Affinity mask) n is = tt
-its_free def past valid legal r (calls.Moment at) n is = tt
+its_free def past valid legal r (calls.Free d) (suc n) is =
+    freed_is def past valid legal (actors.Driver r) d ((kept def past valid legal).frees.within (actors.Driver r) d n is)
+its_free def past valid legal r c n is = tt
 
 -- ---- the rows
 
@@ -160,12 +155,17 @@ sync_row def past n =
     either def past (n == 0) (hard_clear_of def past) (synced_of def past) waits.Flow waits.Threads
     (unless (has_flow def past) called.HardClear) (synced def past)
 
-made : (r : DriverNo) (o : Option CallEntry) → is_some (option_map (by.DriverCall r) o) ≡ is_some o
+made : (r : DriverNo) (o : Option CallEntry) → is_some (option_map (made_by (actors.Driver r)) o) ≡ is_some o
 made r None = refl
 made r (Some call) = refl
 
+disable_hard_row : (def : LineDef) (past : List Entry) (n : ℕ)
+    → is_some (next_of_disable_hard def n past) ≡ not (stands_in_way def past (block_of calls.DisableHard n))
+disable_hard_row def past n =
+    either def past (n == 0) (Some called.Disable) (hard_clear_of def past) waits.Nothing waits.Flow refl (unless (has_flow def past) called.HardClear)
+
 row : (def : LineDef) (r : DriverNo) (past : List Entry) (c : Call) (n : ℕ) → IsFreed def past c n
-    → is_some (next_of_call def r past (Some (c, n))) ≡ not (stands_in_way def past (block_of c n))
+    → is_some (next_of_driver def r past (Some (c, n))) ≡ not (stands_in_way def past (block_of c n))
 row def r past (calls.Ask d) n freed = refl
 row def r past (calls.Request d flags) n freed = unless (holds_mutex past) (request_of def r d flags past)
 row def r past (calls.Free d) n freed = made r (next_of_free def d n past) ∙ free_row def past d n freed
@@ -175,11 +175,17 @@ row def r past calls.Enable n freed = refl
 row def r past calls.Sync n freed = made r (next_of_sync def n past) ∙ sync_row def past n
 row def r past (calls.Affinity mask) n freed = refl
 row def r past (calls.Moment at) n freed = refl
+row def r past calls.SyncHard n freed = made r (hard_clear_of def past) ∙ unless (has_flow def past) called.HardClear
+row def r past calls.DisableHard n freed = made r (next_of_disable_hard def n past) ∙ disable_hard_row def past n
+row def r past (calls.Wake d) n freed = refl
+row def r past (calls.Quiet d) n freed = refl
+row def r past (calls.Arm d) n freed = refl
+row def r past (calls.Serve d) n freed = refl
 
 pub freed_waits : (def : LineDef) (past : List Entry) (r : DriverNo) (c : Call) (n : ℕ) → IsFreed def past c n
     → due_call def r past ≡ Some (c, n) → is_some (next_past def past (actors.Driver r))
     ≡ not (stands_in_way def past (block_of c n))
-freed_waits def past r c n freed is = ap (λ (o : Option (Call × ℕ)). is_some (next_of_call def r past o)) is ∙ row def r past c n freed
+freed_waits def past r c n freed is = ap (λ (o : Option (Call × ℕ)). is_some (next_of_driver def r past o)) is ∙ row def r past c n freed
 
 pub call_waits : (def : LineDef) (past : List Entry) → IsValid def → IsLegalPast def past
     → (r : DriverNo) (c : Call) (n : ℕ) → due_call def r past ≡ Some (c, n)

@@ -1,17 +1,24 @@
 -- Each entry drives the cell to the marks that are read off the past.
-use Rattle.std.proofs.Common.{◌≡◌, ℕ, Bool, true, false, not, ◌||◌, ◌&&◌, cond, is_some, List, [], ◌∷◌, nat_lt, reverse, refl, sym, ap, ◌∙◌, arith}
+use Rattle.std.proofs.Common.{◌≡◌, ℕ, Bool, true, false, not, ◌||◌, ◌&&◌, cond, is_some, Option, Some, None, List, []}
+use Rattle.std.proofs.Common.{◌∷◌, nat_lt, reverse, refl, sym, ap, ◌∙◌, arith}
 use Rattle.std.proofs.lemmas.Bool.{and_parts, and_from, and_right, or_parts, false_from_ne_true}
 use Rattle.std.specs.List.{list_any}
 use Rattle.irq_base.specs.declared.numbers.CpuNo.{CpuNo}
+use Rattle.irq_base.specs.declared.numbers.DevNo.{DevNo}
 use Rattle.irq_base.specs.declared.devices.DeviceDef.{DeviceDef}
+use Rattle.irq_base.specs.declared.devices.Part.{Part}
+use Rattle.irq_base.specs.declared.devices.Part.TheVariants as parts
 use Rattle.irq_base.specs.declared.lines.FlowKind.{FlowKind}
 use Rattle.irq_base.specs.declared.lines.FlowKind.TheVariants as flows
 use Rattle.irq_base.specs.declared.lines.LineDef.{LineDef}
+use Rattle.irq_base.specs.declared.entries.Actor.{Actor}
+use Rattle.irq_base.specs.declared.entries.Actor.TheVariants as actors
 use Rattle.irq_base.specs.declared.entries.Entry.{Entry}
 use Rattle.irq_base.specs.declared.entries.Entry.TheVariants as by
 use Rattle.irq_base.specs.declared.entries.CpuEntry.TheVariants as cpus
 use Rattle.irq_base.specs.declared.entries.ThreadEntry.TheVariants as threads
 use Rattle.irq_base.specs.declared.entries.DriverEntry.TheVariants as drivers
+use Rattle.irq_base.specs.declared.entries.CallEntry.{CallEntry}
 use Rattle.irq_base.specs.declared.entries.CallEntry.TheVariants as called
 use Rattle.irq_base.specs.declared.entries.Way.{Way}
 use Rattle.irq_base.specs.declared.entries.Way.TheVariants as ways
@@ -24,10 +31,10 @@ use Rattle.irq_base.specs.declared.entries.Opened.TheVariants as opens
 use Rattle.irq_base.specs.Cell.{Cell, after_edge, after_high, after_mask, after_unmask, after_ack, after_eoi, after_retrigger, signals as presents}
 use Rattle.irq_model.specs.Kinds.{is_device_edge, is_take, is_handle, is_again, is_leave, is_disable, is_kill}
 use Rattle.irq_model.specs.Kinds.{is_last_unlink, is_start, is_reopening, is_chip_start, is_chip_opened, opened_of}
-use Rattle.irq_model.specs.Kinds.{is_started_opened}
+use Rattle.irq_model.specs.Kinds.{is_started_opened, made_by, arms_with_edge, disables, unlinks_last, opened_by_call, opened_by_enable}
 use Rattle.irq_model.specs.Lines.{is_edge_line, is_level_line, is_level_flow, is_eoi_flow, serves}
 use Rattle.irq_model.specs.Links.{is_oneshot, is_disabled}
-use Rattle.irq_model.specs.Asks.{unserved_asks, is_high}
+use Rattle.irq_model.specs.Asks.{left_by_runs, serving, unserved_asks, is_quiet, is_high}
 use Rattle.irq_model.specs.Masks.{take_masks, is_masked}
 use Rattle.irq_model.specs.Rounds.{flow, has_flow}
 use Rattle.irq_model.specs.Waiting.{is_pending, is_soft}
@@ -40,21 +47,21 @@ use Rattle.irq_steps.proofs.RoundSteps.{flow_quiet}
 use Rattle.irq_steps.proofs.MaskSteps.{masked_more, no_take_masks, masked_by_opening}
 use Rattle.irq_laws.specs.Kept.{KeepsEdges, Kept}
 use Rattle.irq_laws.specs.Driven.{cell_with, cell_of, accepted, taken_on_eoi_edge, taken_on_eoi_level, taken, masked_if}
-use Rattle.irq_laws.specs.Driven.{unmasked_if, retriggered_if, ended, asked, served, driven, cell_after, IsDrivenCell}
+use Rattle.irq_laws.specs.Driven.{unmasked_if, retriggered_if, ended, asked, served, levelled, called_on, driven, cell_after, IsDrivenCell}
 use Rattle.irq_laws.proofs.Lists.{both_ways}
 use Rattle.irq_laws.proofs.Masking.{take_masked, IsPlain, flow_same, zero_depth}
 use Rattle.irq_laws.proofs.KeptAlways.{kept}
 use Rattle.irq_laws.proofs.ImpliesFlow.{again_by, unmask_by, take_due, end_due}
 use Rattle.irq_laws.proofs.Starts.{chip_resend, soft_has_edges}
-use Rattle.irq_laws.proofs.LevelSteps.{moves_level, high_quiet, high_return, high_thread_return}
+use Rattle.irq_laws.proofs.LevelSteps.{moves_level, moves_by_call, high_quiet, high_return, high_thread_return}
 use Rattle.irq_laws.proofs.CellSteps.{mask_is, accept_is, ack_is, eoi_is, same_rest, level_sent, marks, mask_to}
 use Rattle.irq_laws.proofs.CellSteps.{unmask_to, leaves, resend_to, again_to, edge_to, take_to}
-use Rattle.irq_laws.proofs.OwnLaws.{no_cpu_call, no_thread_call}
 
 -- ---- the level
 
 edge_high : (def : LineDef) (past : List Entry) → is_edge_line def ≡ true → is_high def past ≡ false
-edge_high def past edge = ap (λ (b : Bool). not b && list_any (λ (x : DeviceDef). nat_lt 0 (unserved_asks def x.dev past)) def.devices) edge
+edge_high def past edge = ap (λ (b : Bool). not b && list_any
+    (λ (x : DeviceDef). not (is_quiet past x.dev) && nat_lt 0 (unserved_asks def x.dev past)) def.devices) edge
 
 -- ---- an entry that is neither a take, nor an end, nor moves the level
 
@@ -134,12 +141,6 @@ returns def e past count p edgeless same idle = by_test (is_level_line def) (nat
     by_test false s edge served = stays (off _ _ edge ∙ sym (off _ _ edge))
 
 -- ---- disables and unlinks
-
-disable_masks : (t y m : Bool) → t ≡ false → ((t || ((y && true) || false)) || m) ≡ (y || m)
-disable_masks t y m h = grind arith
-
-unlink_masks : (t y l m : Bool) → t ≡ false → ((t || ((y && false) || l)) || m) ≡ (l || m)
-unlink_masks t y l m h = grind arith
 
 plain : (e : Entry) → is_take e ≡ false → is_handle e ≡ false → is_leave e ≡ false → is_again e ≡ false → IsPlain e
 plain e a b c d = record { no_take = a; no_handle = b; no_leave = c; no_again = d }
@@ -607,6 +608,129 @@ asks_nothing : (def : LineDef) (e : Entry) (past : List Entry) → IsPlain e →
 asks_nothing def e past p still edgeless no_deepening no_last no_open =
     quiet def e past p still edgeless (masked_by_opening def e past p.no_take no_deepening no_last ∙ ap (λ (b : Bool). not b && is_masked def past) no_open)
 
+-- ---- steps of calls
+
+-- the tests on an entry that are those on the step
+record HasTestsOf (e : Entry) (call : CallEntry) : Type 0 where
+  pub is_plain : IsPlain e
+  pub comes : is_device_edge e ≡ arms_with_edge call
+  pub moves : moves_level e ≡ moves_by_call call
+  pub deepens : (is_disable e || is_kill e) ≡ disables call
+  pub ends : is_last_unlink e ≡ unlinks_last call
+  pub opened : opened_of e ≡ opened_by_call call
+  pub no_reopening : is_reopening e ≡ false
+
+call_tests : (a : Actor) (call : CallEntry) → HasTestsOf (made_by a call) call
+call_tests (actors.Cpu c) call =
+    record {
+      is_plain = plain _ refl refl refl refl;
+      comes = refl;
+      moves = refl;
+      deepens = no_kill (disables call);
+      ends = refl;
+      opened = refl;
+      no_reopening = refl;
+    }
+  where
+    no_kill : (d : Bool) → (d || false) ≡ d
+    no_kill d = grind arith
+call_tests (actors.Thread x) call =
+    record {
+      is_plain = plain _ refl refl refl refl;
+      comes = refl;
+      moves = refl;
+      deepens = no_kill (disables call);
+      ends = refl;
+      opened = refl;
+      no_reopening = refl;
+    }
+  where
+    no_kill : (d : Bool) → (d || false) ≡ d
+    no_kill d = grind arith
+call_tests (actors.Driver r) call =
+    record {
+      is_plain = plain _ refl refl refl refl;
+      comes = refl;
+      moves = refl;
+      deepens = no_kill (disables call);
+      ends = refl;
+      opened = refl;
+      no_reopening = refl;
+    }
+  where
+    no_kill : (d : Bool) → (d || false) ≡ d
+    no_kill d = grind arith
+
+module _ (def : LineDef) (call : CallEntry) (e : Entry) (past : List Entry) (t : HasTestsOf e call) where
+  edge_by : is_chip_opened (opened_by_call call) ≡ false → is_edge def e ≡ (is_edge_line def && arms_with_edge call)
+  edge_by c = by_tests (is_edge_line def) (is_device_edge e) (is_chip_start e) (is_eoi_flow def.flow) (is_again e) (arms_with_edge call)
+      t.comes (ap is_chip_opened t.opened ∙ c) t.is_plain.no_again
+    where
+      by_tests : (E a c f g m : Bool) → a ≡ m → c ≡ false → g ≡ false → (E && (a || (c || (f && g)))) ≡ (E && m)
+      by_tests E a c f g m x y z = grind arith
+
+  edgeless_by : is_chip_opened (opened_by_call call) ≡ false → arms_with_edge call ≡ false → is_edge def e ≡ false
+  edgeless_by c a = edge_by c ∙ and_right (is_edge_line def) (arms_with_edge call) a
+
+  masked_by : is_started_opened (opened_by_call call) ≡ false
+      → is_masked def (e ∷ past) ≡ (((def.unlazy && disables call) || unlinks_last call) || is_masked def past)
+  masked_by s =
+      masked_more def e past
+      ∙ by_tests (take_masks def def.flow e past) def.unlazy (is_disable e || is_kill e) (is_last_unlink e) (is_start e) (is_reopening e) (is_masked def past)
+      (disables call) (unlinks_last call) (no_take_masks def def.flow e past t.is_plain.no_take) t.deepens t.ends
+      (ap is_started_opened t.opened ∙ s) t.no_reopening
+    where
+      by_tests : (t y d l s r m D L : Bool) → t ≡ false → d ≡ D → l ≡ L → s ≡ false → r ≡ false
+          → ((t || ((y && d) || l)) || (not (s || r) && m)) ≡ (((y && D) || L) || m)
+      by_tests t y d l s r m D L a b c e f = grind arith
+
+  masked_as_before : is_started_opened (opened_by_call call) ≡ false → disables call ≡ false → unlinks_last call ≡ false
+      → is_masked def (e ∷ past) ≡ is_masked def past
+  masked_as_before s d l = masked_by s ∙ by_tests def.unlazy (disables call) (unlinks_last call) (is_masked def past) d l
+    where
+      by_tests : (y d l m : Bool) → d ≡ false → l ≡ false → (((y && d) || l) || m) ≡ m
+      by_tests y d l m a b = grind arith
+
+-- a device's own interrupt is turned off, or it is served by a call
+levels : (def : LineDef) (e : Entry) (past : List Entry) → IsPlain e → is_edge def e ≡ false → is_masked def (e ∷ past) ≡ is_masked def past
+    → levelled def (e ∷ past) (cell_of def past) ≡ cell_of def (e ∷ past)
+levels def e past p edgeless same = by_line (is_edge_line def) refl
+  where
+    by_line : (b : Bool) → is_edge_line def ≡ b
+        → cond (not b) (after_high (is_high def (e ∷ past)) (cell_of def past)) (cell_of def past) ≡ cell_of def (e ∷ past)
+    by_line false level =
+        leaves def e past (is_high def (e ∷ past)) (serves def && has_flow def past) p.no_take edgeless same
+        ∙ same_rest def _ _ _ _ _ _ _ refl (in_service_same def e past p)
+    by_line true edge =
+        leaves def e past (is_high def past) (serves def && has_flow def past) p.no_take edgeless same
+        ∙ same_rest def _ _ _ _ _ _ _ (edge_high def past edge ∙ sym (edge_high def (e ∷ past) edge)) (in_service_same def e past p)
+
+cell_call : (def : LineDef) (call : CallEntry) (e : Entry) (past : List Entry) → IsDue def e past → HasTestsOf e call
+    → called_on def call (e ∷ past) (cell_of def past) ≡ cell_of def (e ∷ past)
+cell_call def called.Disable e past due t =
+    masks_if def e past def.unlazy t.is_plain t.moves (edgeless_by def called.Disable e past t refl refl)
+    (masked_by def called.Disable e past t refl ∙ only def.unlazy (is_masked def past))
+  where
+    only : (y m : Bool) → (((y && true) || false) || m) ≡ (y || m)
+    only y m = grind arith
+cell_call def (called.Unlink answer d) e past due t =
+    masks_if def e past (unlinks_last (called.Unlink answer d)) t.is_plain t.moves (edgeless_by def (called.Unlink answer d) e past t refl refl)
+    (masked_by def (called.Unlink answer d) e past t refl ∙ only def.unlazy (unlinks_last (called.Unlink answer d)) (is_masked def past))
+  where
+    only : (y l m : Bool) → (((y && false) || l) || m) ≡ (l || m)
+    only y l m = grind arith
+cell_call def (called.Enable answer) e past due t =
+    by_start def e past (opened_by_enable answer) due t.opened t.is_plain t.moves t.comes t.no_reopening t.deepens t.ends
+cell_call def (called.Arm edge d) e past due t =
+    asks def e past edge t.is_plain (edge_by def (called.Arm edge d) e past t refl) (masked_as_before def (called.Arm edge d) e past t refl refl refl)
+cell_call def (called.Quiet d) e past due t =
+    levels def e past t.is_plain (edgeless_by def (called.Quiet d) e past t refl refl) (masked_as_before def (called.Quiet d) e past t refl refl refl)
+cell_call def (called.Serve d count) e past due t =
+    levels def e past t.is_plain (edgeless_by def (called.Serve d count) e past t refl refl)
+    (masked_as_before def (called.Serve d count) e past t refl refl refl)
+cell_call def call e past due t =
+    quiet def e past t.is_plain t.moves (edgeless_by def call e past t refl refl) (masked_as_before def call e past t refl refl refl)
+
 pub cell_more : (def : LineDef) (e : Entry) (past : List Entry) → IsValid def → IsDue def e past → Kept def past
     → (is_soft past ≡ true → is_edge_line def ≡ true) → driven def e past (cell_of def past) ≡ cell_of def (e ∷ past)
 cell_more def (by.Driver r (drivers.Ask makes d)) past valid due k soft =
@@ -616,12 +740,12 @@ cell_more def (by.Cpu c (cpus.Return answer d count)) past valid due k soft =
     returns def (by.Cpu c (cpus.Return answer d count)) past count (plain _ refl refl refl refl)
     (no_edge (is_edge_line def) (is_eoi_flow def.flow))
     (masked_by_opening def (by.Cpu c (cpus.Return answer d count)) past refl refl refl)
-    (high_return def c d answer count past due k.runs)
+    (high_return def c d answer count past)
 cell_more def (by.Thread d (threads.Return handled count)) past valid due k soft =
     returns def (by.Thread d (threads.Return handled count)) past count (plain _ refl refl refl refl)
     (no_edge (is_edge_line def) (is_eoi_flow def.flow))
     (masked_by_opening def (by.Thread d (threads.Return handled count)) past refl refl refl)
-    (high_thread_return _ def d count past due)
+    (high_thread_return def d handled count past)
 cell_more def (by.Cpu c (cpus.Take way answer)) past valid due k soft =
     ap (λ (x : Cell). taken def def.flow (is_oneshot past) answer x) (accepted_is def c way answer past due soft)
     ∙ take_by def def.flow c way answer past valid due soft refl
@@ -634,24 +758,11 @@ cell_more def (by.Thread d (threads.Finish kept false)) past valid due k soft =
     quiet def (by.Thread d (threads.Finish kept false)) past (plain _ refl refl refl refl) refl
     (no_edge (is_edge_line def) (is_eoi_flow def.flow))
     (masked_by_opening def (by.Thread d (threads.Finish kept false)) past refl refl refl)
-cell_more def (by.DriverCall r called.Disable) past valid due k soft =
-    masks_if def (by.DriverCall r called.Disable) past def.unlazy (plain _ refl refl refl refl) refl (no_edge (is_edge_line def) (is_eoi_flow def.flow))
-    (masked_more def (by.DriverCall r called.Disable) past ∙ disable_masks (take_masks def def.flow (by.DriverCall r called.Disable) past)
-    def.unlazy (is_masked def past) (no_take_masks def def.flow (by.DriverCall r called.Disable) past refl))
-cell_more def (by.DriverCall r (called.Unlink answer d)) past valid due k soft =
-    masks_if def (by.DriverCall r (called.Unlink answer d)) past (is_last_unlink (by.DriverCall r (called.Unlink answer d)))
-    (plain _ refl refl refl refl) refl (no_edge (is_edge_line def) (is_eoi_flow def.flow))
-    (masked_more def (by.DriverCall r (called.Unlink answer d)) past
-    ∙ unlink_masks (take_masks def def.flow (by.DriverCall r (called.Unlink answer d)) past) def.unlazy
-    (is_last_unlink (by.DriverCall r (called.Unlink answer d))) (is_masked def past)
-    (no_take_masks def def.flow (by.DriverCall r (called.Unlink answer d)) past refl))
 cell_more def (by.Driver r (drivers.Request flags answer opened d)) past valid due k soft =
     by_start def (by.Driver r (drivers.Request flags answer opened d)) past opened due refl (plain _ refl refl refl refl) refl refl refl refl refl
-cell_more def (by.DriverCall r (called.Enable answer)) past valid due k soft =
-    by_start def (by.DriverCall r (called.Enable answer)) past (opened_of (by.DriverCall r (called.Enable answer))) due
-    refl (plain _ refl refl refl refl) refl refl refl refl refl
-cell_more def (by.CpuCall c call) past valid due k soft = no_cpu_call def c call past due
-cell_more def (by.ThreadCall x call) past valid due k soft = no_thread_call def x call past due
+cell_more def (by.CpuCall c call) past valid due k soft = cell_call def call (by.CpuCall c call) past due (call_tests (actors.Cpu c) call)
+cell_more def (by.ThreadCall x call) past valid due k soft = cell_call def call (by.ThreadCall x call) past due (call_tests (actors.Thread x) call)
+cell_more def (by.DriverCall s call) past valid due k soft = cell_call def call (by.DriverCall s call) past due (call_tests (actors.Driver s) call)
 cell_more def e past valid due k soft =
     asks_nothing def e past (plain _ refl refl refl refl) refl (no_edge (is_edge_line def) (is_eoi_flow def.flow)) refl refl refl
 
@@ -664,12 +775,17 @@ cell_none def = same_rest def _ _ _ _ _ _ _ (low (is_level_line def) def.devices
     idle true = refl
     idle false = refl
 
-    low : (l : Bool) (xs : List DeviceDef) → false ≡ (l && list_any (λ x. nat_lt 0 (unserved_asks def x.dev [])) xs)
+    low : (l : Bool) (xs : List DeviceDef) → false ≡ (l && list_any (λ x. not (is_quiet [] x.dev) && nat_lt 0 (unserved_asks def x.dev [])) xs)
     low l xs = off l _ (nobody xs)
       where
-        nobody : (xs : List DeviceDef) → list_any (λ x. nat_lt 0 (unserved_asks def x.dev [])) xs ≡ false
+        none_left : (part : Option Part) (d : DevNo) → left_by_runs part d [] ≡ 0
+        none_left None d = refl
+        none_left (Some parts.Primary) d = refl
+        none_left (Some parts.Thread) d = refl
+
+        nobody : (xs : List DeviceDef) → list_any (λ x. not (is_quiet [] x.dev) && nat_lt 0 (unserved_asks def x.dev [])) xs ≡ false
         nobody [] = refl
-        nobody (x ∷ xs) = nobody xs
+        nobody (x ∷ xs) = rw (none_left (serving def x.dev) x.dev) (nobody xs)
 
         off : (l b : Bool) → b ≡ false → false ≡ (l && b)
         off l b h = grind arith

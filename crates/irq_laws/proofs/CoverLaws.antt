@@ -6,12 +6,14 @@ use Rattle.std.proofs.lemmas.Bool.{and_parts, and_from, or_cases, or_left, or_ri
 use Rattle.std.specs.List.{list_any}
 use Rattle.irq_base.specs.declared.numbers.CpuNo.{CpuNo}
 use Rattle.irq_base.specs.declared.numbers.DevNo.{DevNo}
-use Rattle.irq_base.specs.declared.numbers.DriverNo.{DriverNo}
 use Rattle.irq_base.specs.declared.lines.LineDef.{LineDef}
+use Rattle.irq_base.specs.declared.entries.Actor.{Actor}
+use Rattle.irq_base.specs.declared.entries.Actor.TheVariants as actors
 use Rattle.irq_base.specs.declared.entries.Entry.{Entry}
 use Rattle.irq_base.specs.declared.entries.Entry.TheVariants as by
 use Rattle.irq_base.specs.declared.entries.CpuEntry.TheVariants as cpus
 use Rattle.irq_base.specs.declared.entries.DriverEntry.TheVariants as drivers
+use Rattle.irq_base.specs.declared.entries.CallEntry.{CallEntry}
 use Rattle.irq_base.specs.declared.entries.CallEntry.TheVariants as called
 use Rattle.irq_base.specs.declared.entries.Note.{Note}
 use Rattle.irq_base.specs.declared.entries.Resend.{Resend}
@@ -26,12 +28,12 @@ use Rattle.irq_base.specs.declared.entries.TakeAnswer.TheVariants as takes
 use Rattle.irq_model.specs.Places.{some_place, since, last_of}
 use Rattle.irq_model.specs.Kinds.{opened_by_enable, is_device_edge, is_begin, unlinks_dev, links_dev, is_take, is_again}
 use Rattle.irq_model.specs.Kinds.{is_handle, is_start, is_soft_start, is_chip_start, is_resend_take, is_chip_opened}
-use Rattle.irq_model.specs.Kinds.{is_soft_opened, is_started_opened, opened_of}
+use Rattle.irq_model.specs.Kinds.{is_soft_opened, is_started_opened, opened_of, opened_by_call, made_by, is_disable, is_kill, is_last_unlink}
 use Rattle.irq_model.specs.Lines.{is_edge_line, is_eoi_flow}
 use Rattle.irq_model.specs.Links.{linked, is_linked, is_started, is_none_linked, depth, has_spurious_mark}
-use Rattle.irq_model.specs.Masks.{is_masked}
+use Rattle.irq_model.specs.Masks.{is_masked, unmasks}
 use Rattle.irq_model.specs.Rounds.{flow, has_flow, has_begun, is_ahead, first_left, begins_round, closes, cpu_of_handle}
-use Rattle.irq_model.specs.Waiting.{is_pending, is_soft}
+use Rattle.irq_model.specs.Waiting.{is_pending, is_soft, clears_pending}
 use Rattle.irq_model.specs.Edges.{is_edge, is_sent, is_stored}
 use Rattle.irq_model.specs.Owed.{comes_to, IsCovered, IsCoveredPast}
 use Rattle.irq_model.specs.Next.{resend_of, enable_answer, opened_by_request}
@@ -48,7 +50,6 @@ use Rattle.irq_laws.proofs.Masking.{start_opens, IsPlain, flow_same}
 use Rattle.irq_laws.proofs.KeptAlways.{kept}
 use Rattle.irq_laws.proofs.ImpliesFlow.{end_due, has_a_flow}
 use Rattle.irq_laws.proofs.ImpliesDriver.{enable_due, request_due, opened_with}
-use Rattle.irq_laws.proofs.OwnLaws.{no_cpu_call, no_thread_call}
 
 -- where an owed edge may be
 abbrev pub is_covered : LineDef → List Entry → DevNo → Bool
@@ -143,10 +144,17 @@ request_by def past true false m h = refl
 request_by def past false f true h = enable_resends def past h
 request_by def past false f false h = cc
 
+call_resends : (def : LineDef) (a : Actor) (call : CallEntry) (past : List Entry) → IsDue def (made_by a call) past
+    → is_started_opened (opened_by_call call) ≡ true → opened_by_call call ≡ opens.Started (resend_of def past)
+call_resends def a (called.Enable answer) past due h =
+    let is = enable_due def a answer past due in
+    ap opened_by_enable is ∙ enable_resends def past (subst (λ (x : EnableAnswer). is_started_opened (opened_by_enable x) ≡ true) is h)
+call_resends def a call past due h = cc
+
 start_resends : (def : LineDef) (e : Entry) (past : List Entry) → IsDue def e past → is_start e ≡ true → opened_of e ≡ opens.Started (resend_of def past)
-start_resends def (by.DriverCall s (called.Enable answer)) past due h =
-    let is = (enable_due def s answer past due).answer_is in
-    ap opened_by_enable is ∙ enable_resends def past (subst (λ (a : EnableAnswer). is_started_opened (opened_by_enable a) ≡ true) is h)
+start_resends def (by.CpuCall c call) past due h = call_resends def (actors.Cpu c) call past due h
+start_resends def (by.ThreadCall x call) past due h = call_resends def (actors.Thread x) call past due h
+start_resends def (by.DriverCall s call) past due h = call_resends def (actors.Driver s) call past due h
 start_resends def (by.Driver s (drivers.Request flags links.Linked opened x)) past due h =
     let u = request_due def s x flags links.Linked opened past due in
     let is : opened ≡ opened_by_request def flags past = u.opened_is ∙ ap (λ (a : LinkAnswer). opened_with def flags past a) (sym u.answer_is) in
@@ -155,8 +163,6 @@ start_resends def (by.Driver s (drivers.Request flags (links.Refused error) open
     let u = request_due def s x flags (links.Refused error) opened past due in
     let is : opened ≡ opens.No = u.opened_is ∙ ap (λ (a : LinkAnswer). opened_with def flags past a) (sym u.answer_is) in
     both_ways (is_started_opened opened) h (ap is_started_opened is)
-start_resends def (by.CpuCall c call) past due h = no_cpu_call def c call past due
-start_resends def (by.ThreadCall x call) past due h = no_thread_call def x call past due
 start_resends def e past due h = cc
 
 -- what is pending when a start comes is sent by the chip, or kept for the software
@@ -311,29 +317,35 @@ covered_old def (by.Cpu c (cpus.End false unmask note)) past d valid due edge li
 covered_old def e past d valid due edge linked no_unlink no_begin h =
     covered_plain def e past d due (record { no_take = refl; no_handle = refl; no_leave = refl; no_again = refl }) edge linked no_unlink no_begin h
 
--- an edge that comes now
-covered_ask : (makes : Bool) (def : LineDef) (r : DriverNo) (x : DevNo) (past : List Entry) (d : DevNo) → Kept def past
-    → makes ≡ true → is_edge_line def ≡ true → is_started past ≡ true → is_covered def (by.Driver r (drivers.Ask makes x) ∷ past) d ≡ true
-covered_ask makes def r x past d k edges edge started = by_test (is_masked def past) def.keeps refl refl
+-- an edge that comes now, by an entry that neither masks nor opens the line
+covered_edge : (def : LineDef) (e : Entry) (past : List Entry) (d : DevNo) → Kept def past → is_device_edge e ≡ true → is_edge_line def ≡ true
+    → is_started past ≡ true → is_take e ≡ false → (is_disable e || is_kill e) ≡ false → is_last_unlink e ≡ false → unmasks e ≡ false
+    → clears_pending e ≡ false → is_covered def (e ∷ past) d ≡ true
+covered_edge def e past d k edges edge started no_take no_deepening no_last no_open clears_not = by_test (is_masked def past) def.keeps refl refl
   where
-    same : is_masked def (by.Driver r (drivers.Ask makes x) ∷ past) ≡ is_masked def past
-    same = masked_by_opening def (by.Driver r (drivers.Ask makes x)) past refl refl refl
+    same : is_masked def (e ∷ past) ≡ is_masked def past
+    same = masked_by_opening def e past no_take no_deepening no_last ∙ ap (λ (b : Bool). not b && is_masked def past) no_open
 
-    shown : (not (is_masked def (by.Driver r (drivers.Ask makes x) ∷ past)) || def.keeps) ≡ true
-        → is_covered def (by.Driver r (drivers.Ask makes x) ∷ past) d ≡ true
-    shown h = by_mark def (by.Driver r (drivers.Ask makes x) ∷ past) d
-        (new_mark def (by.Driver r (drivers.Ask makes x)) past refl (and_from _ _ edge (or_left makes _ edges)) h)
+    shown : (not (is_masked def (e ∷ past)) || def.keeps) ≡ true → is_covered def (e ∷ past) d ≡ true
+    shown h = by_mark def (e ∷ past) d (new_mark def e past no_take (and_from _ _ edge (or_left (is_device_edge e) _ edges)) h)
 
-    by_test : (m k : Bool) → is_masked def past ≡ m → def.keeps ≡ k → is_covered def (by.Driver r (drivers.Ask makes x) ∷ past) d ≡ true
+    by_test : (m k : Bool) → is_masked def past ≡ m → def.keeps ≡ k → is_covered def (e ∷ past) d ≡ true
     by_test false b is it = shown (or_left _ _ (ap not (same ∙ is)))
-    by_test true true is it = shown (or_right (not (is_masked def (by.Driver r (drivers.Ask makes x) ∷ past))) def.keeps it)
-    by_test true false is it = by_pending def (by.Driver r (drivers.Ask makes x) ∷ past) d
-        (pending_by_clearing def (by.Driver r (drivers.Ask makes x)) past refl ∙ k.edges.dropped edge it is started)
+    by_test true true is it = shown (or_right (not (is_masked def (e ∷ past))) def.keeps it)
+    by_test true false is it = by_pending def (e ∷ past) d
+        (pending_by_clearing def e past no_take ∙ ap (λ (b : Bool). not b && is_pending def past) clears_not ∙ k.edges.dropped edge it is started)
 
 covered_now : (def : LineDef) (e : Entry) (past : List Entry) (d : DevNo) → Kept def past → is_edge_line def ≡ true
     → is_device_edge e ≡ true → is_started past ≡ true → is_covered def (e ∷ past) d ≡ true
-covered_now def (by.Driver r (drivers.Ask makes x)) past d k edge asks started = covered_ask makes def r x past d k asks edge started
-covered_now def e past d k edge asks started = cc
+covered_now def (by.Driver r (drivers.Ask makes x)) past d k edge comes started =
+    covered_edge def (by.Driver r (drivers.Ask makes x)) past d k comes edge started refl refl refl refl refl
+covered_now def (by.CpuCall c (called.Arm makes x)) past d k edge comes started =
+    covered_edge def (by.CpuCall c (called.Arm makes x)) past d k comes edge started refl refl refl refl refl
+covered_now def (by.ThreadCall y (called.Arm makes x)) past d k edge comes started =
+    covered_edge def (by.ThreadCall y (called.Arm makes x)) past d k comes edge started refl refl refl refl refl
+covered_now def (by.DriverCall r (called.Arm makes x)) past d k edge comes started =
+    covered_edge def (by.DriverCall r (called.Arm makes x)) past d k comes edge started refl refl refl refl refl
+covered_now def e past d k edge comes started = cc
 
 covered_at : (def : LineDef) → IsValid def → (past : List Entry) → IsLegalPast def past → is_edge_line def ≡ true
     → (d : DevNo) → some_place (owes d) past ≡ true → is_covered def past d ≡ true

@@ -5,6 +5,8 @@ use Rattle.std.proofs.lemmas.Bool.{and_from, or_left, or_right, or_parts, eqb-fa
 use Rattle.irq_base.specs.declared.numbers.DevNo.{DevNo}
 use Rattle.irq_base.specs.declared.calls.Flags.{Flags}
 use Rattle.irq_base.specs.declared.lines.LineDef.{LineDef}
+use Rattle.irq_base.specs.declared.entries.Actor.{Actor}
+use Rattle.irq_base.specs.declared.entries.Actor.TheVariants as actors
 use Rattle.irq_base.specs.declared.entries.Entry.{Entry}
 use Rattle.irq_base.specs.declared.entries.Entry.TheVariants as by
 use Rattle.irq_base.specs.declared.entries.DriverEntry.TheVariants as drivers
@@ -20,7 +22,7 @@ use Rattle.irq_base.specs.declared.entries.LinkAnswer.TheVariants as links
 use Rattle.irq_base.specs.declared.entries.UnlinkAnswer.TheVariants as unlinks
 use Rattle.irq_model.specs.Places.{count_of}
 use Rattle.irq_model.specs.Kinds.{same_dev, opened_of, opened_by_enable, is_start, is_started_opened, is_lowering_opened, is_last_unlink, is_disable, is_kill}
-use Rattle.irq_model.specs.Kinds.{opened_by_call, disables}
+use Rattle.irq_model.specs.Kinds.{opened_by_call, disables, made_by, unlinks_last}
 use Rattle.irq_model.specs.Links.{linked, requested, is_linked, is_none_linked, is_empty, is_first_request, is_reset}
 use Rattle.irq_model.specs.Links.{is_deepening, is_lowering, depth, is_started, has_spurious_mark}
 use Rattle.irq_model.specs.Next.{enable_answer, opened_by_request, resend_of, is_only}
@@ -29,10 +31,10 @@ use Rattle.irq_steps.proofs.LinkSteps.{linked_request, linked_unlink}
 use Rattle.irq_steps.proofs.ListSteps.{linked_refused, linked_not_there, count_filter, requested_once}
 use Rattle.irq_steps.proofs.DepthSteps.{raised, lowered, raised_reset, raised_more}
 use Rattle.irq_steps.proofs.Same.{same_both}
+use Rattle.irq_laws.specs.Actors.{by_someone}
 use Rattle.irq_laws.specs.Kept.{KeepsDepth}
 use Rattle.irq_laws.proofs.Lists.{both_ways}
 use Rattle.irq_laws.proofs.ImpliesDriver.{enable_due, request_due, unlink_due, opened_with}
-use Rattle.irq_laws.proofs.OwnLaws.{no_cpu_call, no_thread_call}
 
 -- ---- what an enable, or the enable within a request, tells of the depth
 
@@ -77,10 +79,16 @@ first_opens def flags past none is = by_flag (is_none_linked past) flags.noauto 
     by_flag true false h i = cc
     by_flag false f h i = cc
 
+call_opens : (def : LineDef) (a : Actor) (call : CallEntry) (past : List Entry) → IsDue def (made_by a call) past → Opens past (opened_by_call call)
+call_opens def a (called.Enable answer) past due =
+    subst (λ (x : EnableAnswer). Opens past (opened_by_enable x)) (sym (enable_due def a answer past due)) (enable_opens def past)
+call_opens def a call past due = no_opens past
+
 -- the same of any due entry that isn't a first request
 pub opens_at : (def : LineDef) (e : Entry) (past : List Entry) → IsDue def e past → is_first_request (e ∷ past) ≡ false → Opens past (opened_of e)
-opens_at def (by.DriverCall s (called.Enable answer)) past due later = subst (λ (a : EnableAnswer). Opens past (opened_by_enable a))
-    (sym (enable_due def s answer past due).answer_is) (enable_opens def past)
+opens_at def (by.CpuCall c call) past due later = call_opens def (actors.Cpu c) call past due
+opens_at def (by.ThreadCall x call) past due later = call_opens def (actors.Thread x) call past due
+opens_at def (by.DriverCall s call) past due later = call_opens def (actors.Driver s) call past due
 opens_at def (by.Driver s (drivers.Request flags links.Linked opened x)) past due later =
     let u = request_due def s x flags links.Linked opened past due in
     let is : opened ≡ opened_by_request def flags past = u.opened_is ∙ ap (λ (a : LinkAnswer). opened_with def flags past a) (sym u.answer_is) in
@@ -89,8 +97,6 @@ opens_at def (by.Driver s (drivers.Request flags (links.Refused error) opened x)
     let u = request_due def s x flags (links.Refused error) opened past due in
     let is : opened ≡ opens.No = u.opened_is ∙ ap (λ (a : LinkAnswer). opened_with def flags past a) (sym u.answer_is) in
     subst (λ (o : Opened). Opens past o) (sym is) (no_opens past)
-opens_at def (by.CpuCall c call) past due later = no_cpu_call def c call past due
-opens_at def (by.ThreadCall x call) past due later = no_thread_call def x call past due
 opens_at def e past due later = no_opens past
 
 -- ---- the depth is exact
@@ -245,33 +251,45 @@ last_when : (b last v : Bool) → unlinks.Unlinked last ≡ cond b (unlinks.Unli
 last_when true last v h = cc
 last_when false last v h = cc
 
+call_leaves_some : (def : LineDef) (a : Actor) (call : CallEntry) (past : List Entry) → IsDue def (made_by a call) past → unlinks_last call ≡ false
+    → is_none_linked past ≡ false → is_none_linked (by_someone call ∷ past) ≡ false
+call_leaves_some def a (called.Unlink (unlinks.Unlinked last) x) past due no_last some =
+    let is = last_when (is_linked past x) last (is_only x (linked past)) (unlink_due def a x (unlinks.Unlinked last) past due).answer_is in
+    let once : count_of (same_dev x) (linked past) ≤ 1
+    = (let n = count_filter (same_dev x) (is_linked past) (requested past) in let m = requested_once x past in
+    omega (arith, n, m)) in
+    ap is_empty (linked_unlink (record { 0 = 0 }) x last past) ∙ some_left x (linked past) (sym is ∙ no_last) some once
+call_leaves_some def a (called.Unlink unlinks.NotThere x) past due no_last some = ap is_empty (linked_not_there (record { 0 = 0 }) x past) ∙ some
+call_leaves_some def a call past due no_last some = some
+
 still_some : (def : LineDef) (e : Entry) (past : List Entry) → IsDue def e past → is_last_unlink e ≡ false
     → is_none_linked past ≡ false → is_none_linked (e ∷ past) ≡ false
 still_some def (by.Driver s (drivers.Request flags links.Linked opened x)) past due no_last some
     = ap is_empty (linked_request s x flags opened past) ∙ some_last (filter (λ y. not (same_dev y x)) (linked past)) x
 still_some def (by.Driver s (drivers.Request flags (links.Refused error) opened x)) past due no_last some
     = ap is_empty (linked_refused s x flags error opened past) ∙ some
-still_some def (by.DriverCall s (called.Unlink (unlinks.Unlinked last) x)) past due no_last some =
-    let is = last_when (is_linked past x) last (is_only x (linked past)) (unlink_due def s x (unlinks.Unlinked last) past due).answer_is in
-    let once : count_of (same_dev x) (linked past) ≤ 1
-    = (let n = count_filter (same_dev x) (is_linked past) (requested past) in let m = requested_once x past in
-    omega (arith, n, m)) in
-    ap is_empty (linked_unlink s x last past) ∙ some_left x (linked past) (sym is ∙ no_last) some once
-still_some def (by.DriverCall s (called.Unlink unlinks.NotThere x)) past due no_last some = ap is_empty (linked_not_there s x past) ∙ some
-still_some def (by.CpuCall c call) past due no_last some = no_cpu_call def c call past due
-still_some def (by.ThreadCall x call) past due no_last some = no_thread_call def x call past due
+still_some def (by.CpuCall c call) past due no_last some = call_leaves_some def (actors.Cpu c) call past due no_last some
+still_some def (by.ThreadCall x call) past due no_last some = call_leaves_some def (actors.Thread x) call past due no_last some
+still_some def (by.DriverCall s call) past due no_last some = call_leaves_some def (actors.Driver s) call past due no_last some
 still_some def e past due no_last some = some
+
+lowers_by : (o : Opened) → is_started_opened o ≡ true → is_lowering_opened o ≡ true
+lowers_by (opens.Started resend) h = refl
+lowers_by opens.No h = cc
+lowers_by opens.Unbalanced h = cc
+lowers_by opens.Lowered h = cc
+
+call_starts_some : (def : LineDef) (a : Actor) (call : CallEntry) (past : List Entry) → IsDue def (made_by a call) past
+    → is_started_opened (opened_by_call call) ≡ true → is_none_linked (by_someone call ∷ past) ≡ false
+call_starts_some def a (called.Enable answer) past due starts =
+    (call_opens def a (called.Enable answer) past due).some_linked (lowers_by (opened_by_enable answer) starts)
+call_starts_some def a call past due starts = cc
 
 -- a line that is started has something linked
 started_some : (def : LineDef) (e : Entry) (past : List Entry) → IsDue def e past → is_start e ≡ true → is_none_linked (e ∷ past) ≡ false
-started_some def (by.DriverCall s (called.Enable answer)) past due starts
-    = (opens_at def (by.DriverCall s (called.Enable answer)) past due refl).some_linked (lowers_by (opened_by_enable answer) starts)
-  where
-    lowers_by : (o : Opened) → is_started_opened o ≡ true → is_lowering_opened o ≡ true
-    lowers_by (opens.Started resend) h = refl
-    lowers_by opens.No h = cc
-    lowers_by opens.Unbalanced h = cc
-    lowers_by opens.Lowered h = cc
+started_some def (by.CpuCall c call) past due starts = call_starts_some def (actors.Cpu c) call past due starts
+started_some def (by.ThreadCall x call) past due starts = call_starts_some def (actors.Thread x) call past due starts
+started_some def (by.DriverCall s call) past due starts = call_starts_some def (actors.Driver s) call past due starts
 started_some def (by.Driver s (drivers.Request flags links.Linked opened x)) past due starts
     = ap is_empty (linked_request s x flags opened past) ∙ some_last (filter (λ y. not (same_dev y x)) (linked past)) x
 started_some def (by.Driver s (drivers.Request flags (links.Refused error) opened x)) past due starts =
@@ -279,8 +297,6 @@ started_some def (by.Driver s (drivers.Request flags (links.Refused error) opene
     let is : opened ≡ opens.No = u.opened_is ∙ ap (λ (a : LinkAnswer). opened_with def flags past a) (sym u.answer_is) in
     let n : is_started_opened opened ≡ false = ap is_started_opened is in
     both_ways (is_started_opened opened) starts n
-started_some def (by.CpuCall c call) past due starts = no_cpu_call def c call past due
-started_some def (by.ThreadCall x call) past due starts = no_thread_call def x call past due
 started_some def e past due starts = cc
 
 -- ---- an enabled line is started

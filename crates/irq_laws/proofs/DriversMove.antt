@@ -1,19 +1,20 @@
--- No standstill among drivers: if no thread and no processor may add an entry, a driver with a due
--- call may, or the driver of the free that is under way.
+-- No standstill among drivers: where nothing is at work, a driver with a due call may add its entry, or
+-- the maker of the free that is under way may.
 use Rattle.std.proofs.Common.{◌≡◌, ◌⊎◌, inl, inr, ℕ, zero, suc, ◌==◌, Bool, true, false, not, ◌||◌, ◌&&◌, cond, IsSome}
-use Rattle.std.proofs.Common.{Option, Some, None, is_some, List, reverse, refl, sym, ap, ◌∙◌, arith, eqb-true}
-use Rattle.std.proofs.lemmas.Bool.{or_from, false_from_ne_true}
-use Rattle.irq_base.specs.declared.numbers.CpuNo.{CpuNo}
+use Rattle.std.proofs.Common.{Option, Some, None, is_some, List, reverse, refl, sym, ap, ◌∙◌, subst, arith, eqb-true}
+use Rattle.std.proofs.lemmas.Bool.{or_from, or_parts, false_from_ne_true}
 use Rattle.irq_base.specs.declared.numbers.DevNo.{DevNo}
 use Rattle.irq_base.specs.declared.numbers.DriverNo.{DriverNo}
 use Rattle.irq_base.specs.declared.calls.Call.{Call}
 use Rattle.irq_base.specs.declared.calls.Call.TheVariants as calls
 use Rattle.irq_base.specs.declared.devices.DeviceDef.{DeviceDef}
 use Rattle.irq_base.specs.declared.lines.LineDef.{LineDef}
+use Rattle.irq_base.specs.declared.entries.Actor.{Actor}
 use Rattle.irq_base.specs.declared.entries.Actor.TheVariants as actors
 use Rattle.irq_base.specs.declared.entries.Entry.{Entry}
 use Rattle.irq_base.specs.declared.waiting.WaitFor.{WaitFor}
 use Rattle.irq_base.specs.declared.waiting.WaitFor.TheVariants as waits
+use Rattle.irq_model.specs.Rounds.{flow, has_flow}
 use Rattle.irq_model.specs.Reason.{is_being_freed}
 use Rattle.irq_model.specs.Threads.{is_woken, is_running}
 use Rattle.irq_model.specs.Due.{due_call, holds_mutex}
@@ -21,9 +22,13 @@ use Rattle.irq_model.specs.Next.{next, next_past}
 use Rattle.irq_model.specs.Legal.{IsLegal}
 use Rattle.irq_model.specs.Valid.{IsValid}
 use Rattle.irq_laws.specs.Blocks.{block_of, stands_in_way, is_freed_at_work, FreeMoves}
+use Rattle.irq_laws.specs.Actors.{due_of_actor}
 use Rattle.irq_laws.specs.Kept.{Kept}
 use Rattle.irq_laws.proofs.BlockLaws.{IsFreed, freed_waits}
-use Rattle.irq_laws.proofs.Idle.{IsIdle, idle, none_of}
+use Rattle.irq_laws.proofs.Lists.{both_ways}
+use Rattle.irq_laws.proofs.ImpliesFlow.{has_a_flow}
+use Rattle.irq_laws.proofs.ImpliesDriver.{handler_works, thread_works}
+use Rattle.irq_laws.proofs.Idle.{IsIdle, none_of}
 use Rattle.irq_laws.proofs.KeptAlways.{kept}
 use Rattle.irq_laws.proofs.Mutex.{holder}
 use Rattle.irq_laws.proofs.WithinFree.{within_free}
@@ -43,14 +48,7 @@ freed_rests def past i = none_of (λ (x : DeviceDef). is_being_freed past x.dev 
 is_freed : (def : LineDef) (past : List Entry) → IsIdle def past → (c : Call) (n : ℕ) → IsFreed def past c n
 is_freed def past i (calls.Free d) zero = tt
 is_freed def past i (calls.Free d) (suc n) = at_rest def past i d ∙ sym (freed_rests def past i)
-is_freed def past i (calls.Ask d) n = tt
-is_freed def past i (calls.Request d flags) n = tt
-is_freed def past i calls.Disable n = tt
-is_freed def past i calls.DisableNosync n = tt
-is_freed def past i calls.Enable n = tt
-is_freed def past i calls.Sync n = tt
-is_freed def past i (calls.Affinity mask) n = tt
-is_freed def past i (calls.Moment at) n = tt
+is_freed def past i c n = tt
 
 call_waits : (def : LineDef) (past : List Entry) → IsIdle def past → (r : DriverNo) (c : Call) (n : ℕ)
     → due_call def r past ≡ Some (c, n) → is_some (next_past def past (actors.Driver r))
@@ -78,19 +76,30 @@ within def past i d n = by_tests (suc n == 0) (suc n == 1) (not_zero n)
     by_tests false true h = i.no_flow
     by_tests false false h = freed_rests def past i
 
--- the driver of the free that is under way moves
+-- where nothing is at work only a driver can be within a free
+pub only_driver : (def : LineDef) (past : List Entry) → IsIdle def past → (a : Actor) (due : Call × ℕ) → due_of_actor def a past ≡ Some due
+    → (r : DriverNo) × (a ≡ actors.Driver r)
+only_driver def past i (actors.Driver r) due is = (r, refl)
+only_driver def past i (actors.Cpu c) due is =
+    let w = handler_works def c due past is in both_ways (has_flow def past) (has_a_flow c (flow def past) w.of_flow) i.no_flow
+only_driver def past i (actors.Thread d) due is = both_ways (is_running past d) (thread_works def d due past is).0 (i.no_thread d).1
+
+-- the maker of the free that is under way moves
 free_moves : (def : LineDef) (h : List Entry) → IsLegal def h → Kept def (reverse h) → IsIdle def (reverse h) → holds_mutex (reverse h) ≡ true → FreeMoves def h
 free_moves def h legal k i held =
     let o = holder (reverse h) held in
-    let under = k.frees.one_driver o.maker o.dev o.stands_there in
-    let w = within_free def (reverse h) legal under.0 o.dev under.2 in
+    let under = k.frees.one_maker o.maker o.dev o.stands_there in
+    let w = within_free def (reverse h) legal o.maker o.dev under in
+    let r = only_driver def (reverse h) i o.maker (calls.Free o.dev, suc w.0) w.1 in
+    let is = subst (λ (a : Actor). due_of_actor def a (reverse h) ≡ Some (calls.Free o.dev, suc w.0)) r.1 w.1 in
     record {
-      driver = under.0;
+      maker = o.maker;
       dev = o.dev;
-      under_way = under.2;
+      under_way = under;
       after_unlink = w.0;
       call = w.1;
-      moves = call_waits def (reverse h) i under.0 (calls.Free o.dev) (suc w.0) w.1 ∙ ap not (within def (reverse h) i o.dev w.0);
+      moves = subst (λ (a : Actor). is_some (next def h a) ≡ true) (sym r.1)
+          (call_waits def (reverse h) i r.0 (calls.Free o.dev) (suc w.0) is ∙ ap not (within def (reverse h) i o.dev w.0));
     }
 
 pub idle_drivers_move : (def : LineDef) (h : List Entry) → IsLegal def h → Kept def (reverse h) → IsIdle def (reverse h)
@@ -108,9 +117,9 @@ idle_drivers_move def h legal k i r (Some (c, n)) is some = by_block (only_mutex
     by_block (inr waits) = by_mutex (holds_mutex (reverse h)) refl waits
 
 pub drivers_move : (def : LineDef) (h : List Entry) → IsValid def → IsLegal def h
-    → ((d : DevNo) → next def h (actors.Thread d) ≡ None)
-    → ((c : CpuNo) → next def h (actors.Cpu c) ≡ None)
+    → has_flow def (reverse h) ≡ false → ((d : DevNo) → (is_woken (reverse h) d || is_running (reverse h) d) ≡ false)
     → (r : DriverNo) → IsSome (due_call def r (reverse h)) → IsSome (next def h (actors.Driver r)) ⊎ FreeMoves def h
-drivers_move def h valid legal threads cpus r some =
-    let k = kept def (reverse h) valid legal in
-    idle_drivers_move def h legal k (idle def (reverse h) k threads cpus) r (due_call def r (reverse h)) refl some
+drivers_move def h valid legal no_flow no_thread r some =
+    idle_drivers_move def h legal (kept def (reverse h) valid legal)
+    (record { no_flow = no_flow; no_thread = λ d. or_parts (is_woken (reverse h) d) (is_running (reverse h) d) (no_thread d) })
+    r (due_call def r (reverse h)) refl some

@@ -1,5 +1,6 @@
 -- What a processor's entry implies when it is due: the conditions of its row.
-use Rattle.std.proofs.Common.{◌≡◌, ℕ, ◌⊎◌, inl, inr, Bool, true, false, not, ◌&&◌, cond, Option, Some, None, List, is_some, refl, sym, ap, ◌∙◌}
+use Rattle.std.proofs.Common.{◌≡◌, ℕ, ◌⊎◌, inl, inr, Bool, true, false, not, ◌&&◌, cond, Option, Some, None, List}
+use Rattle.std.proofs.Common.{is_some, option_map, refl, sym, ap, ◌∙◌, subst}
 use Rattle.irq_base.specs.declared.numbers.CpuNo.{CpuNo}
 use Rattle.irq_base.specs.declared.numbers.DevNo.{DevNo}
 use Rattle.irq_base.specs.declared.devices.Answer.{Answer}
@@ -7,15 +8,19 @@ use Rattle.irq_base.specs.declared.devices.Part.TheVariants as parts
 use Rattle.irq_base.specs.declared.lines.FlowKind.{FlowKind}
 use Rattle.irq_base.specs.declared.lines.FlowKind.TheVariants as flows
 use Rattle.irq_base.specs.declared.lines.LineDef.{LineDef}
+use Rattle.irq_base.specs.declared.calls.Call.{Call}
+use Rattle.irq_base.specs.declared.entries.Actor.{Actor}
+use Rattle.irq_base.specs.declared.entries.Actor.TheVariants as actors
 use Rattle.irq_base.specs.declared.entries.Entry.{Entry}
 use Rattle.irq_base.specs.declared.entries.Entry.TheVariants as by
+use Rattle.irq_base.specs.declared.entries.CallEntry.{CallEntry}
 use Rattle.irq_base.specs.declared.entries.CpuEntry.TheVariants as cpus
 use Rattle.irq_base.specs.declared.entries.Way.{Way}
 use Rattle.irq_base.specs.declared.entries.Way.TheVariants as ways
 use Rattle.irq_base.specs.declared.entries.TakeAnswer.{TakeAnswer}
 use Rattle.irq_base.specs.declared.entries.Note.{Note}
-use Rattle.irq_base.specs.Handlers.{answer_of}
-use Rattle.irq_model.specs.Lines.{is_edge_line, kind_of}
+use Rattle.irq_model.specs.Kinds.{made_by}
+use Rattle.irq_model.specs.Lines.{is_edge_line}
 use Rattle.irq_model.specs.Links.{linked, is_oneshot}
 use Rattle.irq_model.specs.Masks.{is_masked}
 use Rattle.irq_model.specs.Rounds.{flow, is_cpu, first_left, at_work}
@@ -23,7 +28,9 @@ use Rattle.irq_model.specs.Waiting.{is_pending, is_soft}
 use Rattle.irq_model.specs.Signal.{signals, target}
 use Rattle.irq_model.specs.Threads.{is_some_unfinished}
 use Rattle.irq_model.specs.Spurious.{note_of}
-use Rattle.irq_model.specs.Next.{asks_of_handler, is_off_now, end_by_flow, end_of, begin_or_end, next_in_flow, take_answer, next_take, next_of_cpu}
+use Rattle.irq_model.specs.Runs.{answer_of_run_now, served_by_run, due_in_run}
+use Rattle.irq_model.specs.Next.{is_off_now, end_by_flow, end_of, begin_or_end, return_of, handler_or_return, next_step}
+use Rattle.irq_model.specs.Next.{next_in_flow, take_answer, next_take, next_of_cpu}
 use Rattle.irq_model.specs.Legal.{IsDue}
 use Rattle.irq_laws.proofs.Chosen.{chosen, the_same}
 
@@ -78,11 +85,13 @@ pub record IsBeginDue (def : LineDef) (c : CpuNo) (d : DevNo) (past : List Entry
   pub none_at_work : at_work past ≡ None
   pub first : first_left def past (linked past) ≡ Some d
 
--- the handler that is at work returns
-pub record IsReturnDue (def : LineDef) (c : CpuNo) (d : DevNo) (answer : Answer) (past : List Entry) : Type 0 where
+-- the handler that is at work has no call left, and returns
+pub record IsReturnDue (def : LineDef) (c : CpuNo) (d : DevNo) (answer : Answer) (served : ℕ) (past : List Entry) : Type 0 where
   pub of_flow : is_cpu c (flow def past) ≡ true
   pub is_at_work : at_work past ≡ Some d
-  pub answer_is : answer ≡ answer_of (kind_of def d) parts.Primary (asks_of_handler def d past)
+  pub no_call : due_in_run def parts.Primary d past ≡ None
+  pub answer_is : answer ≡ answer_of_run_now def parts.Primary d past
+  pub served_is : served ≡ served_by_run def parts.Primary d past
 
 -- nothing is at work, and no linked device is left
 pub record IsEndDue (def : LineDef) (c : CpuNo) (again unmask : Bool) (note : Note) (past : List Entry) : Type 0 where
@@ -93,166 +102,159 @@ pub record IsEndDue (def : LineDef) (c : CpuNo) (again unmask : Bool) (note : No
   pub again_is : again ≡ again_by def def.flow past (note_of def past)
   pub unmask_is : unmask ≡ unmask_by def def.flow past (note_of def past)
 
--- ---- a processor is in the flow, or takes
+-- the handler that is at work makes the step of its due call
+pub record IsHandlerCallDue (def : LineDef) (c : CpuNo) (call : CallEntry) (past : List Entry) : Type 0 where
+  pub of_flow : is_cpu c (flow def past) ≡ true
+  pub dev : DevNo
+  pub is_at_work : at_work past ≡ Some dev
+  pub due : Call × ℕ
+  pub is_due : due_in_run def parts.Primary dev past ≡ Some due
+  pub step : next_step def past due ≡ Some call
 
-pub cpu_cases : (def : LineDef) (c : CpuNo) (past : List Entry) (e : Entry) → next_of_cpu def c past ≡ Some e
-    → ((is_cpu c (flow def past) ≡ true) × (next_in_flow def c past (at_work past) ≡ e))
-    ⊎ ((is_cpu c (flow def past) ≡ false) × (next_take def c past ≡ Some e))
-cpu_cases def c past e due = by_branch (chosen (is_cpu c (flow def past)) (Some (next_in_flow def c past (at_work past))) (next_take def c past) e due)
+-- ---- the rows of a processor
+
+pub data CpuRow (def : LineDef) (c : CpuNo) (past : List Entry) (e : Entry) : Type 0 where
+  calls : (call : CallEntry) → IsHandlerCallDue def c call past → by.CpuCall c call ≡ e → CpuRow def c past e
+  returns : (d : DevNo) → is_cpu c (flow def past) ≡ true → at_work past ≡ Some d → due_in_run def parts.Primary d past ≡ None
+      → return_of def c d past ≡ e → CpuRow def c past e
+  begins : (d : DevNo) → is_cpu c (flow def past) ≡ true → at_work past ≡ None → first_left def past (linked past) ≡ Some d
+      → by.Cpu c (cpus.Begin d) ≡ e → CpuRow def c past e
+  ends : is_cpu c (flow def past) ≡ true → at_work past ≡ None → first_left def past (linked past) ≡ None
+      → by.Cpu c (cpus.End (again_by def def.flow past (note_of def past)) (unmask_by def def.flow past (note_of def past)) (note_of def past)) ≡ e
+      → CpuRow def c past e
+  takes : is_cpu c (flow def past) ≡ false → is_cpu c (target def past) ≡ true → signals def past ≡ true
+      → by.Cpu c (cpus.Take ways.Line (take_answer def past)) ≡ e → CpuRow def c past e
+  resent : is_cpu c (flow def past) ≡ false → is_cpu c (target def past) ≡ true → signals def past ≡ false → is_soft past ≡ true
+      → by.Cpu c (cpus.Take ways.Resend (take_answer def past)) ≡ e → CpuRow def c past e
+
+-- a step of what is due, made by an actor
+pub made_step : (a : Actor) (o : Option CallEntry) (e : Entry) → option_map (made_by a) o ≡ Some e
+    → (call : CallEntry) × (o ≡ Some call) × (made_by a call ≡ e)
+made_step a None e h = cc
+made_step a (Some call) e h = (call, refl, the_same _ _ h)
+
+call_row : (def : LineDef) (c : CpuNo) (d : DevNo) (past : List Entry) (e : Entry) (o : Option (Call × ℕ))
+    → is_cpu c (flow def past) ≡ true → at_work past ≡ Some d → due_in_run def parts.Primary d past ≡ o
+    → handler_or_return def c d past o ≡ Some e → CpuRow def c past e
+call_row def c d past e None f w is h = returns d f w is (the_same _ _ h)
+call_row def c d past e (Some due) f w is h =
+    let m = made_step (actors.Cpu c) (next_step def past due) e h in
+    calls m.0 (record { of_flow = f; dev = d; is_at_work = w; due = due; is_due = is; step = m.1 }) m.2
+
+left_row : (def : LineDef) (c : CpuNo) (past : List Entry) (e : Entry) (l : Option DevNo)
+    → is_cpu c (flow def past) ≡ true → at_work past ≡ None → first_left def past (linked past) ≡ l
+    → begin_or_end def c past l ≡ e → CpuRow def c past e
+left_row def c past e None f w is h = ends f w is (sym (end_shape def c past) ∙ h)
+left_row def c past e (Some d) f w is h = begins d f w is h
+
+flow_row : (def : LineDef) (c : CpuNo) (past : List Entry) (e : Entry) (w : Option DevNo)
+    → is_cpu c (flow def past) ≡ true → at_work past ≡ w → next_in_flow def c past w ≡ Some e → CpuRow def c past e
+flow_row def c past e None f is h = left_row def c past e (first_left def past (linked past)) f is refl (the_same _ _ h)
+flow_row def c past e (Some d) f is h = call_row def c d past e (due_in_run def parts.Primary d past) f is refl h
+
+take_row : (def : LineDef) (c : CpuNo) (past : List Entry) (e : Entry) (t s o : Bool)
+    → is_cpu c (flow def past) ≡ false → is_cpu c (target def past) ≡ t → signals def past ≡ s → is_soft past ≡ o
+    → cond (not t) None (cond s (Some (by.Cpu c (cpus.Take ways.Line (take_answer def past))))
+    (cond o (Some (by.Cpu c (cpus.Take ways.Resend (take_answer def past)))) None)) ≡ Some e
+    → CpuRow def c past e
+take_row def c past e true true o f it is io h = takes f it is (the_same _ _ h)
+take_row def c past e true false true f it is io h = resent f it is io (the_same _ _ h)
+take_row def c past e true false false f it is io h = cc
+take_row def c past e false s o f it is io h = cc
+
+-- the row of a processor's entry
+pub cpu_row : (def : LineDef) (c : CpuNo) (past : List Entry) (e : Entry) → next_of_cpu def c past ≡ Some e → CpuRow def c past e
+cpu_row def c past e due = by_branch (chosen (is_cpu c (flow def past)) (next_in_flow def c past (at_work past)) (next_take def c past) e due)
   where
-    by_branch : ((is_cpu c (flow def past) ≡ true) × (Some (next_in_flow def c past (at_work past)) ≡ Some e))
-        ⊎ ((is_cpu c (flow def past) ≡ false) × (next_take def c past ≡ Some e))
-        → ((is_cpu c (flow def past) ≡ true) × (next_in_flow def c past (at_work past) ≡ e))
-        ⊎ ((is_cpu c (flow def past) ≡ false) × (next_take def c past ≡ Some e))
-    by_branch (inl h) = inl (h.0, the_same _ _ h.1)
-    by_branch (inr h) = inr h
-
--- what a take is
-pub take_cases : (t s o : Bool) (l r e : Entry) → cond (not t) None (cond s (Some l) (cond o (Some r) None)) ≡ Some e
-    → (t ≡ true) × (((s ≡ true) × (l ≡ e)) ⊎ ((s ≡ false) × (o ≡ true) × (r ≡ e)))
-take_cases true true o l r e h = (refl, inl (refl, the_same _ _ h))
-take_cases true false true l r e h = (refl, inr (refl, refl, the_same _ _ h))
-take_cases true false false l r e h = cc
-take_cases false s o l r e h = cc
-
-take_of : (def : LineDef) (c : CpuNo) (past : List Entry) (e : Entry) → next_take def c past ≡ Some e
-    → (is_cpu c (target def past) ≡ true) × (((signals def past ≡ true)
-    × (by.Cpu c (cpus.Take ways.Line (take_answer def past)) ≡ e))
-    ⊎ ((signals def past ≡ false) × (is_soft past ≡ true)
-    × (by.Cpu c (cpus.Take ways.Resend (take_answer def past)) ≡ e)))
-take_of def c past e h = take_cases (is_cpu c (target def past)) (signals def past) (is_soft past) _ _ e h
-
--- ---- in the flow
-
--- no entry of a processor in the flow is a take
-not_take_left : (def : LineDef) (c : CpuNo) (past : List Entry) (l : Option DevNo) (way : Way) (answer : TakeAnswer)
-    → begin_or_end def c past l ≡ by.Cpu c (cpus.Take way answer) → ⊥
-not_take_left def c past None way answer h = let n = sym (end_shape def c past) ∙ h in cc
-not_take_left def c past (Some d) way answer h = cc
-
-not_take : (def : LineDef) (c : CpuNo) (past : List Entry) (w : Option DevNo) (way : Way) (answer : TakeAnswer)
-    → next_in_flow def c past w ≡ by.Cpu c (cpus.Take way answer) → ⊥
-not_take def c past None way answer h = not_take_left def c past (first_left def past (linked past)) way answer h
-not_take def c past (Some d) way answer h = cc
-
-begin_left : (def : LineDef) (c : CpuNo) (past : List Entry) (l : Option DevNo) (d : DevNo) → begin_or_end def c past l ≡ by.Cpu c (cpus.Begin d) → l ≡ Some d
-begin_left def c past None d h = let n = sym (end_shape def c past) ∙ h in cc
-begin_left def c past (Some x) d h = cc
-
-begin_work : (def : LineDef) (c : CpuNo) (past : List Entry) (w : Option DevNo) (d : DevNo)
-    → next_in_flow def c past w ≡ by.Cpu c (cpus.Begin d) → (w ≡ None) × (first_left def past (linked past) ≡ Some d)
-begin_work def c past None d h = (refl, begin_left def c past (first_left def past (linked past)) d h)
-begin_work def c past (Some x) d h = cc
-
-return_left : (def : LineDef) (c : CpuNo) (past : List Entry) (l : Option DevNo) (d : DevNo) (answer : Answer)
-    (served : ℕ) → begin_or_end def c past l ≡ by.Cpu c (cpus.Return answer d served) → ⊥
-return_left def c past None d answer served h = let n = sym (end_shape def c past) ∙ h in cc
-return_left def c past (Some x) d answer served h = cc
-
-same_return : (def : LineDef) (c : CpuNo) (past : List Entry) (x d : DevNo) (answer : Answer) (served : ℕ)
-    → next_in_flow def c past (Some x) ≡ by.Cpu c (cpus.Return answer d served)
-    → (x ≡ d) × (answer_of (kind_of def x) parts.Primary (asks_of_handler def x past) ≡ answer)
-same_return def c past x d answer served h = (
-  let a : x ≡ d = cc in
-      a,
-  let b : answer_of (kind_of def x) parts.Primary (asks_of_handler def x past) ≡ answer = cc in b,
-)
-
-return_work : (def : LineDef) (c : CpuNo) (past : List Entry) (w : Option DevNo) (d : DevNo) (answer : Answer)
-    (served : ℕ) → next_in_flow def c past w ≡ by.Cpu c (cpus.Return answer d served)
-    → (w ≡ Some d) × (answer ≡ answer_of (kind_of def d) parts.Primary (asks_of_handler def d past))
-return_work def c past None d answer served h = absurd (return_left def c past (first_left def past (linked past)) d answer served h)
-return_work def c past (Some x) d answer served h =
-    let s = same_return def c past x d answer served h in
-    (ap Some s.0, sym (ap (λ (y : DevNo). answer_of (kind_of def y) parts.Primary (asks_of_handler def y past)) (sym s.0) ∙ s.1))
-
-end_left : (def : LineDef) (c : CpuNo) (past : List Entry) (l : Option DevNo) (again unmask : Bool) (note : Note)
-    → begin_or_end def c past l ≡ by.Cpu c (cpus.End again unmask note)
-    → (l ≡ None) × (end_of def c past ≡ by.Cpu c (cpus.End again unmask note))
-end_left def c past None again unmask note h = (refl, h)
-end_left def c past (Some x) again unmask note h = cc
-
-end_work : (def : LineDef) (c : CpuNo) (past : List Entry) (w : Option DevNo) (again unmask : Bool) (note : Note)
-    → next_in_flow def c past w ≡ by.Cpu c (cpus.End again unmask note)
-    → (w ≡ None) × (first_left def past (linked past) ≡ None) × (end_of def c past ≡ by.Cpu c (cpus.End again unmask note))
-end_work def c past None again unmask note h = let n = end_left def c past (first_left def past (linked past)) again unmask note h in (refl, n.0, n.1)
-end_work def c past (Some x) again unmask note h = cc
-
-same_end : (c : CpuNo) (a u : Bool) (n : Note) (again unmask : Bool) (note : Note)
-    → by.Cpu c (cpus.End a u n) ≡ by.Cpu c (cpus.End again unmask note) → (again ≡ a) × (unmask ≡ u) × (note ≡ n)
-same_end c a u n again unmask note h = (let x : again ≡ a = cc in x, let x : unmask ≡ u = cc in x, let x : note ≡ n = cc in x)
+    by_branch : ((is_cpu c (flow def past) ≡ true) × (next_in_flow def c past (at_work past) ≡ Some e))
+        ⊎ ((is_cpu c (flow def past) ≡ false) × (next_take def c past ≡ Some e)) → CpuRow def c past e
+    by_branch (inl h) = flow_row def c past e (at_work past) h.0 refl h.1
+    by_branch (inr h) = take_row def c past e (is_cpu c (target def past)) (signals def past) (is_soft past) h.0 refl refl refl h.1
 
 -- ---- the inversions
 
+take_from : (def : LineDef) (c : CpuNo) (way : Way) (answer : TakeAnswer) (past : List Entry)
+    → CpuRow def c past (by.Cpu c (cpus.Take way answer)) → IsTakeDue def c way answer past
+take_from def c way answer past (takes f t s same) =
+    let a : answer ≡ take_answer def past = cc in
+    let w : way ≡ ways.Line = cc in
+    record { not_of_flow = f; of_target = t; answer_is = a; by_line = λ is. s; by_resend = λ is. absurd (let n : ⊥ = cc (sym w ∙ is) in n) }
+take_from def c way answer past (resent f t s o same) =
+    let a : answer ≡ take_answer def past = cc in
+    let w : way ≡ ways.Resend = cc in
+    record { not_of_flow = f; of_target = t; answer_is = a; by_line = λ is. absurd (let n : ⊥ = cc (sym w ∙ is) in n); by_resend = λ is. (s, o) }
+take_from def c way answer past (calls call u same) = cc
+take_from def c way answer past (returns d f w n same) = cc
+take_from def c way answer past (begins d f w l same) = cc
+take_from def c way answer past (ends f w l same) = cc
+
 pub take_due : (def : LineDef) (c : CpuNo) (way : Way) (answer : TakeAnswer) (past : List Entry)
     → IsDue def (by.Cpu c (cpus.Take way answer)) past → IsTakeDue def c way answer past
-take_due def c way answer past due = by_case (cpu_cases def c past (by.Cpu c (cpus.Take way answer)) due)
-  where
-    by_way : is_cpu c (flow def past) ≡ false → is_cpu c (target def past) ≡ true
-        → ((signals def past ≡ true) × (by.Cpu c (cpus.Take ways.Line (take_answer def past)) ≡ by.Cpu c (cpus.Take way answer)))
-        ⊎ ((signals def past ≡ false) × (is_soft past ≡ true)
-        × (by.Cpu c (cpus.Take ways.Resend (take_answer def past)) ≡ by.Cpu c (cpus.Take way answer)))
-        → IsTakeDue def c way answer past
-    by_way no_flow of_target (inl h) =
-        let a : answer ≡ take_answer def past = cc (h.1) in
-        let w : way ≡ ways.Line = cc (h.1) in
-        record { not_of_flow = no_flow; of_target = of_target; answer_is = a; by_line = λ is. h.0; by_resend = λ is. absurd (let n : ⊥ = cc (sym w ∙ is) in n) }
-    by_way no_flow of_target (inr h) =
-        let a : answer ≡ take_answer def past = cc (h.2) in
-        let w : way ≡ ways.Resend = cc (h.2) in
-        record {
-          not_of_flow = no_flow;
-          of_target = of_target;
-          answer_is = a;
-          by_line
-              = λ is. absurd (let n : ⊥ = cc (sym w ∙ is) in n);
-          by_resend = λ is. (h.0, h.1);
-        }
+take_due def c way answer past due = take_from def c way answer past (cpu_row def c past (by.Cpu c (cpus.Take way answer)) due)
 
-    by_case : ((is_cpu c (flow def past) ≡ true) × (next_in_flow def c past (at_work past) ≡ by.Cpu c (cpus.Take way answer)))
-        ⊎ ((is_cpu c (flow def past) ≡ false) × (next_take def c past ≡ Some (by.Cpu c (cpus.Take way answer))))
-        → IsTakeDue def c way answer past
-    by_case (inl h) = absurd (not_take def c past (at_work past) way answer h.1)
-    by_case (inr h) = let t = take_of def c past (by.Cpu c (cpus.Take way answer)) h.1 in by_way h.0 t.0 t.1
-
--- an entry that is no take is the next in the flow
-pub in_flow : (def : LineDef) (c : CpuNo) (past : List Entry) (e : Entry)
-    → ((way : Way) (answer : TakeAnswer) → by.Cpu c (cpus.Take way answer) ≡ e → ⊥) → next_of_cpu def c past ≡ Some e
-    → (is_cpu c (flow def past) ≡ true) × (next_in_flow def c past (at_work past) ≡ e)
-in_flow def c past e differs due = by_case (cpu_cases def c past e due)
-  where
-    by_way : ((signals def past ≡ true) × (by.Cpu c (cpus.Take ways.Line (take_answer def past)) ≡ e))
-        ⊎ ((signals def past ≡ false) × (is_soft past ≡ true) × (by.Cpu c (cpus.Take ways.Resend (take_answer def past)) ≡ e))
-        → ⊥
-    by_way (inl h) = differs ways.Line (take_answer def past) h.1
-    by_way (inr h) = differs ways.Resend (take_answer def past) h.2
-
-    by_case : ((is_cpu c (flow def past) ≡ true) × (next_in_flow def c past (at_work past) ≡ e))
-        ⊎ ((is_cpu c (flow def past) ≡ false) × (next_take def c past ≡ Some e))
-        → (is_cpu c (flow def past) ≡ true) × (next_in_flow def c past (at_work past) ≡ e)
-    by_case (inl h) = h
-    by_case (inr h) = absurd (by_way (take_of def c past e h.1).1)
+begin_from : (def : LineDef) (c : CpuNo) (d : DevNo) (past : List Entry) → CpuRow def c past (by.Cpu c (cpus.Begin d)) → IsBeginDue def c d past
+begin_from def c d past (begins x f w l same) = let s : x ≡ d = cc in record { of_flow = f; none_at_work = w; first = l ∙ ap Some s }
+begin_from def c d past (calls call u same) = cc
+begin_from def c d past (returns x f w n same) = cc
+begin_from def c d past (ends f w l same) = cc
+begin_from def c d past (takes f t s same) = cc
+begin_from def c d past (resent f t s o same) = cc
 
 pub begin_due : (def : LineDef) (c : CpuNo) (d : DevNo) (past : List Entry) → IsDue def (by.Cpu c (cpus.Begin d)) past → IsBeginDue def c d past
-begin_due def c d past due =
-    let f = in_flow def c past (by.Cpu c (cpus.Begin d)) (λ way answer is. cc) due in
-    let w = begin_work def c past (at_work past) d f.1 in
-    record { of_flow = f.0; none_at_work = w.0; first = w.1 }
+begin_due def c d past due = begin_from def c d past (cpu_row def c past (by.Cpu c (cpus.Begin d)) due)
+
+return_from : (def : LineDef) (c : CpuNo) (d : DevNo) (answer : Answer) (served : ℕ) (past : List Entry)
+    → CpuRow def c past (by.Cpu c (cpus.Return answer d served)) → IsReturnDue def c d answer served past
+return_from def c d answer served past (returns x f w n same) =
+    let s : x ≡ d = cc in
+    let a : answer_of_run_now def parts.Primary x past ≡ answer = cc in
+    let v : served_by_run def parts.Primary x past ≡ served = cc in
+    record {
+      of_flow = f;
+      is_at_work = w ∙ ap Some s;
+      no_call = ap (λ (y : DevNo). due_in_run def parts.Primary y past) (sym s) ∙ n;
+      answer_is = sym a ∙ ap (λ (y : DevNo). answer_of_run_now def parts.Primary y past) s;
+      served_is = sym v ∙ ap (λ (y : DevNo). served_by_run def parts.Primary y past) s;
+    }
+return_from def c d answer served past (calls call u same) = cc
+return_from def c d answer served past (begins x f w l same) = cc
+return_from def c d answer served past (ends f w l same) = cc
+return_from def c d answer served past (takes f t s same) = cc
+return_from def c d answer served past (resent f t s o same) = cc
 
 pub return_due : (def : LineDef) (c : CpuNo) (d : DevNo) (answer : Answer) (served : ℕ) (past : List Entry)
-    → IsDue def (by.Cpu c (cpus.Return answer d served)) past → IsReturnDue def c d answer past
-return_due def c d answer served past due =
-    let f = in_flow def c past (by.Cpu c (cpus.Return answer d served)) (λ way answer is. cc) due in
-    let w = return_work def c past (at_work past) d answer served f.1 in
-    record { of_flow = f.0; is_at_work = w.0; answer_is = w.1 }
+    → IsDue def (by.Cpu c (cpus.Return answer d served)) past → IsReturnDue def c d answer served past
+return_due def c d answer served past due = return_from def c d answer served past (cpu_row def c past (by.Cpu c (cpus.Return answer d served)) due)
+
+end_from : (def : LineDef) (c : CpuNo) (again unmask : Bool) (note : Note) (past : List Entry)
+    → CpuRow def c past (by.Cpu c (cpus.End again unmask note)) → IsEndDue def c again unmask note past
+end_from def c again unmask note past (ends f w l same) =
+    let a : again ≡ again_by def def.flow past (note_of def past) = cc in
+    let u : unmask ≡ unmask_by def def.flow past (note_of def past) = cc in
+    let n : note ≡ note_of def past = cc in
+    record { of_flow = f; none_at_work = w; none_left = l; note_is = n; again_is = a; unmask_is = u }
+end_from def c again unmask note past (calls call u same) = cc
+end_from def c again unmask note past (returns x f w n same) = cc
+end_from def c again unmask note past (begins x f w l same) = cc
+end_from def c again unmask note past (takes f t s same) = cc
+end_from def c again unmask note past (resent f t s o same) = cc
 
 pub end_due : (def : LineDef) (c : CpuNo) (again unmask : Bool) (note : Note) (past : List Entry)
     → IsDue def (by.Cpu c (cpus.End again unmask note)) past → IsEndDue def c again unmask note past
-end_due def c again unmask note past due =
-    let f = in_flow def c past (by.Cpu c (cpus.End again unmask note)) (λ way answer is. cc) due in
-    let w = end_work def c past (at_work past) again unmask note f.1 in
-    let s = same_end c _ _ _ again unmask note (sym (end_shape def c past) ∙ w.2) in
-    record { of_flow = f.0; none_at_work = w.0; none_left = w.1; note_is = s.2; again_is = s.0; unmask_is = s.1 }
+end_due def c again unmask note past due = end_from def c again unmask note past (cpu_row def c past (by.Cpu c (cpus.End again unmask note)) due)
+
+handler_call_from : (def : LineDef) (c : CpuNo) (call : CallEntry) (past : List Entry)
+    → CpuRow def c past (by.CpuCall c call) → IsHandlerCallDue def c call past
+handler_call_from def c call past (calls x u same) = let s : x ≡ call = cc in subst (λ (y : CallEntry). IsHandlerCallDue def c y past) s u
+handler_call_from def c call past (returns x f w n same) = cc
+handler_call_from def c call past (begins x f w l same) = cc
+handler_call_from def c call past (ends f w l same) = cc
+handler_call_from def c call past (takes f t s same) = cc
+handler_call_from def c call past (resent f t s o same) = cc
+
+pub handler_call_due : (def : LineDef) (c : CpuNo) (call : CallEntry) (past : List Entry)
+    → IsDue def (by.CpuCall c call) past → IsHandlerCallDue def c call past
+handler_call_due def c call past due = handler_call_from def c call past (cpu_row def c past (by.CpuCall c call) due)
 
 -- a processor's flow is a flow
 pub has_a_flow : (c : CpuNo) (o : Option CpuNo) → is_cpu c o ≡ true → is_some o ≡ true

@@ -13,6 +13,8 @@ use Rattle.irq_base.specs.declared.entries.Entry.TheVariants as by
 use Rattle.irq_base.specs.declared.entries.CpuEntry.TheVariants as cpus
 use Rattle.irq_base.specs.declared.entries.ThreadEntry.TheVariants as threads
 use Rattle.irq_base.specs.declared.entries.DriverEntry.TheVariants as drivers
+use Rattle.irq_base.specs.declared.entries.CallEntry.{CallEntry}
+use Rattle.irq_base.specs.declared.entries.CallEntry.TheVariants as called
 use Rattle.irq_base.specs.declared.entries.TakeAnswer.TheVariants as takes
 use Rattle.irq_base.specs.declared.entries.LinkAnswer.TheVariants as links
 use Rattle.irq_base.specs.declared.entries.Errno.{Errno}
@@ -20,7 +22,7 @@ use Rattle.irq_base.specs.declared.entries.Opened.{Opened}
 use Rattle.irq_base.specs.declared.entries.Note.{Note}
 use Rattle.irq_model.specs.Kinds.{is_take, is_start, same_dev}
 use Rattle.irq_model.specs.Lines.{is_edge_line, is_level_line, is_edge_flow, is_eoi_flow}
-use Rattle.irq_model.specs.Links.{depth, requested, is_linked, is_none_linked, is_empty, is_disabled, is_oneshot}
+use Rattle.irq_model.specs.Links.{linking_flags, depth, requested, is_linked, is_none_linked, is_empty, is_disabled, is_oneshot}
 use Rattle.irq_model.specs.Masks.{is_masked}
 use Rattle.irq_model.specs.Rounds.{flow, has_flow}
 use Rattle.irq_model.specs.Threads.{is_woken, is_unfinished, is_some_unfinished, is_other_unfinished}
@@ -31,6 +33,7 @@ use Rattle.irq_model.specs.Valid.{IsValid}
 use Rattle.irq_model.specs.Reason.{LevelMaskIsHeld, EoiLevelMaskIsOneshot}
 use Rattle.irq_steps.proofs.RoundSteps.{flow_quiet}
 use Rattle.irq_steps.proofs.Same.{dev_from_same}
+use Rattle.irq_laws.specs.Actors.{by_someone}
 use Rattle.irq_laws.specs.Kept.{Kept, KeepsDepth, KeepsLevels, LinkedIsWanted}
 use Rattle.irq_laws.proofs.Lists.{any_imply, both_ways}
 use Rattle.irq_laws.proofs.RestKept.{goes_with, none_freed, no_part, parts_of}
@@ -110,6 +113,17 @@ refused_stays def s x flags error opened past h =
     at_dev : (d : DevNo) → is_unfinished past d ≡ true → is_unfinished (by.Driver s (drivers.Request flags (links.Refused error) opened x) ∷ past) d ≡ true
     at_dev d is = rw (no_part (same_dev d x)) is
 
+-- no step of a call resets a bit
+call_stays : (def : LineDef) (call : CallEntry) (past : List Entry)
+    → is_some_unfinished def past ≡ true → is_some_unfinished def (by_someone call ∷ past) ≡ true
+call_stays def (called.Wake woken x) past h =
+    any_imply (λ (y : DeviceDef). is_unfinished past y.dev) (λ y. is_unfinished (by_someone (called.Wake woken x) ∷ past) y.dev) def.devices
+    (λ y is. one_more (linking_flags past y.dev).oneshot (woken && same_dev y.dev x) _ is) h
+  where
+    one_more : (o w s : Bool) → (o && s) ≡ true → (o && (w || s)) ≡ true
+    one_more o w s h = grind arith
+call_stays def call past h = h
+
 other_held : (w d m o : Bool) → w ≡ false → d ≡ false → m ≡ true → (not w && (not d && (m && not o))) ≡ false → o ≡ true
 other_held w d m o x y z h = grind arith
 
@@ -164,6 +178,15 @@ level_more def (by.Driver s (drivers.Request flags (links.Refused error) opened 
     level_plain def (by.Driver s (drivers.Request flags (links.Refused error) opened x)) past due kd k.level
     (record { no_take = refl; no_handle = refl; no_leave = refl; no_again = refl })
     (refused_stays def s x flags error opened past) level m zero
+level_more def (by.CpuCall c call) past valid due kept kd w k level m zero =
+    level_plain def (by.CpuCall c call) past due kd k.level (record { no_take = refl; no_handle = refl; no_leave = refl; no_again = refl })
+    (call_stays def call past) level m zero
+level_more def (by.ThreadCall x call) past valid due kept kd w k level m zero =
+    level_plain def (by.ThreadCall x call) past due kd k.level (record { no_take = refl; no_handle = refl; no_leave = refl; no_again = refl })
+    (call_stays def call past) level m zero
+level_more def (by.DriverCall s call) past valid due kept kd w k level m zero =
+    level_plain def (by.DriverCall s call) past due kd k.level (record { no_take = refl; no_handle = refl; no_leave = refl; no_again = refl })
+    (call_stays def call past) level m zero
 level_more def e past valid due kept kd w k level m zero =
     level_plain def e past due kd k.level (record { no_take = refl; no_handle = refl; no_leave = refl; no_again = refl }) (λ u. u) level m zero
 

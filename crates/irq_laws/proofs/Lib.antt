@@ -1,8 +1,10 @@
 pub mod Chosen
 pub mod ImpliesFlow
 pub mod ImpliesThread
+pub mod ImpliesCall
 pub mod ImpliesDriver
 pub mod Lists
+pub mod ActorSteps
 pub mod Progress
 pub mod RunsKept
 pub mod Mutex
@@ -29,9 +31,14 @@ pub mod WithinFree
 pub mod BlockLaws
 pub mod DriversMove
 pub mod RestLaws
+pub mod Standstill
 pub mod LevelSteps
 pub mod CellSteps
 pub mod Starts
 pub mod CellKept
 pub mod LogLaws
+pub mod ToCome
+pub mod Owes
+pub mod Sums
+pub mod LeftEnabled
 pub mod OwnLaws

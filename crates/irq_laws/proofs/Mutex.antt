@@ -1,9 +1,8 @@
 -- The request mutex, and who holds it: laws of any past.
-use Rattle.std.proofs.Common.{◌≡◌, ◌⊎◌, inl, inr, Bool, true, false, not, ◌||◌, ◌&&◌, Some, List, [], ◌∷◌, refl, sym, ap, ◌∙◌, subst, arith}
+use Rattle.std.proofs.Common.{◌≡◌, ◌⊎◌, inl, inr, Bool, true, false, not, ◌||◌, ◌&&◌, Option, Some, List, [], ◌∷◌, refl, sym, ap, ◌∙◌, subst, arith}
 use Rattle.std.proofs.lemmas.Bool.{and_parts, and_from, or_cases, or_left, or_right, or_from, or_parts, not-true}
 use Rattle.std.specs.List.{list_any}
 use Rattle.irq_base.specs.declared.numbers.DevNo.{DevNo}
-use Rattle.irq_base.specs.declared.numbers.DriverNo.{DriverNo}
 use Rattle.irq_base.specs.declared.entries.Actor.{Actor}
 use Rattle.irq_base.specs.declared.entries.Actor.TheVariants as actors
 use Rattle.irq_base.specs.declared.entries.Entry.{Entry}
@@ -13,13 +12,13 @@ use Rattle.irq_base.specs.declared.entries.CallEntry.TheVariants as called
 use Rattle.irq_base.specs.declared.entries.UnlinkAnswer.TheVariants as unlinks
 use Rattle.irq_base.specs.Who.{actor_of}
 use Rattle.irq_model.specs.Places.{some_place, stands}
-use Rattle.irq_model.specs.Kinds.{same_dev, same_driver, is_by, is_call, is_hard_clear, is_freed_by, is_unlink, is_unlinked_answer}
+use Rattle.irq_model.specs.Kinds.{same_dev, same_actor, is_by, is_call, is_hard_clear, is_freed_by, is_unlink, is_unlinked_answer, ends_free}
 use Rattle.irq_model.specs.Kinds.{unlinks_by, unlinks_one, unlinks_this, unlinks_dev}
 use Rattle.irq_model.specs.Due.{is_being_freed_at, holds_mutex}
 use Rattle.irq_model.specs.Reason.{is_cleared_at, is_cleared}
-use Rattle.irq_steps.proofs.Same.{same_self, same_self_driver, same_self_actor, actor_from_same}
+use Rattle.irq_steps.proofs.Same.{same_self, same_self_actor, actor_from_same}
 use Rattle.irq_steps.proofs.Somewhere.{some_ext}
-use Rattle.irq_laws.specs.Kept.{freeing, unlinks_of}
+use Rattle.irq_laws.specs.Kept.{freeing, freed_on, unlinks_of}
 use Rattle.irq_laws.proofs.Chosen.{the_same}
 use Rattle.irq_laws.proofs.Lists.{place_imply}
 
@@ -39,7 +38,7 @@ owned t f after (e ∷ past) = is_call (unlinks_some t) e && not (f (actor_of e)
 three : (a b c d : Bool) → (a && not (b || (c || d))) ≡ (a && not ((b || c) || d))
 three a b c d = grind arith
 
-one_later : (t : DevNo → Bool) (f : Actor → Bool) (e : Entry) (a u : List Entry) → owned t f (e ∷ a) u ≡ owned t (λ r. f r || is_freed_by r e) a u
+pub one_later : (t : DevNo → Bool) (f : Actor → Bool) (e : Entry) (a u : List Entry) → owned t f (e ∷ a) u ≡ owned t (λ r. f r || is_freed_by r e) a u
 one_later t f e a [] = refl
 one_later t f e a (x ∷ past) = three (is_call (unlinks_some t) x) (f (actor_of x)) (is_freed_by (actor_of x) e) (list_any (is_freed_by (actor_of x)) a)
 
@@ -53,7 +52,7 @@ is_any (by.ThreadCall x call) = unlinks_any call
 is_any (by.DriverCall s call) = unlinks_any call
 is_any e = refl
 
-same_place : (a u : List Entry) → is_being_freed_at a u ≡ owned (λ d. true) (λ r. false) a u
+pub same_place : (a u : List Entry) → is_being_freed_at a u ≡ owned (λ d. true) (λ r. false) a u
 same_place a [] = refl
 same_place a (e ∷ past) = ap (λ (b : Bool). b && not (list_any (is_freed_by (actor_of e)) a)) (is_any e)
 
@@ -81,23 +80,31 @@ stands_held a f (e ∷ past) free h = by_case (or_cases _ _ h) (stands_held a (�
 unended : (u s x : Bool) → x ≡ true → (u || (not (s && false) && x)) ≡ true
 unended u s x h = grind arith
 
-freeing_stands : (past : List Entry) (r : DriverNo) (d : DevNo) → freeing past ≡ Some (r, d)
-    → stands (unlinks_by (actors.Driver r)) (is_freed_by (actors.Driver r)) past ≡ true
-freeing_stands [] r d h = cc
-freeing_stands (by.DriverCall s (called.Unlink (unlinks.Unlinked last) x) ∷ past) r d h =
-    let p : DriverNo × DevNo = (s, x) in
-    let q : DriverNo × DevNo = (r, d) in
-    let same : s ≡ r = ap (λ (y : DriverNo × DevNo). y.0) (the_same p q h) in
-    or_left _ _ (and_from _ _ (subst (λ (y : DriverNo). same_driver r y ≡ true) (sym same) (same_self_driver r)) refl)
-freeing_stands (by.DriverCall s (called.Freed x) ∷ past) r d h = cc
-freeing_stands (by.DriverCall s call ∷ past) r d h = unended (same_driver r s && is_unlink (by.DriverCall s call))
-    (same_driver r s) _ (freeing_stands past r d h)
-freeing_stands (by.Driver s e ∷ past) r d h = unended (same_driver r s && false) (same_driver r s) _ (freeing_stands past r d h)
-freeing_stands (e ∷ past) r d h = freeing_stands past r d h
+maker_is : (a b : Actor) (d x : DevNo) → ◌≡◌ {A = Option (Actor × DevNo)} (Some (b, x)) (Some (a, d)) → b ≡ a
+maker_is a b d x h =
+    let p : Actor × DevNo = (b, x) in
+    let q : Actor × DevNo = (a, d) in
+    ap (λ (y : Actor × DevNo). y.0) (the_same p q h)
 
-pub freeing_holds : (past : List Entry) (f : DriverNo × DevNo) → freeing past ≡ Some f → holds_mutex past ≡ true
+call_stands : (a b : Actor) (d : DevNo) (call : CallEntry) (was : Option (Actor × DevNo)) (rest : Bool) → freed_on b call was ≡ Some (a, d)
+    → (was ≡ Some (a, d) → rest ≡ true)
+    → ((same_actor a b && unlinks_one call) || (not (same_actor a b && ends_free call) && rest)) ≡ true
+call_stands a b d (called.Unlink (unlinks.Unlinked last) x) was rest h k =
+    or_left _ _ (and_from _ _ (subst (λ (y : Actor). same_actor a y ≡ true) (sym (maker_is a b d x h)) (same_self_actor a)) refl)
+call_stands a b d (called.Unlink unlinks.NotThere x) was rest h k = unended (same_actor a b && false) (same_actor a b) rest (k h)
+call_stands a b d (called.Freed x) was rest h k = cc
+call_stands a b d call was rest h k = unended (same_actor a b && unlinks_one call) (same_actor a b) rest (k h)
+
+freeing_stands : (past : List Entry) (a : Actor) (d : DevNo) → freeing past ≡ Some (a, d) → stands (unlinks_by a) (is_freed_by a) past ≡ true
+freeing_stands [] a d h = cc
+freeing_stands (by.CpuCall c call ∷ past) a d h = call_stands a (actors.Cpu c) d call (freeing past) _ h (freeing_stands past a d)
+freeing_stands (by.ThreadCall x call ∷ past) a d h = call_stands a (actors.Thread x) d call (freeing past) _ h (freeing_stands past a d)
+freeing_stands (by.DriverCall s call ∷ past) a d h = call_stands a (actors.Driver s) d call (freeing past) _ h (freeing_stands past a d)
+freeing_stands (e ∷ past) a d h = unended (is_by a e && false) (is_by a e) _ (freeing_stands past a d h)
+
+pub freeing_holds : (past : List Entry) (f : Actor × DevNo) → freeing past ≡ Some f → holds_mutex past ≡ true
 freeing_holds past f h = place_imply (owned (λ d. true) (λ r. false)) is_being_freed_at past (λ a u is. same_place a u ∙ is)
-    (stands_held (actors.Driver f.0) (λ r. false) past refl (freeing_stands past f.0 f.1 h))
+    (stands_held f.0 (λ r. false) past refl (freeing_stands past f.0 f.1 h))
 
 -- ---- who holds the mutex is within a free
 

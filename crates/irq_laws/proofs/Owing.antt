@@ -6,8 +6,10 @@ use Rattle.irq_base.specs.declared.numbers.DevNo.{DevNo}
 use Rattle.irq_base.specs.declared.entries.Entry.{Entry}
 use Rattle.irq_base.specs.declared.entries.Entry.TheVariants as by
 use Rattle.irq_base.specs.declared.entries.DriverEntry.TheVariants as drivers
+use Rattle.irq_base.specs.declared.entries.CallEntry.{CallEntry}
+use Rattle.irq_base.specs.declared.entries.CallEntry.TheVariants as called
 use Rattle.irq_model.specs.Places.{some_place}
-use Rattle.irq_model.specs.Kinds.{is_device_edge, is_begin, unlinks_dev, links_dev}
+use Rattle.irq_model.specs.Kinds.{is_device_edge, arms_with_edge, is_begin, unlinks_dev, unlinks_this, links_dev}
 use Rattle.irq_model.specs.Links.{is_linked, is_started}
 use Rattle.irq_model.specs.Owed.{comes_to}
 use Rattle.irq_steps.proofs.Somewhere.{some_none}
@@ -65,8 +67,15 @@ owed_cases d e past h = by_case (or_cases _ _ h)
 asked_stays : (k u l : Bool) → u ≡ false → l ≡ true → (k || (not u && l)) ≡ true
 asked_stays k u l a b = grind arith
 
+arms_unlink_not : (d : DevNo) (call : CallEntry) → arms_with_edge call ≡ true → unlinks_this d call ≡ false
+arms_unlink_not d (called.Arm makes x) h = refl
+arms_unlink_not d call h = cc
+
 asks_unlink_not : (d : DevNo) (e : Entry) → is_device_edge e ≡ true → unlinks_dev d e ≡ false
 asks_unlink_not d (by.Driver r (drivers.Ask makes x)) h = refl
+asks_unlink_not d (by.CpuCall c call) h = arms_unlink_not d call h
+asks_unlink_not d (by.ThreadCall x call) h = arms_unlink_not d call h
+asks_unlink_not d (by.DriverCall s call) h = arms_unlink_not d call h
 asks_unlink_not d e h = cc
 
 -- an edge is owed to linked devices alone

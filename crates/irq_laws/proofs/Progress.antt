@@ -1,48 +1,29 @@
--- How far a driver is in its script, after one more entry of its own.
+-- How far an actor is in its script, after one more entry.
 use Rattle.std.proofs.Common.{◌≡◌, ℕ, suc, ◌+◌, ◌<◌, ◌≤◌, ◌⊎◌, inl, inr, Bool, true, false, cond, Option, Some, List}
-use Rattle.std.proofs.Common.{[], ◌∷◌, ◌++◌, length, drop, filter, reverse, nat_lt, refl, sym, ap, ◌∙◌, subst, arith}
+use Rattle.std.proofs.Common.{[], ◌∷◌, ◌++◌, length, drop, nat_lt, refl, sym, ap, ap₂, ◌∙◌, subst, arith}
 use Rattle.std.proofs.Common.{length-append, drop_of_length-le}
 use Rattle.std.proofs.lemmas.List.{drop-append-le}
-use Rattle.std.proofs.lemmas.Grind.{reverse_onto}
 use Rattle.std.proofs.lemmas.Bool.{ltb-true, ltb-false, lt-ltb, le-ltb}
 use Rattle.irq_base.specs.declared.numbers.DevNo.{DevNo}
-use Rattle.irq_base.specs.declared.numbers.DriverNo.{DriverNo}
 use Rattle.irq_base.specs.declared.calls.Call.{Call}
 use Rattle.irq_base.specs.declared.calls.Call.TheVariants as calls
 use Rattle.irq_base.specs.declared.lines.LineDef.{LineDef}
+use Rattle.irq_base.specs.declared.entries.Actor.{Actor}
 use Rattle.irq_base.specs.declared.entries.Entry.{Entry}
-use Rattle.irq_base.specs.declared.entries.Entry.TheVariants as by
-use Rattle.irq_base.specs.declared.entries.CallEntry.TheVariants as called
-use Rattle.irq_base.specs.declared.entries.UnlinkAnswer.TheVariants as unlinks
-use Rattle.irq_model.specs.Kinds.{same_driver, is_by_driver}
-use Rattle.irq_model.specs.Due.{calls_by, entries_by, begins_not_there, entries_of_call, due_of, due_call}
-use Rattle.irq_steps.proofs.Same.{driver_from_same}
+use Rattle.irq_model.specs.Kinds.{is_by}
+use Rattle.irq_model.specs.Due.{begins_not_there, entries_of_call, due_of}
+use Rattle.irq_steps.proofs.DueSteps.{each_makes_some, by_first}
+use Rattle.irq_laws.specs.Actors.{calls_of, entries_of, due_of_actor}
+use Rattle.irq_laws.proofs.ActorSteps.{Turn, goes, stays, begins, ends}
 use Rattle.irq_laws.proofs.Chosen.{the_same}
+use Rattle.irq_laws.proofs.Lists.{both_ways}
 
 -- a call makes at least one entry, and one more behind the first doesn't change how many
 pub makes_one : (c : Call) (es : List Entry) → 1 ≤ entries_of_call c es
-makes_one (calls.Ask dev) es = omega arith
-makes_one (calls.Request dev flags) es = omega arith
-makes_one (calls.Free dev) es = of_free (begins_not_there es)
-  where
-    of_free : (b : Bool) → 1 ≤ cond b 1 3
-    of_free true = omega arith
-    of_free false = omega arith
-makes_one calls.Disable es = omega arith
-makes_one calls.DisableNosync es = omega arith
-makes_one calls.Enable es = omega arith
-makes_one calls.Sync es = omega arith
-makes_one (calls.Affinity mask) es = omega arith
-makes_one (calls.Moment at) es = omega arith
-
-same_begin : (y : Entry) (ys zs : List Entry) → begins_not_there (y ∷ ys) ≡ begins_not_there (y ∷ zs)
-same_begin (by.DriverCall driver (called.Unlink unlinks.NotThere dev)) ys zs = refl
-same_begin y ys zs = refl
+makes_one c es = each_makes_some c es
 
 pub same_count : (c : Call) (y : Entry) (ys zs : List Entry) → entries_of_call c (y ∷ ys) ≡ entries_of_call c (y ∷ zs)
-same_count (calls.Free dev) y ys zs = ap (λ (b : Bool). cond b 1 3) (same_begin y ys zs)
-same_count (calls.Ask dev) y ys zs = refl
-same_count c y ys zs = refl
+same_count c y ys zs = by_first c y ys zs
 
 -- if the due call is c: the calls after it, and its entries
 pub record Standing (cs : List Call) (es : List Entry) (c : Call) (n : ℕ) : Type 0 where
@@ -142,16 +123,11 @@ goes_on c rest own e d n some h = by_test (nat_lt (length (own ++ e ∷ [])) (en
 abbrev pub OneMore : Call → ℕ → Entry → Call → ℕ → Type 0
 OneMore c n e d m = ((d ≡ c) × (m ≡ n + 1) × (n ≡ 0 → nat_lt m (entries_of_call c (e ∷ [])) ≡ true)) ⊎ (m ≡ 0)
 
-pub entries_more : (r : DriverNo) (e : Entry) (past : List Entry) → is_by_driver r e ≡ true → entries_by r (e ∷ past) ≡ entries_by r past ++ e ∷ []
-entries_more r e past mine = ap (λ (b : Bool). reverse
-    (cond b (e ∷ filter (is_by_driver r) past) (filter (is_by_driver r) past))) mine
-    ∙ reverse_onto (filter (is_by_driver r) past) e []
-
 none_own : (own : List Entry) → length own ≡ 0 → own ≡ []
 none_own [] h = refl
 none_own (x ∷ xs) h = absurd (omega (arith, h))
 
-after_standing : (cs : List Call) (es : List Entry) (e : Entry) (c : Call) (n : ℕ) (d : Call) (m : ℕ)
+pub after_standing : (cs : List Call) (es : List Entry) (e : Entry) (c : Call) (n : ℕ) (d : Call) (m : ℕ)
     → Standing cs es c n → due_of cs (es ++ e ∷ []) ≡ Some (d, m) → OneMore c n e d m
 after_standing cs es e c n d m s is = by_case (goes_on c s.rest s.own e d m s.incomplete (sym (s.more e) ∙ is))
   where
@@ -166,22 +142,40 @@ after_standing cs es e c n d m s is = by_case (goes_on c s.rest s.own e d m s.in
         )
     by_case (inr h) = inr h
 
-pub one_more : (def : LineDef) (r : DriverNo) (e : Entry) (past : List Entry) (c : Call) (n : ℕ) (d : Call) (m : ℕ)
-    → is_by_driver r e ≡ true → due_call def r past ≡ Some (c, n)
-    → due_call def r (e ∷ past) ≡ Some (d, m) → OneMore c n e d m
-one_more def r e past c n d m mine was is =
-    after_standing (calls_by r def.calls) (entries_by r past) e c n d m (standing (calls_by r def.calls) (entries_by r past) c n was)
-    (ap (λ (es : List Entry). due_of (calls_by r def.calls) es) (sym (entries_more r e past mine)) ∙ is)
+-- an actor that is past the first entry of a call: it was there before, or the entry is of that call
+pub data Within (def : LineDef) (a : Actor) (e : Entry) (past : List Entry) (d : Call) (m : ℕ) : Type 0 where
+  earlier : is_by a e ≡ false → due_of_actor def a past ≡ Some (d, suc m) → Within def a e past d m
+  by_this : is_by a e ≡ true → due_of_actor def a past ≡ Some (d, m)
+      → (m ≡ 0 → nat_lt 1 (entries_of_call d (e ∷ [])) ≡ true) → Within def a e past d m
 
--- another's entry leaves a driver where it is
-pub no_more : (def : LineDef) (r : DriverNo) (e : Entry) (past : List Entry) → is_by_driver r e ≡ false → due_call def r (e ∷ past) ≡ due_call def r past
-no_more def r e past other = ap (λ (b : Bool). due_of (calls_by r def.calls)
-    (reverse (cond b (e ∷ filter (is_by_driver r) past) (filter (is_by_driver r) past)))) other
+pub within : (def : LineDef) (a : Actor) (e : Entry) (past : List Entry) (d : Call) (m : ℕ) → Turn def a e past
+    → due_of_actor def a (e ∷ past) ≡ Some (d, suc m) → Within def a e past d m
+within def a e past d m (stays other cs es) h =
+    earlier other (sym (ap₂ (λ (x : List Call) (y : List Entry). due_of x y) cs es) ∙ h)
+within def a e past d m (begins none es) h =
+    absurd (let zero = fresh (calls_of def a (e ∷ past)) d (suc m)
+    (sym (ap (λ (y : List Entry). due_of (calls_of def a (e ∷ past)) y) es) ∙ h) in omega (arith, zero))
+within def a e past d m (ends none cs es) h =
+    let n = sym (ap₂ (λ (x : List Call) (y : List Entry). due_of x y) cs es) ∙ h in cc
+within def a e past d m (goes mine due is_due cs es) h =
+    by_case due.0 due.1 is_due (after_standing (calls_of def a past) (entries_of def a past) e due.0 due.1 d (suc m)
+    (standing (calls_of def a past) (entries_of def a past) due.0 due.1 is_due) more)
+  where
+    more : due_of (calls_of def a past) (entries_of def a past ++ e ∷ []) ≡ Some (d, suc m)
+    more = sym (ap₂ (λ (x : List Call) (y : List Entry). due_of x y) cs es) ∙ h
+
+    by_case : (c : Call) (n : ℕ) → due_of_actor def a past ≡ Some (c, n) → OneMore c n e d (suc m) → Within def a e past d m
+    by_case c n is (inl o) =
+        let same : m ≡ n = (let k = o.1 in omega (arith, k)) in
+        let before : due_of_actor def a past ≡ Some (d, m) = is ∙ ap₂ (λ (x : Call) (k : ℕ). Some (x, k)) (sym o.0) (sym same) in
+        by_this mine before (λ zero. subst (λ (k : ℕ). nat_lt k (entries_of_call d (e ∷ [])) ≡ true) (ap suc zero)
+        (subst (λ (x : Call). nat_lt (suc m) (entries_of_call x (e ∷ [])) ≡ true) (sym o.0) (o.2 (sym same ∙ zero))))
+    by_case c n is (inr zero) = absurd (omega (arith, zero))
 
 -- a free makes at most three entries
-pub free_below : (def : LineDef) (r : DriverNo) (d : DevNo) (past : List Entry) (n : ℕ) → due_call def r past ≡ Some (calls.Free d, n) → n < 3
-free_below def r d past n is =
-    let s = standing (calls_by r def.calls) (entries_by r past) (calls.Free d) n is in
+pub free_below : (cs : List Call) (es : List Entry) (d : DevNo) (n : ℕ) → due_of cs es ≡ Some (calls.Free d, n) → n < 3
+free_below cs es d n is =
+    let s = standing cs es (calls.Free d) n is in
     let counts : n ≡ length s.own = s.counts in
     let below = ltb-true (length s.own) (entries_of_call (calls.Free d) s.own) s.incomplete in
     let most = at_most (begins_not_there s.own) in
@@ -191,26 +185,27 @@ free_below def r d past n is =
     at_most true = omega arith
     at_most false = omega arith
 
--- a driver that is within a free after the entry of s, whose call was c: it was there before, or
--- the entry is of that free
-pub free_before : (def : LineDef) (r s : DriverNo) (e : Entry) (past : List Entry) (c : Call) (n : ℕ) (d : DevNo)
-    (m : ℕ) → is_by_driver r e ≡ same_driver r s → due_call def s past ≡ Some (c, n)
-    → due_call def r (e ∷ past) ≡ Some (calls.Free d, suc m)
-    → ((same_driver r s ≡ false) × (due_call def r past ≡ Some (calls.Free d, suc m)))
-    ⊎ ((r ≡ s) × (calls.Free d ≡ c) × (m ≡ n) × (n ≡ 0 → nat_lt (suc m) (entries_of_call c (e ∷ [])) ≡ true))
-free_before def r s e past c n d m by was is = by_driver (same_driver r s) refl
-  where
-    by_case : r ≡ s → OneMore c n e (calls.Free d) (suc m)
-        → ((same_driver r s ≡ false) × (due_call def r past ≡ Some (calls.Free d, suc m)))
-        ⊎ ((r ≡ s) × (calls.Free d ≡ c) × (m ≡ n) × (n ≡ 0 → nat_lt (suc m) (entries_of_call c (e ∷ [])) ≡ true))
-    by_case same (inl h) = inr (same, h.0, (let k = h.1 in omega (arith, k)), h.2)
-    by_case same (inr h) = absurd (omega (arith, h))
+-- the due call goes on with e as one entry more
+pub goes_on_with : (def : LineDef) (a : Actor) (e : Entry) (past : List Entry) (c : Call) (n : ℕ) → Turn def a e past → is_by a e ≡ true
+    → due_of_actor def a past ≡ Some (c, n)
+    → ((own : List Entry) → length own ≡ n → nat_lt (length own) (entries_of_call c own) ≡ true
+    → nat_lt (length (own ++ e ∷ [])) (entries_of_call c (own ++ e ∷ [])) ≡ true)
+    → due_of_actor def a (e ∷ past) ≡ Some (c, n + 1)
+goes_on_with def a e past c n (stays other cs es) mine there more = both_ways (is_by a e) mine other
+goes_on_with def a e past c n (begins none es) mine there more = let m = sym none ∙ there in cc
+goes_on_with def a e past c n (ends none cs es) mine there more = let m = sym none ∙ there in cc
+goes_on_with def a e past c n (goes by due is_due cs es) mine there more =
+    let s = standing (calls_of def a past) (entries_of def a past) c n there in
+    let lt = more s.own (sym s.counts) s.incomplete in
+    let count : length (s.own ++ e ∷ []) ≡ n + 1 = (let l = length-append s.own (e ∷ []) in let m = s.counts in omega (arith, l, m)) in
+    ap₂ (λ (x : List Call) (y : List Entry). due_of x y) cs es ∙ s.more e
+    ∙ ap (λ (b : Bool). cond b (due_at c (length (s.own ++ e ∷ []))) (due_of s.rest (drop (entries_of_call c (s.own ++ e ∷ [])) (s.own ++ e ∷ [])))) lt
+    ∙ ap (λ (m : ℕ). due_at c m) count
 
-    by_driver : (b : Bool) → same_driver r s ≡ b → ((same_driver r s ≡ false)
-        × (due_call def r past ≡ Some (calls.Free d, suc m)))
-        ⊎ ((r ≡ s) × (calls.Free d ≡ c) × (m ≡ n) × (n ≡ 0 → nat_lt (suc m) (entries_of_call c (e ∷ [])) ≡ true))
-    by_driver true same =
-        let equal = driver_from_same r s same in
-        by_case equal (one_more def r e past c n (calls.Free d) (suc m) (by ∙ same)
-        (subst (λ (t : DriverNo). due_call def t past ≡ Some (c, n)) (sym equal) was) is)
-    by_driver false other = inl (other, sym (no_more def r e past (by ∙ other)) ∙ is)
+-- an entry that isn't an actor's leaves its due call, if it has one
+pub still_due : (def : LineDef) (a : Actor) (e : Entry) (past : List Entry) (c : Call) (n : ℕ) → Turn def a e past → is_by a e ≡ false
+    → due_of_actor def a past ≡ Some (c, n) → due_of_actor def a (e ∷ past) ≡ Some (c, n)
+still_due def a e past c n (goes by due is_due cs es) other there = both_ways (is_by a e) by other
+still_due def a e past c n (stays by cs es) other there = ap₂ (λ (x : List Call) (y : List Entry). due_of x y) cs es ∙ there
+still_due def a e past c n (begins none es) other there = let m = sym none ∙ there in cc
+still_due def a e past c n (ends none cs es) other there = let m = sym none ∙ there in cc

@@ -2,12 +2,14 @@
 use Rattle.std.proofs.Common.{◌≡◌, ◌⊎◌, inl, inr, Bool, true, false, not, ◌||◌, ◌&&◌, Some, List, [], ◌∷◌, reverse, refl, sym, ap, ◌∙◌, subst, arith}
 use Rattle.std.proofs.lemmas.Bool.{and_from, or_cases, or_left, or_right}
 use Rattle.irq_base.specs.declared.numbers.DevNo.{DevNo}
-use Rattle.irq_base.specs.declared.numbers.DriverNo.{DriverNo}
 use Rattle.irq_base.specs.declared.lines.FlowKind.{FlowKind}
 use Rattle.irq_base.specs.declared.lines.FlowKind.TheVariants as flows
 use Rattle.irq_base.specs.declared.lines.LineDef.{LineDef}
+use Rattle.irq_base.specs.declared.entries.Actor.{Actor}
+use Rattle.irq_base.specs.declared.entries.Actor.TheVariants as actors
 use Rattle.irq_base.specs.declared.entries.Entry.{Entry}
 use Rattle.irq_base.specs.declared.entries.Entry.TheVariants as by
+use Rattle.irq_base.specs.declared.entries.CallEntry.{CallEntry}
 use Rattle.irq_base.specs.declared.entries.CallEntry.TheVariants as called
 use Rattle.irq_base.specs.declared.entries.UnlinkAnswer.TheVariants as unlinks
 use Rattle.irq_model.specs.Kinds.{same_dev}
@@ -20,14 +22,14 @@ use Rattle.irq_model.specs.Reason.{is_being_freed, HasReason, OneIsCalled, OneIs
 use Rattle.irq_model.specs.Legal.{IsLegal, IsLegalPast}
 use Rattle.irq_model.specs.Valid.{IsValid}
 use Rattle.irq_steps.proofs.Same.{same_self}
-use Rattle.irq_laws.specs.Kept.{Kept, freeing}
+use Rattle.irq_laws.specs.Actors.{by_someone}
+use Rattle.irq_laws.specs.Kept.{Kept, freeing, freed_on}
 use Rattle.irq_laws.proofs.Chosen.{the_same}
 use Rattle.irq_laws.proofs.Lists.{both_ways}
 use Rattle.irq_laws.proofs.Mutex.{freeing_holds, holder}
 use Rattle.irq_laws.proofs.FreesKept.{same_free}
 use Rattle.irq_laws.proofs.Masking.{level_is_not, zero_depth}
 use Rattle.irq_laws.proofs.KeptAlways.{kept}
-use Rattle.irq_laws.proofs.OwnLaws.{no_cpu_call, no_thread_call}
 
 -- ---- a masked line
 
@@ -72,26 +74,29 @@ one_is_called def past valid legal =
 none_here : (s f : Bool) → f ≡ true → ((s && false) || f) ≡ true
 none_here s f h = grind arith
 
-freed_device : (def : LineDef) (past : List Entry) → IsLegalPast def past → (r : DriverNo) (d : DevNo) → freeing past ≡ Some (r, d)
-    → is_being_freed past d ≡ true
-freed_device def [] legal r d h = cc
-freed_device def (by.DriverCall s (called.Unlink (unlinks.Unlinked last) x) ∷ past) legal r d h =
-    let p : DriverNo × DevNo = (s, x) in
-    let q : DriverNo × DevNo = (r, d) in
-    let same : x ≡ d = ap (λ (y : DriverNo × DevNo). y.1) (the_same p q h) in
+call_frees : (b : Actor) (call : CallEntry) (past : List Entry) (a : Actor) (d : DevNo) → (freeing past ≡ Some (a, d) → is_being_freed past d ≡ true)
+    → freed_on b call (freeing past) ≡ Some (a, d) → is_being_freed (by_someone call ∷ past) d ≡ true
+call_frees b (called.Unlink (unlinks.Unlinked last) x) past a d k h =
+    let p : Actor × DevNo = (b, x) in
+    let q : Actor × DevNo = (a, d) in
+    let same : x ≡ d = ap (λ (y : Actor × DevNo). y.1) (the_same p q h) in
     or_left _ _ (and_from _ _ (subst (λ (y : DevNo). same_dev d y ≡ true) (sym same) (same_self d)) refl)
-freed_device def (by.DriverCall s (called.Unlink unlinks.NotThere x) ∷ past) legal r d h
-    = none_here (same_dev d x) (is_being_freed past d) (freed_device def past legal.1 r d h)
-freed_device def (by.DriverCall s (called.Freed x) ∷ past) legal r d h = cc
-freed_device def (by.CpuCall c call ∷ past) legal r d h = no_cpu_call def c call past legal.0
-freed_device def (by.ThreadCall x call ∷ past) legal r d h = no_thread_call def x call past legal.0
-freed_device def (e ∷ past) legal r d h = freed_device def past legal.1 r d h
+call_frees b (called.Unlink unlinks.NotThere x) past a d k h = none_here (same_dev d x) (is_being_freed past d) (k h)
+call_frees b (called.Freed x) past a d k h = cc
+call_frees b call past a d k h = k h
+
+freed_device : (past : List Entry) (a : Actor) (d : DevNo) → freeing past ≡ Some (a, d) → is_being_freed past d ≡ true
+freed_device [] a d h = cc
+freed_device (by.CpuCall c call ∷ past) a d h = call_frees (actors.Cpu c) call past a d (freed_device past a d) h
+freed_device (by.ThreadCall x call ∷ past) a d h = call_frees (actors.Thread x) call past a d (freed_device past a d) h
+freed_device (by.DriverCall s call ∷ past) a d h = call_frees (actors.Driver s) call past a d (freed_device past a d) h
+freed_device (e ∷ past) a d h = freed_device past a d h
 
 pub one_is_freed : (def : LineDef) (past : List Entry) → IsValid def → IsLegalPast def past → OneIsFreed def past
 one_is_freed def past valid legal =
     let k = kept def past valid legal in
     record {
       one = λ d e a b. (let f = k.frees.one_device d a in let g = k.frees.one_device e b in (same_free past f.0 g.0 d e f.1 g.1).1);
-      held = λ h. (let o = holder past h in let f = k.frees.one_driver o.maker o.dev o.stands_there in (o.dev, freed_device def past legal f.0 o.dev f.2));
+      held = λ h. (let o = holder past h in (o.dev, freed_device past o.maker o.dev (k.frees.one_maker o.maker o.dev o.stands_there)));
       free = λ d a. (let f = k.frees.one_device d a in freeing_holds past _ f.1);
     }

@@ -80,7 +80,7 @@ module _ (p : Call → Bool) where
       by_test true rest = (h.0, rest)
       by_test false rest = rest
 
-  one_of : (cs : List Call) (es : List Entry) (c : Call) (n : ℕ) → AllByRecursion (λ c. p c ≡ true) cs → due_of cs es ≡ Some (c, n) → p c ≡ true
+  pub one_of : (cs : List Call) (es : List Entry) (c : Call) (n : ℕ) → AllByRecursion (λ c. p c ≡ true) cs → due_of cs es ≡ Some (c, n) → p c ≡ true
   one_of [] es c n all h = cc
   one_of (x ∷ cs) es c n all h = by_case (chosen (nat_lt (length es) (entries_of_call x es)) (Some (x, length es))
       (due_of cs (drop (entries_of_call x es) es)) (c, n) h) (one_of cs (drop (entries_of_call x es) es) c n all.1)

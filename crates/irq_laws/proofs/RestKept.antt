@@ -14,6 +14,9 @@ use Rattle.irq_base.specs.declared.entries.Entry.TheVariants as by
 use Rattle.irq_base.specs.declared.entries.CpuEntry.TheVariants as cpus
 use Rattle.irq_base.specs.declared.entries.ThreadEntry.TheVariants as threads
 use Rattle.irq_base.specs.declared.entries.DriverEntry.TheVariants as drivers
+use Rattle.irq_base.specs.declared.entries.Actor.{Actor}
+use Rattle.irq_base.specs.declared.entries.Actor.TheVariants as actors
+use Rattle.irq_base.specs.declared.entries.CallEntry.{CallEntry}
 use Rattle.irq_base.specs.declared.entries.CallEntry.TheVariants as called
 use Rattle.irq_base.specs.declared.entries.Errno.TheVariants as errors
 use Rattle.irq_base.specs.declared.entries.Opened.{Opened}
@@ -21,23 +24,25 @@ use Rattle.irq_base.specs.declared.entries.LinkAnswer.TheVariants as links
 use Rattle.irq_base.specs.declared.entries.UnlinkAnswer.TheVariants as unlinks
 use Rattle.irq_model.specs.Places.{stands, since}
 use Rattle.irq_model.specs.Kinds.{same_dev, links_dev, is_freed, is_thread_begin, is_thread_return, is_finish, is_wake, wakes, is_cleared_finish}
-use Rattle.irq_model.specs.Lines.{is_device}
+use Rattle.irq_base.specs.Handlers.{has_thread}
+use Rattle.irq_model.specs.Lines.{is_device, kind_of}
 use Rattle.irq_model.specs.Links.{linked, is_linked, is_oneshot, linking_flags}
 use Rattle.irq_model.specs.Threads.{is_woken, is_running, is_unfinished}
 use Rattle.irq_model.specs.Due.{entries_by, due_call, holds_mutex}
+use Rattle.irq_model.specs.Kinds.{made_by}
 use Rattle.irq_model.specs.Next.{flags_differ, is_mismatch, same_flag}
 use Rattle.irq_model.specs.Reason.{is_called, is_being_freed, is_finishing}
 use Rattle.irq_model.specs.Legal.{IsDue}
 use Rattle.irq_model.specs.Valid.{IsValid, names_one_of}
 use Rattle.irq_steps.proofs.Same.{dev_from_same}
+use Rattle.irq_laws.specs.Actors.{by_someone}
 use Rattle.irq_laws.specs.Kept.{Kept, KeepsRest}
 use Rattle.irq_laws.proofs.Lists.{both_ways}
 use Rattle.irq_laws.proofs.Requested.{due_passes, was_linked, of_linked}
 use Rattle.irq_laws.proofs.FreesKept.{freed_is, begun_is_linked, not_freeing}
 use Rattle.irq_laws.proofs.ImpliesFlow.{begin_due, return_due}
 use Rattle.irq_laws.proofs.ImpliesThread.{thread_begin_due, finish_due, done_due, has_finished}
-use Rattle.irq_laws.proofs.ImpliesDriver.{request_due, unlink_due, freed_due}
-use Rattle.irq_laws.proofs.OwnLaws.{no_cpu_call, no_thread_call}
+use Rattle.irq_laws.proofs.ImpliesDriver.{request_due, unlink_due, freed_due, wake_due}
 
 -- ---- a test with false beside it
 
@@ -78,26 +83,38 @@ there_when : (b last v : Bool) → unlinks.Unlinked last ≡ cond b (unlinks.Unl
 there_when true last v h = refl
 there_when false last v h = cc
 
-pub unlinked_was_linked : (def : LineDef) (r : DriverNo) (x : DevNo) (last : Bool) (past : List Entry)
-    → IsDue def (by.DriverCall r (called.Unlink (unlinks.Unlinked last) x)) past → is_linked past x ≡ true
-unlinked_was_linked def r x last past due = there_when (is_linked past x) last _ (unlink_due def r x (unlinks.Unlinked last) past due).answer_is
+pub unlinked_was_linked : (def : LineDef) (a : Actor) (x : DevNo) (last : Bool) (past : List Entry)
+    → IsDue def (made_by a (called.Unlink (unlinks.Unlinked last) x)) past → is_linked past x ≡ true
+unlinked_was_linked def a x last past due = there_when (is_linked past x) last _ (unlink_due def a x (unlinks.Unlinked last) past due).answer_is
 
-freed_named_more : (def : LineDef) (e : Entry) (past : List Entry) → IsDue def e past → Kept def past → (d : DevNo)
-    → is_being_freed (e ∷ past) d ≡ true → list_any (is_device d) def.devices ≡ true
-freed_named_more def (by.DriverCall s (called.Unlink (unlinks.Unlinked last) x)) past due k d h = by_case (or_cases (same_dev d x && true) _ h)
+-- only a linked device's thread is woken by a call
+woken_when : (l h w : Bool) → true ≡ (l && (h && not w)) → l ≡ true
+woken_when l h w is = grind arith
+
+pub woken_was_linked : (def : LineDef) (a : Actor) (x : DevNo) (past : List Entry) → IsDue def (made_by a (called.Wake true x)) past → is_linked past x ≡ true
+woken_was_linked def a x past due = woken_when (is_linked past x) (has_thread (kind_of def x)) (is_woken past x) (wake_due def a true x past due)
+
+freed_named_by : (def : LineDef) (a : Actor) (call : CallEntry) (past : List Entry) → IsDue def (made_by a call) past → Kept def past → (d : DevNo)
+    → is_being_freed (by_someone call ∷ past) d ≡ true → list_any (is_device d) def.devices ≡ true
+freed_named_by def a (called.Unlink (unlinks.Unlinked last) x) past due k d h = by_case (or_cases (same_dev d x && true) _ h)
   where
     by_case : ((same_dev d x && true) ≡ true) ⊎ (is_being_freed past d ≡ true) → list_any (is_device d) def.devices ≡ true
     by_case (inl now) =
         let there = subst (λ (y : DevNo). is_linked past y ≡ true)
-        (sym (dev_from_same d x (and_parts (same_dev d x) true now).0)) (unlinked_was_linked def s x last past due)
+        (sym (dev_from_same d x (and_parts (same_dev d x) true now).0)) (unlinked_was_linked def a x last past due)
         in
         k.rest.named d (was_linked past d there)
     by_case (inr was) = k.rest.freed_named d was
-freed_named_more def (by.DriverCall s (called.Unlink unlinks.NotThere x)) past due k d h
+freed_named_by def a (called.Unlink unlinks.NotThere x) past due k d h
     = k.rest.freed_named d (sym (not_here (same_dev d x) (is_being_freed past d)) ∙ h)
-freed_named_more def (by.DriverCall s (called.Freed x)) past due k d h = k.rest.freed_named d (and_parts (not (same_dev d x)) _ h).1
-freed_named_more def (by.CpuCall c call) past due k d h = no_cpu_call def c call past due
-freed_named_more def (by.ThreadCall x call) past due k d h = no_thread_call def x call past due
+freed_named_by def a (called.Freed x) past due k d h = k.rest.freed_named d (and_parts (not (same_dev d x)) _ h).1
+freed_named_by def a call past due k d h = k.rest.freed_named d h
+
+freed_named_more : (def : LineDef) (e : Entry) (past : List Entry) → IsDue def e past → Kept def past → (d : DevNo)
+    → is_being_freed (e ∷ past) d ≡ true → list_any (is_device d) def.devices ≡ true
+freed_named_more def (by.CpuCall c call) past due k d h = freed_named_by def (actors.Cpu c) call past due k d h
+freed_named_more def (by.ThreadCall x call) past due k d h = freed_named_by def (actors.Thread x) call past due k d h
+freed_named_more def (by.DriverCall s call) past due k d h = freed_named_by def (actors.Driver s) call past due k d h
 freed_named_more def e past due k d h = k.rest.freed_named d h
 
 -- a device that is linked or being freed is a device of the line
@@ -117,26 +134,34 @@ apart d x p there absent = false_from_ne_true (same_dev d x)
 freed_now : (s f : Bool) → s ≡ true → (not s && f) ≡ false
 freed_now s f h = grind arith
 
-after_more : (def : LineDef) (e : Entry) (past : List Entry) → IsDue def e past → Kept def past → (d : DevNo)
-    → stands (is_freed d) (links_dev d) (e ∷ past) ≡ true
-    → (is_linked (e ∷ past) d ≡ false) × (is_being_freed (e ∷ past) d ≡ false)
-after_more def (by.DriverCall s (called.Freed x)) past due k d h = by_case (or_cases (same_dev d x) _ h)
+after_by : (def : LineDef) (a : Actor) (call : CallEntry) (past : List Entry) → IsDue def (made_by a call) past → Kept def past → (d : DevNo)
+    → stands (is_freed d) (links_dev d) (by_someone call ∷ past) ≡ true
+    → (is_linked (by_someone call ∷ past) d ≡ false) × (is_being_freed (by_someone call ∷ past) d ≡ false)
+after_by def a (called.Freed x) past due k d h = by_case (or_cases (same_dev d x) _ h)
   where
     by_case : (same_dev d x ≡ true) ⊎ (stands (is_freed d) (links_dev d) past ≡ true)
         → (is_linked past d ≡ false) × ((not (same_dev d x) && is_being_freed past d) ≡ false)
     by_case (inl now) = (
       subst (λ (y : DevNo). is_linked past y ≡ false) (sym (dev_from_same d x now))
-          (k.frees.unlinked s x (freed_is def s x past due k.frees).1),
+          (k.frees.unlinked a x (freed_is def a x past due k.frees).1),
       freed_now (same_dev d x)
           (is_being_freed past d) now,
     )
     by_case (inr was) = let r = k.rest.after_free d was in (r.0, and_right (not (same_dev d x)) _ r.1)
-after_more def (by.DriverCall s (called.Unlink (unlinks.Unlinked last) x)) past due k d h =
+after_by def a (called.Unlink (unlinks.Unlinked last) x) past due k d h =
     let r = k.rest.after_free d h in
-    let other = apart d x (is_linked past) (unlinked_was_linked def s x last past due) r.0 in
+    let other = apart d x (is_linked past) (unlinked_was_linked def a x last past due) r.0 in
     (and_right (not (same_dev d x && true)) _ r.0, or_from _ _ (and_left (same_dev d x) true other) r.1)
-after_more def (by.DriverCall s (called.Unlink unlinks.NotThere x)) past due k d h =
+after_by def a (called.Unlink unlinks.NotThere x) past due k d h =
     let r = k.rest.after_free d h in (and_right (not (same_dev d x && false)) _ r.0, or_from _ _ (no_part (same_dev d x)) r.1)
+after_by def a call past due k d h = k.rest.after_free d h
+
+after_more : (def : LineDef) (e : Entry) (past : List Entry) → IsDue def e past → Kept def past → (d : DevNo)
+    → stands (is_freed d) (links_dev d) (e ∷ past) ≡ true
+    → (is_linked (e ∷ past) d ≡ false) × (is_being_freed (e ∷ past) d ≡ false)
+after_more def (by.CpuCall c call) past due k d h = after_by def (actors.Cpu c) call past due k d h
+after_more def (by.ThreadCall x call) past due k d h = after_by def (actors.Thread x) call past due k d h
+after_more def (by.DriverCall s call) past due k d h = after_by def (actors.Driver s) call past due k d h
 after_more def (by.Driver s (drivers.Request flags links.Linked opened x)) past due k d h =
     let p = and_parts (not (same_dev d x && true)) _ h in
     let r = k.rest.after_free d p.1 in
@@ -145,8 +170,6 @@ after_more def (by.Driver s (drivers.Request flags (links.Refused error) opened 
     let p = and_parts (not (same_dev d x && false)) _ h in
     let r = k.rest.after_free d p.1 in
     (or_from _ _ (no_part (same_dev d x)) r.0, r.1)
-after_more def (by.CpuCall c call) past due k d h = no_cpu_call def c call past due
-after_more def (by.ThreadCall x call) past due k d h = no_thread_call def x call past due
 after_more def e past due k d h = k.rest.after_free d h
 
 -- ---- at rest
@@ -166,15 +189,43 @@ all_rest : (w r u c : Bool) → w ≡ false → r ≡ false → u ≡ false → 
 all_rest w r u c a b x y = grind arith
 
 -- a freed device is at rest
-freed_rest : (def : LineDef) (s : DriverNo) (x : DevNo) (past : List Entry) → IsDue def (by.DriverCall s (called.Freed x)) past
+freed_rest : (def : LineDef) (a : Actor) (x : DevNo) (past : List Entry) → IsDue def (made_by a (called.Freed x)) past
     → Kept def past → (is_woken past x || (is_running past x || (is_unfinished past x || is_called past x))) ≡ false
-freed_rest def s x past due k =
-    let u = freed_due def s x past due in
+freed_rest def a x past due k =
+    let u = freed_due def a x past due in
     let idle : (is_woken past x || is_finishing past x) ≡ false = or_from _ _ u.not_woken (and_left (is_running past x) _ u.not_running) in
     let finished : is_unfinished past x ≡ false = false_from_ne_true (is_unfinished past x)
     (λ h. both_ways (is_woken past x || is_finishing past x) (k.rest.at_work x h) idle) in
     all_rest (is_woken past x) (is_running past x) (is_unfinished past x) (is_called past x) u.not_woken u.not_running
-    finished (k.frees.past_clear s x (freed_is def s x past due k.frees).0)
+    finished (k.frees.past_clear a x (freed_is def a x past due k.frees).0)
+
+rest_by : (def : LineDef) (a : Actor) (call : CallEntry) (past : List Entry) → IsDue def (made_by a call) past → Kept def past → (d : DevNo)
+    → is_linked (by_someone call ∷ past) d ≡ false → is_being_freed (by_someone call ∷ past) d ≡ false
+    → (is_woken (by_someone call ∷ past) d || (is_running past d || (is_unfinished (by_someone call ∷ past) d || is_called past d))) ≡ false
+rest_by def a (called.Unlink (unlinks.Unlinked last) x) past due k d l f =
+    let p = or_parts (same_dev d x && true) (is_being_freed past d) f in
+    k.rest.at_rest d (still_linked (same_dev d x) (is_linked past d) p.0 l) p.1
+  where
+    still_linked : (s l : Bool) → (s && true) ≡ false → (not (s && true) && l) ≡ false → l ≡ false
+    still_linked s l a b = grind arith
+rest_by def a (called.Unlink unlinks.NotThere x) past due k d l f
+    = k.rest.at_rest d (none_changed (same_dev d x) (is_linked past d) l)
+    (or_parts (same_dev d x && false) (is_being_freed past d) f).1
+  where
+    none_changed : (s l : Bool) → (not (s && false) && l) ≡ false → l ≡ false
+    none_changed s l b = grind arith
+rest_by def a (called.Freed x) past due k d l f = by_test (same_dev d x) refl
+  where
+    by_test : (b : Bool) → same_dev d x ≡ b → (is_woken past d || (is_running past d || (is_unfinished past d || is_called past d))) ≡ false
+    by_test true same = subst (λ (y : DevNo). (is_woken past y ||
+        (is_running past y || (is_unfinished past y || is_called past y))) ≡ false) (sym (dev_from_same d x same))
+        (freed_rest def a x past due k)
+    by_test false other = k.rest.at_rest d l (ap (λ (b : Bool). not b && is_being_freed past d) (sym other) ∙ f)
+rest_by def a (called.Wake true x) past due k d l f =
+    let r = k.rest.at_rest d l f in
+    let other = apart d x (is_linked past) (woken_was_linked def a x past due) l in
+    rw other r
+rest_by def a call past due k d l f = k.rest.at_rest d l f
 
 rest_more : (def : LineDef) (e : Entry) (past : List Entry) → IsDue def e past → Kept def past → (d : DevNo)
     → is_linked (e ∷ past) d ≡ false → is_being_freed (e ∷ past) d ≡ false
@@ -211,27 +262,9 @@ rest_more def (by.Driver s (drivers.Request flags links.Linked opened x)) past d
 rest_more def (by.Driver s (drivers.Request flags (links.Refused error) opened x)) past due k d l f =
     let p = or_parts (same_dev d x && false) (is_linked past d) l in
     rw (p.0) (k.rest.at_rest d p.1 f)
-rest_more def (by.DriverCall s (called.Unlink (unlinks.Unlinked last) x)) past due k d l f =
-    let p = or_parts (same_dev d x && true) (is_being_freed past d) f in
-    k.rest.at_rest d (still_linked (same_dev d x) (is_linked past d) p.0 l) p.1
-  where
-    still_linked : (s l : Bool) → (s && true) ≡ false → (not (s && true) && l) ≡ false → l ≡ false
-    still_linked s l a b = grind arith
-rest_more def (by.DriverCall s (called.Unlink unlinks.NotThere x)) past due k d l f
-    = k.rest.at_rest d (none_changed (same_dev d x) (is_linked past d) l)
-    (or_parts (same_dev d x && false) (is_being_freed past d) f).1
-  where
-    none_changed : (s l : Bool) → (not (s && false) && l) ≡ false → l ≡ false
-    none_changed s l b = grind arith
-rest_more def (by.DriverCall s (called.Freed x)) past due k d l f = by_test (same_dev d x) refl
-  where
-    by_test : (b : Bool) → same_dev d x ≡ b → (is_woken past d || (is_running past d || (is_unfinished past d || is_called past d))) ≡ false
-    by_test true same = subst (λ (y : DevNo). (is_woken past y ||
-        (is_running past y || (is_unfinished past y || is_called past y))) ≡ false) (sym (dev_from_same d x same))
-        (freed_rest def s x past due k)
-    by_test false other = k.rest.at_rest d l (ap (λ (b : Bool). not b && is_being_freed past d) (sym other) ∙ f)
-rest_more def (by.CpuCall c call) past due k d l f = no_cpu_call def c call past due
-rest_more def (by.ThreadCall x call) past due k d l f = no_thread_call def x call past due
+rest_more def (by.CpuCall c call) past due k d l f = rest_by def (actors.Cpu c) call past due k d l f
+rest_more def (by.ThreadCall x call) past due k d l f = rest_by def (actors.Thread x) call past due k d l f
+rest_more def (by.DriverCall s call) past due k d l f = rest_by def (actors.Driver s) call past due k d l f
 rest_more def e past due k d l f = k.rest.at_rest d l f
 
 -- ---- a thread bit that stands
@@ -314,6 +347,14 @@ done_woken def x past due k h = by_case (or_cases (is_woken past x) (is_finishin
         let bit = (and_parts (linking_flags past x).oneshot _ h).0 in
         both_ways (linking_flags past x).oneshot bit (k.rest.flags x (running_there def past k x u.running) ∙ plain)
 
+work_by : (def : LineDef) (call : CallEntry) (past : List Entry) → Kept def past → (d : DevNo)
+    → is_unfinished (by_someone call ∷ past) d ≡ true → (is_woken (by_someone call ∷ past) d || is_finishing past d) ≡ true
+work_by def (called.Wake woken x) past k d h =
+    woken_now (linking_flags past d).oneshot (woken && same_dev d x)
+    (stands (wakes d) (is_cleared_finish d) (since (links_dev d) past)) (is_woken past d) (is_finishing past d) h
+    (k.rest.at_work d)
+work_by def call past k d h = k.rest.at_work d h
+
 work_more : (def : LineDef) (e : Entry) (past : List Entry) → IsDue def e past → Kept def past → (d : DevNo)
     → is_unfinished (e ∷ past) d ≡ true → (is_woken (e ∷ past) d || is_finishing (e ∷ past) d) ≡ true
 work_more def (by.Cpu c (cpus.Return answer x served)) past due k d h =
@@ -350,6 +391,9 @@ work_more def (by.Driver s (drivers.Request flags links.Linked opened x)) past d
     by_test true same = let n = rw same at h in absurd ((let m = and_parts _ false n in let f : ⊥ = cc (m.1) in f))
     by_test false other = k.rest.at_work d (rw other at h)
 work_more def (by.Driver s (drivers.Request flags (links.Refused error) opened x)) past due k d h = k.rest.at_work d (rw (no_part (same_dev d x)) at h)
+work_more def (by.CpuCall c call) past due k d h = work_by def call past k d h
+work_more def (by.ThreadCall x call) past due k d h = work_by def call past k d h
+work_more def (by.DriverCall s call) past due k d h = work_by def call past k d h
 work_more def e past due k d h = k.rest.at_work d h
 
 -- ---- the flags
@@ -380,6 +424,22 @@ goes_with def s x flags opened past due d there =
 pub none_freed : (def : LineDef) (past : List Entry) → Kept def past → holds_mutex past ≡ false → (d : DevNo) → is_being_freed past d ≡ false
 none_freed def past k free d = false_from_ne_true (is_being_freed past d) (λ h. let f = k.frees.one_device d h in not_freeing past _ free f.1)
 
+flags_by : (def : LineDef) (a : Actor) (call : CallEntry) (past : List Entry) → IsDue def (made_by a call) past → Kept def past → (d : DevNo)
+    → (is_linked (by_someone call ∷ past) d || is_being_freed (by_someone call ∷ past) d) ≡ true
+    → (linking_flags past d).oneshot ≡ is_oneshot past
+flags_by def a (called.Unlink (unlinks.Unlinked last) x) past due k d h = by_test (same_dev d x) refl
+  where
+    by_test : (b : Bool) → same_dev d x ≡ b → (linking_flags past d).oneshot ≡ is_oneshot past
+    by_test true same = k.rest.flags d (or_left _ _ (subst (λ (y : DevNo). is_linked past y ≡ true)
+        (sym (dev_from_same d x same)) (unlinked_was_linked def a x last past due)))
+    by_test false other = k.rest.flags d (rw other at h)
+flags_by def a (called.Unlink unlinks.NotThere x) past due k d h = k.rest.flags d (rw (no_part (same_dev d x)) at h)
+flags_by def a (called.Freed x) past due k d h = k.rest.flags d (more (is_linked past d) (not (same_dev d x)) (is_being_freed past d) h)
+  where
+    more : (l s f : Bool) → (l || (s && f)) ≡ true → (l || f) ≡ true
+    more l s f h = grind arith
+flags_by def a call past due k d h = k.rest.flags d h
+
 flags_more : (def : LineDef) (e : Entry) (past : List Entry) → IsDue def e past → Kept def past → (d : DevNo)
     → (is_linked (e ∷ past) d || is_being_freed (e ∷ past) d) ≡ true
     → (linking_flags (e ∷ past) d).oneshot ≡ is_oneshot (e ∷ past)
@@ -396,19 +456,9 @@ flags_more def (by.Driver s (drivers.Request flags links.Linked opened x)) past 
         rw other (goes_with def s x flags opened past due d there)
 flags_more def (by.Driver s (drivers.Request flags (links.Refused error) opened x)) past due k d h
     = rw (no_part (same_dev d x)) (k.rest.flags d (rw (no_part (same_dev d x)) at h))
-flags_more def (by.DriverCall s (called.Unlink (unlinks.Unlinked last) x)) past due k d h = by_test (same_dev d x) refl
-  where
-    by_test : (b : Bool) → same_dev d x ≡ b → (linking_flags past d).oneshot ≡ is_oneshot past
-    by_test true same = k.rest.flags d (or_left _ _ (subst (λ (y : DevNo). is_linked past y ≡ true)
-        (sym (dev_from_same d x same)) (unlinked_was_linked def s x last past due)))
-    by_test false other = k.rest.flags d (rw other at h)
-flags_more def (by.DriverCall s (called.Unlink unlinks.NotThere x)) past due k d h = k.rest.flags d (rw (no_part (same_dev d x)) at h)
-flags_more def (by.DriverCall s (called.Freed x)) past due k d h = k.rest.flags d (more (is_linked past d) (not (same_dev d x)) (is_being_freed past d) h)
-  where
-    more : (l s f : Bool) → (l || (s && f)) ≡ true → (l || f) ≡ true
-    more l s f h = grind arith
-flags_more def (by.CpuCall c call) past due k d h = no_cpu_call def c call past due
-flags_more def (by.ThreadCall x call) past due k d h = no_thread_call def x call past due
+flags_more def (by.CpuCall c call) past due k d h = flags_by def (actors.Cpu c) call past due k d h
+flags_more def (by.ThreadCall x call) past due k d h = flags_by def (actors.Thread x) call past due k d h
+flags_more def (by.DriverCall s call) past due k d h = flags_by def (actors.Driver s) call past due k d h
 flags_more def e past due k d h = k.rest.flags d h
 
 pub rest_kept : (def : LineDef) (e : Entry) (past : List Entry) → IsValid def → IsDue def e past → Kept def past → KeepsRest def (e ∷ past)

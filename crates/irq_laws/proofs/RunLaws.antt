@@ -7,14 +7,18 @@ use Rattle.irq_base.specs.declared.devices.DeviceDef.{DeviceDef}
 use Rattle.irq_base.specs.declared.lines.FlowKind.{FlowKind}
 use Rattle.irq_base.specs.declared.lines.FlowKind.TheVariants as flows
 use Rattle.irq_base.specs.declared.lines.LineDef.{LineDef}
+use Rattle.irq_base.specs.declared.entries.Actor.{Actor}
+use Rattle.irq_base.specs.declared.entries.Actor.TheVariants as actors
 use Rattle.irq_base.specs.declared.entries.Entry.{Entry}
 use Rattle.irq_base.specs.declared.entries.Entry.TheVariants as by
 use Rattle.irq_base.specs.declared.entries.CpuEntry.TheVariants as cpus
 use Rattle.irq_base.specs.declared.entries.ThreadEntry.TheVariants as threads
+use Rattle.irq_base.specs.declared.entries.CallEntry.{CallEntry}
 use Rattle.irq_base.specs.declared.entries.CallEntry.TheVariants as called
 use Rattle.irq_base.specs.declared.entries.Note.{Note}
 use Rattle.irq_model.specs.Places.{stands}
 use Rattle.irq_model.specs.Kinds.{same_dev, is_begin, is_thread_begin, is_hard_clear, is_synced, is_freed, links_dev, is_reopening}
+use Rattle.irq_model.specs.Kinds.{made_by, clears, syncs}
 use Rattle.irq_model.specs.Lines.{is_device, is_edge_line, is_level_line, is_edge_flow}
 use Rattle.irq_model.specs.Links.{is_linked, is_disabled, is_oneshot}
 use Rattle.irq_model.specs.Masks.{is_masked}
@@ -35,7 +39,6 @@ use Rattle.irq_laws.proofs.KeptAlways.{each}
 use Rattle.irq_laws.proofs.ImpliesFlow.{unmask_by, begin_due, return_due, end_due}
 use Rattle.irq_laws.proofs.ImpliesThread.{thread_begin_due, thread_return_due, finish_due, done_due}
 use Rattle.irq_laws.proofs.ImpliesDriver.{hard_clear_due, synced_due}
-use Rattle.irq_laws.proofs.OwnLaws.{no_cpu_call, no_thread_call}
 
 -- ---- no overlap
 
@@ -79,7 +82,7 @@ silent def (by.Thread x threads.Begin) past due k d h = not_freed def past k d x
     (woken_there def past k x (thread_begin_due def x past due).woken)
 silent def (by.Thread x (threads.Return handled served)) past due k d h
     = not_freed def past k d x (or_none _ h) (running_there def past k x
-    (thread_return_due _ def x served past due).running)
+    (thread_return_due def x handled served past due).running)
 silent def (by.Thread x (threads.Finish kept unmask)) past due k d h
     = not_freed def past k d x (or_none _ h) (running_there def past k x
     (finish_due def x kept unmask past due).running)
@@ -111,14 +114,18 @@ all_idle def past k none d =
     (false_from_ne_true (is_running past d) (λ h. both_ways _
     (at_device def (is_running past) d (there_named def past k d (running_there def past k d h)) h) no_running))
 
+call_synchronised : (def : LineDef) (a : Actor) (call : CallEntry) (past : List Entry) → IsDue def (made_by a call) past → Kept def past → (d : DevNo)
+    → (clears call ≡ true → is_called past d ≡ false) × (syncs call ≡ true → (is_woken past d || is_running past d) ≡ false)
+call_synchronised def a called.HardClear past due k d = (λ is. nothing_called def past k.runs (hard_clear_due def a past due) d, λ none. cc)
+call_synchronised def a called.Synced past due k d = (λ none. cc, λ is. all_idle def past k (synced_due def a past due) d)
+call_synchronised def a call past due k d = (λ none. cc, λ none. cc)
+
 synchronised_at : (def : LineDef) (e : Entry) (past : List Entry) → IsDue def e past → Kept def past → (d : DevNo)
     → (is_hard_clear e ≡ true → is_called past d ≡ false)
     × (is_synced e ≡ true → (is_woken past d || is_running past d) ≡ false)
-synchronised_at def (by.DriverCall s called.HardClear) past due k d
-    = (λ is. nothing_called def past k.runs (hard_clear_due def s past due).no_flow d, λ none. cc)
-synchronised_at def (by.DriverCall s called.Synced) past due k d = (λ none. cc, λ is. all_idle def past k (synced_due def s past due).none_active d)
-synchronised_at def (by.CpuCall c call) past due k d = no_cpu_call def c call past due
-synchronised_at def (by.ThreadCall x call) past due k d = no_thread_call def x call past due
+synchronised_at def (by.CpuCall c call) past due k d = call_synchronised def (actors.Cpu c) call past due k d
+synchronised_at def (by.ThreadCall x call) past due k d = call_synchronised def (actors.Thread x) call past due k d
+synchronised_at def (by.DriverCall s call) past due k d = call_synchronised def (actors.Driver s) call past due k d
 synchronised_at def e past due k d = (λ none. cc, λ none. cc)
 
 pub synchronised : (def : LineDef) (h : List Entry) → IsValid def → IsLegal def h → IsSynchronised def h

@@ -111,15 +111,15 @@ idle_answer def past no_flow on = by_values (has_flow def past) (is_disabled pas
     by_values true o a b = cc
     by_values false true a b = cc
 
-by_take : (f t s o : Bool) (x l r : Entry) → f ≡ false → t ≡ true → s ≡ true
-    → cond f (Some x) (cond (not t) None (cond s (Some l) (cond o (Some r) None))) ≡ Some l
+by_take : (f t s o : Bool) (x : Option Entry) (l r : Entry) → f ≡ false → t ≡ true → s ≡ true
+    → cond f x (cond (not t) None (cond s (Some l) (cond o (Some r) None))) ≡ Some l
 by_take false true true o x l r a b c = refl
 by_take true t s o x l r a b c = cc
 by_take false false s o x l r a b c = cc
 by_take false true false o x l r a b c = cc
 
-by_resend : (f t s o : Bool) (x l r : Entry) → f ≡ false → t ≡ true → s ≡ false → o ≡ true
-    → cond f (Some x) (cond (not t) None (cond s (Some l) (cond o (Some r) None))) ≡ Some r
+by_resend : (f t s o : Bool) (x : Option Entry) (l r : Entry) → f ≡ false → t ≡ true → s ≡ false → o ≡ true
+    → cond f x (cond (not t) None (cond s (Some l) (cond o (Some r) None))) ≡ Some r
 by_resend false true false true x l r a b c d = refl
 by_resend true t s o x l r a b c d = cc
 by_resend false false s o x l r a b c d = cc

@@ -2,9 +2,12 @@
 use Rattle.std.proofs.Common.{◌≡◌, ◌⊎◌, inl, inr, Bool, true, false, ◌||◌, ◌&&◌, cond, ◌==◌, List, [], ◌∷◌, refl, sym, ap, ◌∙◌}
 use Rattle.irq_base.specs.declared.lines.LineDef.{LineDef}
 use Rattle.irq_base.specs.declared.calls.Flags.{Flags}
+use Rattle.irq_base.specs.declared.entries.Actor.{Actor}
+use Rattle.irq_base.specs.declared.entries.Actor.TheVariants as actors
 use Rattle.irq_base.specs.declared.entries.Entry.{Entry}
 use Rattle.irq_base.specs.declared.entries.Entry.TheVariants as by
 use Rattle.irq_base.specs.declared.entries.DriverEntry.TheVariants as drivers
+use Rattle.irq_base.specs.declared.entries.CallEntry.{CallEntry}
 use Rattle.irq_base.specs.declared.entries.CallEntry.TheVariants as called
 use Rattle.irq_base.specs.declared.entries.Resend.{Resend}
 use Rattle.irq_base.specs.declared.entries.Resend.TheVariants as resends
@@ -13,7 +16,7 @@ use Rattle.irq_base.specs.declared.entries.Opened.{Opened}
 use Rattle.irq_base.specs.declared.entries.Opened.TheVariants as opens
 use Rattle.irq_base.specs.declared.entries.LinkAnswer.{LinkAnswer}
 use Rattle.irq_base.specs.declared.entries.LinkAnswer.TheVariants as links
-use Rattle.irq_model.specs.Kinds.{opened_of, opened_by_enable, is_soft_start, is_soft_opened, is_resend_take}
+use Rattle.irq_model.specs.Kinds.{opened_of, opened_by_enable, opened_by_call, made_by, is_soft_start, is_soft_opened, is_resend_take}
 use Rattle.irq_model.specs.Lines.{is_edge_line}
 use Rattle.irq_model.specs.Links.{is_none_linked, has_spurious_mark, depth}
 use Rattle.irq_model.specs.Waiting.{is_pending, is_soft}
@@ -21,7 +24,6 @@ use Rattle.irq_model.specs.Next.{resend_of, enable_answer}
 use Rattle.irq_model.specs.Legal.{IsDue, IsLegalPast}
 use Rattle.irq_laws.proofs.Lists.{stands_cases}
 use Rattle.irq_laws.proofs.ImpliesDriver.{enable_due, request_due, opened_with}
-use Rattle.irq_laws.proofs.OwnLaws.{no_cpu_call, no_thread_call}
 
 -- ---- a start resends what the line says
 
@@ -47,14 +49,18 @@ request_resends def flags past links.Linked r h =
     (opened_by_enable (enable_answer def past)) (enable_resends def past r) h
 request_resends def flags past (links.Refused error) r h = cc
 
+call_resends : (def : LineDef) (a : Actor) (call : CallEntry) (past : List Entry) (r : Resend) → IsDue def (made_by a call) past
+    → opened_by_call call ≡ opens.Started r → r ≡ resend_of def past
+call_resends def a (called.Enable answer) past r due h = enable_resends def past r (ap opened_by_enable (sym (enable_due def a answer past due)) ∙ h)
+call_resends def a call past r due h = cc
+
 pub resends_what_is_pending : (def : LineDef) (e : Entry) (past : List Entry) (r : Resend) → IsDue def e past
     → opened_of e ≡ opens.Started r → r ≡ resend_of def past
-resends_what_is_pending def (by.DriverCall s (called.Enable answer)) past r due h =
-    enable_resends def past r (ap opened_by_enable (sym (enable_due def s answer past due).answer_is) ∙ h)
+resends_what_is_pending def (by.CpuCall c call) past r due h = call_resends def (actors.Cpu c) call past r due h
+resends_what_is_pending def (by.ThreadCall x call) past r due h = call_resends def (actors.Thread x) call past r due h
+resends_what_is_pending def (by.DriverCall s call) past r due h = call_resends def (actors.Driver s) call past r due h
 resends_what_is_pending def (by.Driver s (drivers.Request flags answer opened x)) past r due h =
     let u = request_due def s x flags answer opened past due in request_resends def flags past _ r (sym u.opened_is ∙ h)
-resends_what_is_pending def (by.CpuCall c call) past r due h = no_cpu_call def c call past due
-resends_what_is_pending def (by.ThreadCall x call) past r due h = no_thread_call def x call past due
 resends_what_is_pending def e past r due h = cc
 
 -- ---- which resend that is

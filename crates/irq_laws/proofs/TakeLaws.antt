@@ -101,7 +101,7 @@ taken def e past takes none =
     plain : (s' w' x y w : ℕ) → s' ≡ x → w' ≡ y → x + y ≤ w → s' + w' ≤ w
     plain s' w' x y w h i j = omega (arith, h, i, j)
 
-marks_more : (def : LineDef) (e : Entry) (past : List Entry) → IsDue def e past → is_edge_line def ≡ true → MarksCounted def e past
+pub marks_more : (def : LineDef) (e : Entry) (past : List Entry) → IsDue def e past → is_edge_line def ≡ true → MarksCounted def e past
 marks_more def (by.Cpu c (cpus.Take ways.Line answer)) past due edge =
     let m = taken def (by.Cpu c (cpus.Take ways.Line answer)) past refl (no_edge (is_edge_line def) (is_eoi_flow def.flow)) in
     let s : one_if (is_sent def past) ≡ 1 = ap one_if (taken_by_line def past edge ((take_due def c ways.Line answer past due).by_line refl)) in
@@ -136,7 +136,7 @@ line_past def (e ∷ past) legal edge =
 soft_marks : (k r s : Bool) → (r ≡ true → s ≡ true) → one_if r + one_if (k || (not r && s)) ≤ one_if s + one_if k
 soft_marks k r s h = grind arith
 
-resend_needs : (def : LineDef) (e : Entry) (past : List Entry) → IsDue def e past → is_resend_take e ≡ true → is_soft past ≡ true
+pub resend_needs : (def : LineDef) (e : Entry) (past : List Entry) → IsDue def e past → is_resend_take e ≡ true → is_soft past ≡ true
 resend_needs def (by.Cpu c (cpus.Take ways.Resend answer)) past due h = ((take_due def c ways.Resend answer past due).by_resend refl).1
 resend_needs def (by.Cpu c (cpus.Take ways.Line answer)) past due h = cc
 resend_needs def e past due h = cc

@@ -1,33 +1,38 @@
 -- Each entry keeps that a linked device is wanted (`Wanted`), so that no request of it is due.
-use Rattle.std.proofs.Common.{◌≡◌, ℕ, ◌==◌, ◌⊎◌, inl, inr, Bool, true, false, not, ◌||◌, ◌&&◌, cond, Some, List, []}
+use Rattle.std.proofs.Common.{◌≡◌, ℕ, zero, suc, ◌⊎◌, inl, inr, Bool, true, false, not, ◌||◌, ◌&&◌, cond, Some, List, []}
 use Rattle.std.proofs.Common.{◌∷◌, ◌++◌, filter, reverse, length, refl, sym, ap, ◌∙◌, subst, arith, length-append}
-use Rattle.std.proofs.lemmas.Bool.{and_parts, and_from, or_cases, or_left, or_right, ltb-true, false_from_ne_true}
+use Rattle.std.proofs.lemmas.Bool.{and_parts, and_from, or_cases, or_left, or_right, ltb-true, eqb-false, false_from_ne_true}
 use Rattle.irq_base.specs.declared.numbers.DevNo.{DevNo}
 use Rattle.irq_base.specs.declared.numbers.DriverNo.{DriverNo}
 use Rattle.irq_base.specs.declared.calls.Call.{Call}
 use Rattle.irq_base.specs.declared.calls.Call.TheVariants as calls
 use Rattle.irq_base.specs.declared.calls.Flags.{Flags}
 use Rattle.irq_base.specs.declared.lines.LineDef.{LineDef}
+use Rattle.irq_base.specs.declared.entries.Actor.{Actor}
+use Rattle.irq_base.specs.declared.entries.Actor.TheVariants as actors
 use Rattle.irq_base.specs.declared.entries.Entry.{Entry}
 use Rattle.irq_base.specs.declared.entries.Entry.TheVariants as by
 use Rattle.irq_base.specs.declared.entries.DriverEntry.TheVariants as drivers
+use Rattle.irq_base.specs.declared.entries.CallEntry.{CallEntry}
 use Rattle.irq_base.specs.declared.entries.CallEntry.TheVariants as called
+use Rattle.irq_base.specs.declared.entries.UnlinkAnswer.{UnlinkAnswer}
 use Rattle.irq_base.specs.declared.entries.LinkAnswer.TheVariants as links
 use Rattle.irq_base.specs.declared.entries.UnlinkAnswer.TheVariants as unlinks
 use Rattle.irq_model.specs.Places.{stands}
-use Rattle.irq_model.specs.Kinds.{same_dev, same_driver, is_by_driver}
+use Rattle.irq_model.specs.Kinds.{same_dev, same_driver, is_by_driver, is_unlinked_answer}
 use Rattle.irq_model.specs.Links.{is_linked}
 use Rattle.irq_model.specs.Due.{calls_by, entries_by, due_call}
+use Rattle.irq_model.specs.Next.{next_step, unlink_answer}
 use Rattle.irq_model.specs.Legal.{IsDue}
 use Rattle.irq_model.specs.Valid.{IsValid, requests_dev, frees_dev}
 use Rattle.irq_steps.proofs.Same.{same_self, same_self_driver, dev_from_same, driver_from_same}
+use Rattle.irq_laws.specs.Actors.{by_someone}
 use Rattle.irq_laws.specs.Kept.{KeepsFrees, Wanted, LinkedIsWanted, complete, complete_by, freeing}
 use Rattle.irq_laws.proofs.Lists.{both_ways}
-use Rattle.irq_laws.proofs.Progress.{entries_more}
+use Rattle.irq_steps.proofs.DueSteps.{entries_more}
 use Rattle.irq_laws.proofs.Scripted.{Completes, completes, unrequested, place_of}
-use Rattle.irq_laws.proofs.FreesKept.{freed_is}
-use Rattle.irq_laws.proofs.ImpliesDriver.{ask_due, request_due, unlink_due, disable_due, hard_clear_due, synced_due, enable_due, affinity_due, moment_due}
-use Rattle.irq_laws.proofs.OwnLaws.{no_cpu_call, no_thread_call, no_new_call}
+use Rattle.irq_laws.proofs.FreesKept.{FreeStep, unlinks_it, clears_it, frees_it, free_row}
+use Rattle.irq_laws.proofs.ImpliesDriver.{ask_due, request_due, affinity_due, moment_due, call_due}
 
 -- ---- the complete calls after one more entry
 
@@ -106,43 +111,73 @@ now_wanted def s x flags e past n d mine was same =
 -- ---- each entry
 
 -- a linked device isn't the one that is being freed
-not_that : (def : LineDef) (past : List Entry) → KeepsFrees def past → (s : DriverNo) (x d : DevNo)
-    → freeing past ≡ Some (s, x) → is_linked past d ≡ true → same_dev d x ≡ false
-not_that def past k s x d within linked = false_from_ne_true (same_dev d x)
+not_that : (def : LineDef) (past : List Entry) → KeepsFrees def past → (a : Actor) (x d : DevNo)
+    → freeing past ≡ Some (a, x) → is_linked past d ≡ true → same_dev d x ≡ false
+not_that def past k a x d within linked = false_from_ne_true (same_dev d x)
     (λ same. both_ways (is_linked past d) linked (subst (λ (y : DevNo). is_linked past y ≡ false)
-    (sym (dev_from_same d x same)) (k.unlinked s x within)))
+    (sym (dev_from_same d x same)) (k.unlinked a x within)))
 
-absent_when : (b v : Bool) → unlinks.NotThere ≡ cond b (unlinks.Unlinked v) unlinks.NotThere → b ≡ false
-absent_when true v h = cc
-absent_when false v h = refl
+-- a device is wanted after an entry that no driver makes, as before it
+same_wanted : (def : LineDef) (e : Entry) (past : List Entry) (d : DevNo) → ((r : DriverNo) → is_by_driver r e ≡ false)
+    → Wanted def past d → Wanted def (e ∷ past) d
+same_wanted def e past d other v =
+    record {
+      driver = v.driver;
+      place = v.place;
+      call = v.call;
+      there = v.there;
+      own = v.own;
+      requests = v.requests;
+      wanted = ap (λ (xs : List Call). stands (requests_dev d) (frees_dev d) xs) (other_complete def v.driver e past (other v.driver)) ∙ v.wanted;
+    }
+
+call_was_linked : (call : CallEntry) (past : List Entry) (d : DevNo) → is_linked (by_someone call ∷ past) d ≡ true → is_linked past d ≡ true
+call_was_linked (called.Unlink answer x) past d h = (and_parts (not (same_dev d x && is_unlinked_answer answer)) (is_linked past d) h).1
+call_was_linked call past d h = h
+
+-- a device that stays linked by a step of a free isn't the one that is freed
+kept_by_free : (def : LineDef) (s : DriverNo) (x d : DevNo) (n : ℕ) (call : CallEntry) (past : List Entry) → KeepsFrees def past
+    → due_call def s past ≡ Some (calls.Free x, n) → FreeStep def x n past call → is_linked (by_someone call ∷ past) d ≡ true → same_dev d x ≡ false
+kept_by_free def s x d n call past k is (unlinks_it none free same) h = by_answer (unlink_answer x past) refl
+  where
+    differs : (s l : Bool) → (not (s && true) && l) ≡ true → s ≡ false
+    differs s l h = grind arith
+
+    stays_there : (s l : Bool) → (not (s && false) && l) ≡ true → l ≡ true
+    stays_there s l h = grind arith
+
+    absent_when : (b v : Bool) → cond b (unlinks.Unlinked v) unlinks.NotThere ≡ unlinks.NotThere → b ≡ false
+    absent_when true v h = cc
+    absent_when false v h = refl
+
+    moved : (answer : UnlinkAnswer) → unlink_answer x past ≡ answer → is_linked (by_someone (called.Unlink answer x) ∷ past) d ≡ true
+    moved answer is = subst (λ (y : CallEntry). is_linked (by_someone y ∷ past) d ≡ true)
+        (sym same ∙ ap (λ (y : UnlinkAnswer). called.Unlink y x) is) h
+
+    by_answer : (answer : UnlinkAnswer) → unlink_answer x past ≡ answer → same_dev d x ≡ false
+    by_answer (unlinks.Unlinked last) is = differs (same_dev d x) (is_linked past d) (moved (unlinks.Unlinked last) is)
+    by_answer unlinks.NotThere is =
+        let there = stays_there (same_dev d x) (is_linked past d) (moved unlinks.NotThere is) in
+        let absent = absent_when (is_linked past x) _ is in
+        false_from_ne_true (same_dev d x) (λ same. both_ways (is_linked past d) there
+        (subst (λ (y : DevNo). is_linked past y ≡ false) (sym (dev_from_same d x same)) absent))
+kept_by_free def s x d n call past k is (clears_it one no_flow same) h =
+    let before : due_call def s past ≡ Some (calls.Free x, 1) = is ∙ ap (λ (m : ℕ). Some (calls.Free x, m)) one in
+    not_that def past k (actors.Driver s) x d (k.within (actors.Driver s) x 0 before) (call_was_linked call past d h)
+kept_by_free def s x d zero call past k is (frees_it some not_one same) h = absurd (eqb-false 0 0 some refl)
+kept_by_free def s x d (suc n) call past k is (frees_it some not_one same) h =
+    not_that def past k (actors.Driver s) x d (k.within (actors.Driver s) x n is) (call_was_linked call past d h)
+
+-- the due call of a driver's step frees no device that stays linked
+frees_none : (def : LineDef) (s : DriverNo) (d : DevNo) (c : Call) (n : ℕ) (call : CallEntry) (past : List Entry) → KeepsFrees def past
+    → due_call def s past ≡ Some (c, n) → next_step def past (c, n) ≡ Some call → is_linked (by_someone call ∷ past) d ≡ true → frees_dev d c ≡ false
+frees_none def s d (calls.Free x) n call past k is h there = kept_by_free def s x d n call past k is (free_row def x n past call h) there
+frees_none def s d c n call past k is h there = refl
 
 wanted_more : (def : LineDef) (e : Entry) (past : List Entry) → IsDue def e past → KeepsFrees def past
     → LinkedIsWanted def past → (d : DevNo) → is_linked (e ∷ past) d ≡ true → Wanted def (e ∷ past) d
-wanted_more def (by.Driver s (drivers.Ask makes x)) past due k w d h = let u = ask_due _ def s x past due in
+wanted_more def (by.Driver s (drivers.Ask makes x)) past due k w d h = let u = ask_due def s x makes past due in
     keeps_wanted def s (by.Driver s (drivers.Ask makes x)) past (calls.Ask x) u.count d (λ r. refl) u.call refl (w d h)
-wanted_more def (by.DriverCall s called.Disable) past due k w d h = by_call (disable_due def s past due).call
-  where
-    by_call : (due_call def s past ≡ Some (calls.Disable, 0))
-        ⊎ ((n : ℕ) × (due_call def s past ≡ Some (calls.DisableNosync, n))) → Wanted def (by.DriverCall s called.Disable ∷ past) d
-    by_call (inl u) = keeps_wanted def s (by.DriverCall s called.Disable) past calls.Disable 0 d (λ r. refl) u refl (w d h)
-    by_call (inr u) = keeps_wanted def s (by.DriverCall s called.Disable) past calls.DisableNosync u.0 d (λ r. refl) u.1 refl (w d h)
-wanted_more def (by.DriverCall s called.HardClear) past due k w d h = by_call (hard_clear_due def s past due).call
-  where
-    by_call : ((x : DevNo) × (due_call def s past ≡ Some (calls.Free x, 1)))
-        ⊎ ((due_call def s past ≡ Some (calls.Disable, 1)) ⊎ (due_call def s past ≡ Some (calls.Sync, 0)))
-        → Wanted def (by.DriverCall s called.HardClear ∷ past) d
-    by_call (inl u) = keeps_wanted def s (by.DriverCall s called.HardClear) past (calls.Free u.0) 1 d (λ r. refl) u.1
-        (not_that def past k s u.0 d (k.within s u.0 0 u.1) h) (w d h)
-    by_call (inr (inl u)) = keeps_wanted def s (by.DriverCall s called.HardClear) past calls.Disable 1 d (λ r. refl) u refl (w d h)
-    by_call (inr (inr u)) = keeps_wanted def s (by.DriverCall s called.HardClear) past calls.Sync 0 d (λ r. refl) u refl (w d h)
-wanted_more def (by.DriverCall s called.Synced) past due k w d h = by_call (synced_due def s past due).count (synced_due def s past due).call
-  where
-    by_call : (n : ℕ) → ((due_call def s past ≡ Some (calls.Disable, n)) × ((n == 0) ≡ false) × ((n == 1) ≡ false))
-        ⊎ ((due_call def s past ≡ Some (calls.Sync, n)) × ((n == 0) ≡ false)) → Wanted def (by.DriverCall s called.Synced ∷ past) d
-    by_call n (inl u) = keeps_wanted def s (by.DriverCall s called.Synced) past calls.Disable n d (λ r. refl) u.0 refl (w d h)
-    by_call n (inr u) = keeps_wanted def s (by.DriverCall s called.Synced) past calls.Sync n d (λ r. refl) u.0 refl (w d h)
-wanted_more def (by.DriverCall s (called.Enable answer)) past due k w d h = let u = enable_due def s answer past due in
-    keeps_wanted def s (by.DriverCall s (called.Enable answer)) past calls.Enable u.count d (λ r. refl) u.call refl (w d h)
 wanted_more def (by.Driver s (drivers.Request flags links.Linked opened x)) past due k w d h = by_case (or_cases (same_dev d x && true) (is_linked past d) h)
   where
     by_case : ((same_dev d x && true) ≡ true) ⊎ (is_linked past d ≡ true) → Wanted def (by.Driver s (drivers.Request flags links.Linked opened x) ∷ past) d
@@ -160,38 +195,20 @@ wanted_more def (by.Driver s (drivers.Request flags (links.Refused error) opened
   where
     was_there : (s l : Bool) → ((s && false) || l) ≡ true → l ≡ true
     was_there s l h = grind arith
-wanted_more def (by.DriverCall s (called.Unlink (unlinks.Unlinked last) x)) past due k w d h =
-    let p = and_parts (not (same_dev d x && true)) (is_linked past d) h in
-    let u = unlink_due def s x (unlinks.Unlinked last) past due in
-    keeps_wanted def s (by.DriverCall s (called.Unlink (unlinks.Unlinked last) x)) past (calls.Free x) 0 d (λ r. refl)
-    u.call (differs (same_dev d x) p.0) (w d p.1)
-  where
-    differs : (s : Bool) → not (s && true) ≡ true → s ≡ false
-    differs s h = grind arith
-wanted_more def (by.DriverCall s (called.Unlink unlinks.NotThere x)) past due k w d h =
-    let p = and_parts (not (same_dev d x && false)) (is_linked past d) h in
-    let u = unlink_due def s x unlinks.NotThere past due in
-    let absent = absent_when (is_linked past x) _ u.answer_is in
-    let other = false_from_ne_true (same_dev d x) (λ same. both_ways (is_linked past d) p.1
-    (subst (λ (y : DevNo). is_linked past y ≡ false) (sym (dev_from_same d x same)) absent)) in
-    keeps_wanted def s (by.DriverCall s (called.Unlink unlinks.NotThere x)) past (calls.Free x) 0 d (λ r. refl) u.call other (w d p.1)
-wanted_more def (by.DriverCall s (called.Freed x)) past due k w d h =
-    let f = freed_is def s x past due k in keeps_wanted def s (by.DriverCall s (called.Freed x)) past (calls.Free x) 2 d (λ r. refl)
-    f.0 (not_that def past k s x d f.1 h) (w d h)
 wanted_more def (by.Driver s (drivers.Affinity answer mask)) past due k w d h =
     let u = affinity_due def s mask answer past due in
     keeps_wanted def s (by.Driver s (drivers.Affinity answer mask)) past (calls.Affinity mask) u.count d (λ r. refl) u.call refl
     (w d h)
 wanted_more def (by.Driver s (drivers.Moment at)) past due k w d h = let u = moment_due def s at past due in
     keeps_wanted def s (by.Driver s (drivers.Moment at)) past (calls.Moment at) u.count d (λ r. refl) u.call refl (w d h)
-wanted_more def (by.CpuCall c call) past due k w d h = no_cpu_call def c call past due
-wanted_more def (by.ThreadCall x call) past due k w d h = no_thread_call def x call past due
-wanted_more def (by.DriverCall s (called.Wake woken x)) past due k w d h = no_new_call def s (called.Wake woken x) past refl due
-wanted_more def (by.DriverCall s (called.Quiet x)) past due k w d h = no_new_call def s (called.Quiet x) past refl due
-wanted_more def (by.DriverCall s (called.Arm makes x)) past due k w d h = no_new_call def s (called.Arm makes x) past refl due
-wanted_more def (by.DriverCall s (called.Serve x served)) past due k w d h = no_new_call def s (called.Serve x served) past refl due
-wanted_more def e past due k w d h =
-    let v = w d h in record { driver = v.driver; place = v.place; call = v.call; there = v.there; own = v.own; requests = v.requests; wanted = v.wanted }
+wanted_more def (by.DriverCall s call) past due k w d h =
+    let u = call_due def (actors.Driver s) call past due in
+    keeps_wanted def s (by.DriverCall s call) past u.due.0 u.due.1 d (λ r. refl) u.is_due
+    (frees_none def s d u.due.0 u.due.1 call past k u.is_due u.step h) (w d (call_was_linked call past d h))
+wanted_more def (by.CpuCall c call) past due k w d h = same_wanted def (by.CpuCall c call) past d (λ r. refl) (w d (call_was_linked call past d h))
+wanted_more def (by.ThreadCall x call) past due k w d h = same_wanted def (by.ThreadCall x call) past d (λ r. refl) (w d (call_was_linked call past d h))
+wanted_more def (by.Cpu c e) past due k w d h = same_wanted def (by.Cpu c e) past d (λ r. refl) (w d h)
+wanted_more def (by.Thread x e) past due k w d h = same_wanted def (by.Thread x e) past d (λ r. refl) (w d h)
 
 pub wanted_kept : (def : LineDef) (e : Entry) (past : List Entry) → IsDue def e past → KeepsFrees def past
     → LinkedIsWanted def past → LinkedIsWanted def (e ∷ past)

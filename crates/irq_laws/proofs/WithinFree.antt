@@ -1,46 +1,38 @@
--- A driver that is within a free has a free due.
-use Rattle.std.proofs.Common.{◌≡◌, ℕ, suc, ◌+◌, ◌<◌, ◌==◌, ◌⊎◌, inl, inr, Bool, true, false, cond, Some, List, [], ◌∷◌}
-use Rattle.std.proofs.Common.{◌++◌, length, drop, nat_lt, refl, sym, ap, ◌∙◌, subst, arith, length-append}
+-- The maker of the free that is under way has it due.
+use Rattle.std.proofs.Common.{◌≡◌, ℕ, suc, ◌<◌, Bool, true, false, cond, Some, List, [], ◌∷◌, ◌++◌, length, nat_lt}
+use Rattle.std.proofs.Common.{refl, sym, ap, ◌∙◌, subst, arith}
 use Rattle.std.proofs.lemmas.Bool.{ltb-true, lt-ltb}
 use Rattle.irq_base.specs.declared.numbers.DevNo.{DevNo}
-use Rattle.irq_base.specs.declared.numbers.DriverNo.{DriverNo}
-use Rattle.irq_base.specs.declared.calls.Call.{Call}
 use Rattle.irq_base.specs.declared.calls.Call.TheVariants as calls
 use Rattle.irq_base.specs.declared.lines.LineDef.{LineDef}
+use Rattle.irq_base.specs.declared.entries.Actor.{Actor}
+use Rattle.irq_base.specs.declared.entries.Actor.TheVariants as actors
 use Rattle.irq_base.specs.declared.entries.Entry.{Entry}
 use Rattle.irq_base.specs.declared.entries.Entry.TheVariants as by
-use Rattle.irq_base.specs.declared.entries.DriverEntry.TheVariants as drivers
+use Rattle.irq_base.specs.declared.entries.CallEntry.{CallEntry}
 use Rattle.irq_base.specs.declared.entries.CallEntry.TheVariants as called
 use Rattle.irq_base.specs.declared.entries.UnlinkAnswer.TheVariants as unlinks
-use Rattle.irq_model.specs.Kinds.{same_driver, is_by_driver}
-use Rattle.irq_model.specs.Due.{calls_by, entries_by, begins_not_there, entries_of_call, due_of, due_call}
+use Rattle.irq_model.specs.Kinds.{made_by, is_by, same_actor}
+use Rattle.irq_model.specs.Due.{begins_not_there, entries_of_call}
+use Rattle.irq_model.specs.Next.{next_of_free}
 use Rattle.irq_model.specs.Legal.{IsDue, IsLegalPast}
-use Rattle.irq_steps.proofs.Same.{same_self_driver, driver_from_same}
-use Rattle.irq_laws.specs.Kept.{freeing}
+use Rattle.irq_steps.proofs.Same.{same_self_actor}
+use Rattle.irq_laws.specs.Actors.{due_of_actor}
+use Rattle.irq_laws.specs.Kept.{KeepsRuns, freeing, freed_on}
 use Rattle.irq_laws.proofs.Chosen.{the_same}
-use Rattle.irq_laws.proofs.Progress.{standing, same_count, same_call, due_at, entries_more, no_more}
-use Rattle.irq_laws.proofs.FreesKept.{is_free, never, not_freeing}
-use Rattle.irq_laws.proofs.ImpliesDriver.{ask_due, request_due, unlink_due, disable_due, hard_clear_due, synced_due, enable_due, affinity_due, moment_due}
-use Rattle.irq_laws.proofs.OwnLaws.{no_new_call}
+use Rattle.irq_laws.proofs.ActorSteps.{turn}
+use Rattle.irq_laws.proofs.Progress.{same_count, goes_on_with, still_due}
+use Rattle.irq_laws.proofs.FreesKept.{not_freeing, by_maker, freeing_on, FreeStep, unlinks_it, clears_it, frees_it, free_row, free_step}
+use Rattle.irq_laws.proofs.ImpliesDriver.{unlink_due}
+use Rattle.irq_laws.proofs.ScriptLaws.{runs_past}
 
--- the due call goes on with e as one entry more
-goes_on_with : (def : LineDef) (r : DriverNo) (e : Entry) (past : List Entry) (c : Call) (n : ℕ) → is_by_driver r e ≡ true → due_call def r past ≡ Some (c, n)
-    → ((own : List Entry) → length own ≡ n → nat_lt (length own) (entries_of_call c own) ≡ true
-    → nat_lt (length (own ++ e ∷ [])) (entries_of_call c (own ++ e ∷ [])) ≡ true)
-    → due_call def r (e ∷ past) ≡ Some (c, n + 1)
-goes_on_with def r e past c n mine was goes =
-    let s = standing (calls_by r def.calls) (entries_by r past) c n was in
-    let more = goes s.own (sym s.counts) s.incomplete in
-    let count : length (s.own ++ e ∷ []) ≡ n + 1 = (let l = length-append s.own (e ∷ []) in let m = s.counts in omega (arith, l, m)) in
-    ap (λ (es : List Entry). due_of (calls_by r def.calls) es) (entries_more r e past mine) ∙ s.more e
-    ∙ ap (λ (b : Bool). cond b (due_at c (length (s.own ++ e ∷ []))) (due_of s.rest (drop (entries_of_call c (s.own ++ e ∷ [])) (s.own ++ e ∷ [])))) more
-    ∙ ap (λ (m : ℕ). due_at c m) count
-
-unlink_goes : (x : DevNo) (s : DriverNo) (last : Bool) (own : List Entry) → length own ≡ 0 → nat_lt (length own) (entries_of_call (calls.Free x) own) ≡ true
-    → nat_lt (length (own ++ by.DriverCall s (called.Unlink (unlinks.Unlinked last) x) ∷ []))
-    (entries_of_call (calls.Free x) (own ++ by.DriverCall s (called.Unlink (unlinks.Unlinked last) x) ∷ [])) ≡ true
-unlink_goes x s last [] l lt = lt-ltb 1 3 (omega arith)
-unlink_goes x s last (y ∷ ys) l lt = absurd (omega (arith, l))
+unlink_goes : (x : DevNo) (a : Actor) (last : Bool) (own : List Entry) → length own ≡ 0 → nat_lt (length own) (entries_of_call (calls.Free x) own) ≡ true
+    → nat_lt (length (own ++ made_by a (called.Unlink (unlinks.Unlinked last) x) ∷ []))
+    (entries_of_call (calls.Free x) (own ++ made_by a (called.Unlink (unlinks.Unlinked last) x) ∷ [])) ≡ true
+unlink_goes x (actors.Cpu c) last [] l lt = lt-ltb 1 3 (omega arith)
+unlink_goes x (actors.Thread d) last [] l lt = lt-ltb 1 3 (omega arith)
+unlink_goes x (actors.Driver s) last [] l lt = lt-ltb 1 3 (omega arith)
+unlink_goes x a last (y ∷ ys) l lt = absurd (omega (arith, l))
 
 clear_goes : (x : DevNo) (e : Entry) (own : List Entry) → length own ≡ 1 → nat_lt (length own) (entries_of_call (calls.Free x) own) ≡ true
     → nat_lt (length (own ++ e ∷ [])) (entries_of_call (calls.Free x) (own ++ e ∷ [])) ≡ true
@@ -53,105 +45,56 @@ clear_goes x e (y ∷ []) l lt = ap (λ (m : ℕ). nat_lt 2 m) (same_count (call
     three_more false h = lt-ltb 2 3 (omega arith)
 clear_goes x e (y ∷ z ∷ ys) l lt = absurd (omega (arith, l))
 
--- an entry of another call leaves a free due
-other_due : (def : LineDef) (r s : DriverNo) (e : Entry) (past : List Entry) (c : Call) (m : ℕ) (d : DevNo) (n : ℕ)
-    → is_by_driver r e ≡ same_driver r s → is_free c ≡ false → due_call def s past ≡ Some (c, m)
-    → due_call def r past ≡ Some (calls.Free d, suc n) → due_call def r (e ∷ past) ≡ Some (calls.Free d, suc n)
-other_due def r s e past c m d n by other was h = by_driver (same_driver r s) refl
-  where
-    by_driver : (b : Bool) → same_driver r s ≡ b → due_call def r (e ∷ past) ≡ Some (calls.Free d, suc n)
-    by_driver true same =
-        let mine : due_call def r past ≡ Some (c, m) = subst (λ (t : DriverNo). due_call def t past ≡ Some (c, m)) (sym (driver_from_same r s same)) was in
-        never d c (same_call (calls.Free d) c (suc n) m (sym h ∙ mine)).0 other
-    by_driver false differs = no_more def r e past (by ∙ differs) ∙ h
+abbrev IsWithin : LineDef → List Entry → Actor → DevNo → Type 0
+IsWithin def past a d = (n : ℕ) × (due_of_actor def a past ≡ Some (calls.Free d, suc n))
 
-abbrev Within : LineDef → List Entry → DriverNo → DevNo → Type 0
-Within def past r d = (n : ℕ) × (due_call def r past ≡ Some (calls.Free d, suc n))
-
-clear_due : (def : LineDef) (s : DriverNo) (past : List Entry) (r : DriverNo) (d : DevNo) (n : ℕ)
-    → IsDue def (by.DriverCall s called.HardClear) past → due_call def r past ≡ Some (calls.Free d, suc n)
-    → Within def (by.DriverCall s called.HardClear ∷ past) r d
-clear_due def s past r d n due h = by_call (hard_clear_due def s past due).call
+-- an entry that leaves the free under way
+goes_on : (def : LineDef) (e : Entry) (past : List Entry) (a : Actor) (d : DevNo) → IsDue def e past → KeepsRuns def past
+    → freeing (e ∷ past) ≡ Some (a, d) → (b : Bool) → is_by a e ≡ b → IsWithin def past a d → IsWithin def (e ∷ past) a d
+goes_on def e past a d due runs f false other (n, is) = (n, still_due def a e past (calls.Free d) (suc n) (turn def a e past due runs) other is)
+goes_on def e past a d due runs f true mine (n, is) = by_step (free_step def a e past d (suc n) due mine is)
   where
-    of_free : (x : DevNo) → due_call def s past ≡ Some (calls.Free x, 1) → (b : Bool) → same_driver r s ≡ b
-        → Within def (by.DriverCall s called.HardClear ∷ past) r d
-    of_free x call true same =
-        let mine : due_call def r past ≡ Some (calls.Free x, 1)
-        = subst (λ (t : DriverNo). due_call def t past ≡ Some (calls.Free x, 1)) (sym (driver_from_same r s same))
-        call in
-        let here = (same_call (calls.Free d) (calls.Free x) (suc n) 1 (sym h ∙ mine)).0 in
-        let is : due_call def r past ≡ Some (calls.Free d, 1) = mine ∙ ap (λ (c : Call). due_at c 1) (sym here) in
-        (1, goes_on_with def r (by.DriverCall s called.HardClear) past (calls.Free d) 1 same is (clear_goes d (by.DriverCall s called.HardClear)))
-    of_free x call false other = (n, no_more def r (by.DriverCall s called.HardClear) past other ∙ h)
+    by_row : (call : CallEntry) → made_by a call ≡ e → FreeStep def d (suc n) past call → IsWithin def (e ∷ past) a d
+    by_row call made (unlinks_it none free same) = absurd (omega (arith, none))
+    by_row call made (clears_it one no_flow same) =
+        let before : due_of_actor def a past ≡ Some (calls.Free d, 1) = is ∙ ap (λ (m : ℕ). Some (calls.Free d, m)) one in
+        (1, goes_on_with def a e past (calls.Free d) 1 (turn def a e past due runs) mine before (clear_goes d e))
+    by_row call made (frees_it some not_one same) =
+        let n = sym (ap (λ (x : Entry). freeing (x ∷ past)) (ap (made_by a) same ∙ made)) in
+        let m = sym (freeing_on a (called.Freed d) past) ∙ (sym n ∙ f) in cc
 
-    by_call : ((x : DevNo) × (due_call def s past ≡ Some (calls.Free x, 1)))
-        ⊎ ((due_call def s past ≡ Some (calls.Disable, 1)) ⊎ (due_call def s past ≡ Some (calls.Sync, 0)))
-        → Within def (by.DriverCall s called.HardClear ∷ past) r d
-    by_call (inl u) = of_free u.0 u.1 (same_driver r s) refl
-    by_call (inr (inl u)) = (n, other_due def r s (by.DriverCall s called.HardClear) past calls.Disable 1 d n refl refl u h)
-    by_call (inr (inr u)) = (n, other_due def r s (by.DriverCall s called.HardClear) past calls.Sync 0 d n refl refl u h)
+    by_step : (call : CallEntry) × (next_of_free def d (suc n) past ≡ Some call) × (made_by a call ≡ e) → IsWithin def (e ∷ past) a d
+    by_step s = by_row s.0 s.2 (free_row def d (suc n) past s.0 s.1)
 
-within_more : (def : LineDef) (e : Entry) (past : List Entry) (r : DriverNo) (d : DevNo) → IsDue def e past
-    → (freeing past ≡ Some (r, d) → Within def past r d) → freeing (e ∷ past) ≡ Some (r, d) → Within def (e ∷ past) r d
-within_more def (by.Driver s (drivers.Ask makes x)) past r d due k f =
-    let h = k f in let u = ask_due _ def s x past due in (
-      h.0,
-      other_due def r s (by.Driver s (drivers.Ask makes x)) past (calls.Ask x) u.count d h.0 refl refl u.call
-          h.1,
-    )
-within_more def (by.DriverCall s called.Disable) past r d due k f = by_call (k f) (disable_due def s past due).call
-  where
-    by_call : Within def past r d → (due_call def s past ≡ Some (calls.Disable, 0))
-        ⊎ ((n : ℕ) × (due_call def s past ≡ Some (calls.DisableNosync, n))) → Within def (by.DriverCall s called.Disable ∷ past) r d
-    by_call h (inl u) = (h.0, other_due def r s (by.DriverCall s called.Disable) past calls.Disable 0 d h.0 refl refl u h.1)
-    by_call h (inr u) = (h.0, other_due def r s (by.DriverCall s called.Disable) past calls.DisableNosync u.0 d h.0 refl refl u.1 h.1)
-within_more def (by.DriverCall s called.HardClear) past r d due k f = let h = k f in clear_due def s past r d h.0 due h.1
-within_more def (by.DriverCall s called.Synced) past r d due k f = by_call (k f) (synced_due def s past due).count (synced_due def s past due).call
-  where
-    by_call : Within def past r d → (n : ℕ) → ((due_call def s past ≡ Some (calls.Disable, n)) × ((n == 0) ≡ false)
-        × ((n == 1) ≡ false)) ⊎ ((due_call def s past ≡ Some (calls.Sync, n)) × ((n == 0) ≡ false))
-        → Within def (by.DriverCall s called.Synced ∷ past) r d
-    by_call h n (inl u) = (h.0, other_due def r s (by.DriverCall s called.Synced) past calls.Disable n d h.0 refl refl u.0 h.1)
-    by_call h n (inr u) = (h.0, other_due def r s (by.DriverCall s called.Synced) past calls.Sync n d h.0 refl refl u.0 h.1)
-within_more def (by.DriverCall s (called.Enable answer)) past r d due k f =
-    let h = k f in let u = enable_due def s answer past due in
-    (h.0, other_due def r s (by.DriverCall s (called.Enable answer)) past calls.Enable u.count d h.0 refl refl u.call h.1)
-within_more def (by.Driver s (drivers.Request flags answer opened x)) past r d due k f =
-    let h = k f in let u = request_due def s x flags answer opened past due in (
-      h.0,
-      other_due def r s (by.Driver s (drivers.Request flags answer opened x)) past (calls.Request x flags) u.count d h.0
-          refl refl u.call h.1,
-    )
-within_more def (by.DriverCall s (called.Unlink (unlinks.Unlinked last) x)) past r d due k f =
-    let p : DriverNo × DevNo = (s, x) in
-    let q : DriverNo × DevNo = (r, d) in
-    let same : p ≡ q = the_same p q f in
-    let u = unlink_due def s x (unlinks.Unlinked last) past due in
-    let here : due_call def s (by.DriverCall s (called.Unlink (unlinks.Unlinked last) x) ∷ past) ≡ Some (calls.Free x, 1) =
-    goes_on_with def s (by.DriverCall s (called.Unlink (unlinks.Unlinked last) x)) past (calls.Free x) 0 (same_self_driver s) u.call (unlink_goes x s last) in (
+call_within : (def : LineDef) (b : Actor) (call : CallEntry) (past : List Entry) (a : Actor) (d : DevNo) → IsDue def (made_by b call) past → KeepsRuns def past
+    → freeing (made_by b call ∷ past) ≡ Some (a, d) → (freeing past ≡ Some (a, d) → IsWithin def past a d)
+    → freed_on b call (freeing past) ≡ Some (a, d) → IsWithin def (made_by b call ∷ past) a d
+call_within def b (called.Unlink (unlinks.Unlinked last) x) past a d due runs f k h =
+    let p : Actor × DevNo = (b, x) in
+    let q : Actor × DevNo = (a, d) in
+    let same : p ≡ q = the_same p q h in
+    let mine : is_by b (made_by b (called.Unlink (unlinks.Unlinked last) x)) ≡ true =
+    ap (same_actor b) (by_maker b (called.Unlink (unlinks.Unlinked last) x)) ∙ same_self_actor b in
+    let here : due_of_actor def b (made_by b (called.Unlink (unlinks.Unlinked last) x) ∷ past) ≡ Some (calls.Free x, 1) =
+    goes_on_with def b (made_by b (called.Unlink (unlinks.Unlinked last) x)) past (calls.Free x) 0
+    (turn def b (made_by b (called.Unlink (unlinks.Unlinked last) x)) past due runs) mine
+    (unlink_due def b x (unlinks.Unlinked last) past due).call (unlink_goes x b last) in (
       0,
-      subst (λ (y : DriverNo × DevNo). due_call def y.0
-          (by.DriverCall s (called.Unlink (unlinks.Unlinked last) x) ∷ past) ≡ Some (calls.Free y.1, 1)) same here,
+      subst (λ (y : Actor × DevNo). due_of_actor def y.0
+          (made_by b (called.Unlink (unlinks.Unlinked last) x) ∷ past) ≡ Some (calls.Free y.1, 1)) same here,
     )
-within_more def (by.DriverCall s (called.Unlink unlinks.NotThere x)) past r d due k f
-    = not_freeing past _ (unlink_due def s x unlinks.NotThere past due).no_mutex f
-within_more def (by.DriverCall s (called.Freed x)) past r d due k f = cc
-within_more def (by.Driver s (drivers.Affinity answer mask)) past r d due k f =
-    let h = k f in let u = affinity_due def s mask answer past due in (
-      h.0,
-      other_due def r s (by.Driver s (drivers.Affinity answer mask)) past (calls.Affinity mask) u.count d h.0 refl refl
-          u.call h.1,
-    )
-within_more def (by.Driver s (drivers.Moment at)) past r d due k f =
-    let h = k f in let u = moment_due def s at past due in
-    (h.0, other_due def r s (by.Driver s (drivers.Moment at)) past (calls.Moment at) u.count d h.0 refl refl u.call h.1)
-within_more def (by.DriverCall s (called.Wake woken x)) past r d due k f = no_new_call def s (called.Wake woken x) past refl due
-within_more def (by.DriverCall s (called.Quiet x)) past r d due k f = no_new_call def s (called.Quiet x) past refl due
-within_more def (by.DriverCall s (called.Arm makes x)) past r d due k f = no_new_call def s (called.Arm makes x) past refl due
-within_more def (by.DriverCall s (called.Serve x served)) past r d due k f = no_new_call def s (called.Serve x served) past refl due
-within_more def e past r d due k f = k f
+call_within def b (called.Unlink unlinks.NotThere x) past a d due runs f k h = not_freeing past _ (unlink_due def b x unlinks.NotThere past due).no_mutex h
+call_within def b (called.Freed x) past a d due runs f k h = cc
+call_within def b call past a d due runs f k h = goes_on def (made_by b call) past a d due runs f (is_by a (made_by b call)) refl (k h)
 
-pub within_free : (def : LineDef) (past : List Entry) → IsLegalPast def past → (r : DriverNo) (d : DevNo)
-    → freeing past ≡ Some (r, d) → (n : ℕ) × (due_call def r past ≡ Some (calls.Free d, suc n))
-within_free def [] legal r d f = cc
-within_free def (e ∷ past) legal r d f = within_more def e past r d legal.0 (λ g. within_free def past legal.1 r d g) f
+within_more : (def : LineDef) (e : Entry) (past : List Entry) (a : Actor) (d : DevNo) → IsDue def e past → KeepsRuns def past
+    → (freeing past ≡ Some (a, d) → IsWithin def past a d) → freeing (e ∷ past) ≡ Some (a, d) → IsWithin def (e ∷ past) a d
+within_more def (by.CpuCall c call) past a d due runs k f = call_within def (actors.Cpu c) call past a d due runs f k f
+within_more def (by.ThreadCall x call) past a d due runs k f = call_within def (actors.Thread x) call past a d due runs f k f
+within_more def (by.DriverCall s call) past a d due runs k f = call_within def (actors.Driver s) call past a d due runs f k f
+within_more def e past a d due runs k f = goes_on def e past a d due runs f (is_by a e) refl (k f)
+
+pub within_free : (def : LineDef) (past : List Entry) → IsLegalPast def past → (a : Actor) (d : DevNo)
+    → freeing past ≡ Some (a, d) → (n : ℕ) × (due_of_actor def a past ≡ Some (calls.Free d, suc n))
+within_free def [] legal a d f = cc
+within_free def (e ∷ past) legal a d f = within_more def e past a d legal.0 (runs_past def past legal.1) (λ g. within_free def past legal.1 a d g) f

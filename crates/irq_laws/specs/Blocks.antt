@@ -3,19 +3,19 @@ use Rattle.std.specs.Prelude.{◌≡◌, ℕ, suc, ◌==◌, Bool, false, ◌&&�
 use Rattle.std.specs.Prelude.{Some, List, reverse}
 use Rattle.std.specs.List.{list_any}
 use Rattle.irq_base.specs.declared.numbers.DevNo.{DevNo}
-use Rattle.irq_base.specs.declared.numbers.DriverNo.{DriverNo}
 use Rattle.irq_base.specs.declared.calls.Call.{Call}
 use Rattle.irq_base.specs.declared.calls.Call.TheVariants as calls
 use Rattle.irq_base.specs.declared.lines.LineDef.{LineDef}
-use Rattle.irq_base.specs.declared.entries.Actor.TheVariants as actors
+use Rattle.irq_base.specs.declared.entries.Actor.{Actor}
 use Rattle.irq_base.specs.declared.entries.Entry.{Entry}
 use Rattle.irq_base.specs.declared.waiting.WaitFor.{WaitFor}
 use Rattle.irq_base.specs.declared.waiting.WaitFor.TheVariants as waits
 use Rattle.irq_model.specs.Rounds.{has_flow}
 use Rattle.irq_model.specs.Reason.{is_being_freed}
 use Rattle.irq_model.specs.Threads.{is_woken, is_running}
-use Rattle.irq_model.specs.Due.{due_call, holds_mutex}
+use Rattle.irq_model.specs.Due.{holds_mutex}
 use Rattle.irq_model.specs.Next.{next}
+use Rattle.irq_laws.specs.Actors.{due_of_actor}
 use Rattle.irq_laws.specs.Kept.{freeing}
 
 -- what a call waits for once it has made n entries: a hard clear for the end of the flow
@@ -29,6 +29,8 @@ block_of (calls.Free dev) n =
 block_of calls.Disable n =
     if n == 0 then waits.Nothing else (if n == 1 then waits.Flow else waits.Threads)
 block_of calls.Sync n = if n == 0 then waits.Flow else waits.Threads
+block_of calls.SyncHard n = waits.Flow
+block_of calls.DisableHard n = if n == 0 then waits.Nothing else waits.Flow
 block_of _ n = waits.Nothing
 
 -- whether a thread of some device of the line is woken or in a run
@@ -49,12 +51,12 @@ stands_in_way def past waits.Threads = are_threads_at_work def past
 stands_in_way def past waits.Mutex = holds_mutex past
 stands_in_way def past waits.Freed = is_freed_at_work def past
 
--- a free is under way, and its driver, which holds the mutex, may add its next entry
+-- a free is under way, and its maker, which holds the mutex, may add its next entry
 pub record FreeMoves (def : LineDef) (h : List Entry) : Type 0 where
-  pub driver : DriverNo
+  pub maker : Actor
   pub dev : DevNo
-  pub under_way : freeing (reverse h) ≡ Some (driver, dev)
+  pub under_way : freeing (reverse h) ≡ Some (maker, dev)
   -- how many entries the free has made after its unlink
   pub after_unlink : ℕ
-  pub call : due_call def driver (reverse h) ≡ Some (calls.Free dev, suc after_unlink)
-  pub moves : IsSome (next def h (actors.Driver driver))
+  pub call : due_of_actor def maker (reverse h) ≡ Some (calls.Free dev, suc after_unlink)
+  pub moves : IsSome (next def h maker)

@@ -98,8 +98,8 @@ ended def flows.Eoi again unmask c =
     retriggered_if (is_edge_line def && again) (unmasked_if unmask (after_eoi c))
 ended def _ again unmask c = unmasked_if unmask c
 
--- a device asks: an edge comes, if the device makes one, or the level is set by whether some device
--- has an unserved ask
+-- a device asks, or is turned on: an edge comes, if the device makes one, or the level is set by
+-- whether some device that isn't quiet has an unserved ask
 abbrev pub asked : LineDef → Bool → List Entry → Cell → Cell
 asked def edge past c =
     if is_edge_line def then (if edge then after_edge c else c) else after_high (is_high def past) c
@@ -108,13 +108,22 @@ abbrev pub served : LineDef → ℕ → List Entry → Cell → Cell
 served def count past c =
     if is_level_line def && nat_lt 0 count then after_high (is_high def past) c else c
 
+-- the level is set by whether some device that isn't quiet has an unserved ask
+abbrev pub levelled : LineDef → List Entry → Cell → Cell
+levelled def past c = if is_level_line def then after_high (is_high def past) c else c
+
 -- what the step of a call does, whoever makes it
-abbrev pub called_on : LineDef → CallEntry → Cell → Cell
-called_on def called.Disable c = masked_if def.unlazy c
-called_on def (called.Unlink answer dev) c = masked_if (unlinks_last (called.Unlink answer dev)) c
-called_on def (called.Enable answer) c = retriggered_if (is_chip_opened (opened_by_enable answer))
+abbrev pub called_on : LineDef → CallEntry → List Entry → Cell → Cell
+called_on def called.Disable past c = masked_if def.unlazy c
+called_on def (called.Unlink answer dev) past c =
+    masked_if (unlinks_last (called.Unlink answer dev)) c
+called_on def (called.Enable answer) past c =
+    retriggered_if (is_chip_opened (opened_by_enable answer))
     (unmasked_if (is_started_opened (opened_by_enable answer)) c)
-called_on def _ c = c
+called_on def (called.Arm edge dev) past c = asked def edge past c
+called_on def (called.Quiet dev) past c = levelled def past c
+called_on def (called.Serve dev count) past c = levelled def past c
+called_on def _ past c = c
 
 -- what the entry does after `past`
 abbrev pub driven : LineDef → Entry → List Entry → Cell → Cell
@@ -132,9 +141,11 @@ driven def (by.Thread dev (threads.Finish kept unmask)) past c = unmasked_if unm
 driven def (by.Driver driver (drivers.Request flags answer opened dev)) past c =
     retriggered_if (is_chip_start (by.Driver driver (drivers.Request flags answer opened dev)))
     (unmasked_if (is_start (by.Driver driver (drivers.Request flags answer opened dev))) c)
-driven def (by.CpuCall cpu call) past c = called_on def call c
-driven def (by.ThreadCall dev call) past c = called_on def call c
-driven def (by.DriverCall driver call) past c = called_on def call c
+driven def (by.CpuCall cpu call) past c = called_on def call (by.CpuCall cpu call ∷ past) c
+driven def (by.ThreadCall dev call) past c =
+    called_on def call (by.ThreadCall dev call ∷ past) c
+driven def (by.DriverCall driver call) past c =
+    called_on def call (by.DriverCall driver call ∷ past) c
 driven def _ past c = c
 
 -- the cell after all entries

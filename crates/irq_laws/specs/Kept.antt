@@ -12,6 +12,7 @@ use Rattle.irq_base.specs.declared.entries.Actor.{Actor}
 use Rattle.irq_base.specs.declared.entries.Actor.TheVariants as actors
 use Rattle.irq_base.specs.declared.entries.Entry.{Entry}
 use Rattle.irq_base.specs.declared.entries.Entry.TheVariants as by
+use Rattle.irq_base.specs.declared.entries.CallEntry.{CallEntry}
 use Rattle.irq_base.specs.declared.entries.CallEntry.TheVariants as called
 use Rattle.irq_base.specs.declared.entries.UnlinkAnswer.TheVariants as unlinks
 use Rattle.irq_model.specs.Places.{stands, since_place, upto_place, count_of}
@@ -19,13 +20,14 @@ use Rattle.irq_model.specs.Kinds.{is_by, is_freed, is_freed_by, links_dev, unlin
 use Rattle.irq_model.specs.Lines.{is_device}
 use Rattle.irq_model.specs.Links.{is_linked, is_reset, base, is_deepening, is_lowering}
 use Rattle.irq_model.specs.Rounds.{has_flow, has_begun, at_work}
-use Rattle.irq_model.specs.Due.{calls_by, entries_by, entries_of_call, due_call}
+use Rattle.irq_model.specs.Due.{calls_by, entries_by, entries_of_call}
 use Rattle.irq_model.specs.Valid.{requests_dev, frees_dev}
 use Rattle.irq_model.specs.Reason.{is_called, is_being_freed, ClearedIsNotCalled}
 use Rattle.irq_model.specs.Reason.{UnlinkedIsAtRest, UnfinishedIsAtWork, FlagsAgree}
 use Rattle.irq_model.specs.Reason.{EnabledIsStarted, EdgeFlowMaskIsPending, EoiEdgeIsOpen}
 use Rattle.irq_model.specs.Reason.{EdgePendingHasFlow, DroppedIsPending, LevelMaskIsHeld}
 use Rattle.irq_model.specs.Reason.{EoiLevelMaskIsOneshot}
+use Rattle.irq_laws.specs.Actors.{due_of_actor}
 
 -- a handler is at work exactly if it was called and hasn't returned; it was called in the current
 -- round of the flow
@@ -34,31 +36,37 @@ pub record KeepsRuns (def : LineDef) (past : List Entry) : Type 0 where
   pub working : (d : DevNo) → at_work past ≡ Some d
       → (is_called past d ≡ true) × (has_flow def past ≡ true) × (has_begun def past d ≡ true)
 
--- the driver and the device of the last unlink, unless a free was completed after it; only drivers
--- free
-abbrev pub freeing : List Entry → Option (DriverNo × DevNo)
+-- the step of a call begins a free, or completes it, or leaves it
+abbrev pub freed_on : Actor → CallEntry → Option (Actor × DevNo) → Option (Actor × DevNo)
+freed_on a (called.Unlink (unlinks.Unlinked last) dev) was = Some (a, dev)
+freed_on a (called.Freed dev) was = None
+freed_on a _ was = was
+
+-- the maker and the device of the last unlink, unless a free was completed after it
+abbrev pub freeing : List Entry → Option (Actor × DevNo)
 freeing [] = None
-freeing (by.DriverCall driver (called.Unlink (unlinks.Unlinked last) dev) ∷ past)
-    = Some (driver, dev)
-freeing (by.DriverCall driver (called.Freed dev) ∷ past) = None
+freeing (by.CpuCall cpu call ∷ past) = freed_on (actors.Cpu cpu) call (freeing past)
+freeing (by.ThreadCall dev call ∷ past) = freed_on (actors.Thread dev) call (freeing past)
+freeing (by.DriverCall driver call ∷ past) = freed_on (actors.Driver driver) call (freeing past)
 freeing (_ ∷ past) = freeing past
 
 -- the actor unlinked d
 abbrev pub unlinks_of : Actor → DevNo → Entry → Bool
 unlinks_of a d e = is_by a e && unlinks_dev d e
 
--- at most one free is under way, and it is a driver's; a driver that is within a free is its driver
+-- at most one free is under way, and an actor that is within a free is its maker
 pub record KeepsFrees (def : LineDef) (past : List Entry) : Type 0 where
-  pub one_driver : (a : Actor) (d : DevNo) → stands (unlinks_of a d) (is_freed_by a) past ≡ true
-      → (r : DriverNo) × (a ≡ actors.Driver r) × (freeing past ≡ Some (r, d))
+  pub one_maker : (a : Actor) (d : DevNo) → stands (unlinks_of a d) (is_freed_by a) past ≡ true
+      → freeing past ≡ Some (a, d)
   pub one_device : (d : DevNo) → is_being_freed past d ≡ true
-      → (r : DriverNo) × (freeing past ≡ Some (r, d))
-  pub within : (r : DriverNo) (d : DevNo) (n : ℕ) → due_call def r past ≡ Some (calls.Free d, suc n)
-      → freeing past ≡ Some (r, d)
+      → (a : Actor) × (freeing past ≡ Some (a, d))
+  pub within : (a : Actor) (d : DevNo) (n : ℕ)
+      → due_of_actor def a past ≡ Some (calls.Free d, suc n)
+      → freeing past ≡ Some (a, d)
   -- what is being freed isn't linked
-  pub unlinked : (r : DriverNo) (d : DevNo) → freeing past ≡ Some (r, d) → is_linked past d ≡ false
+  pub unlinked : (a : Actor) (d : DevNo) → freeing past ≡ Some (a, d) → is_linked past d ≡ false
   -- after the hard clear of the free no handler of the device is at work
-  pub past_clear : (r : DriverNo) (d : DevNo) → due_call def r past ≡ Some (calls.Free d, 2)
+  pub past_clear : (a : Actor) (d : DevNo) → due_of_actor def a past ≡ Some (calls.Free d, 2)
       → is_called past d ≡ false
   pub cleared : ClearedIsNotCalled def past
 

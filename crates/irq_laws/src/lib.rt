@@ -3,8 +3,8 @@
 //! body, so that crates above can call it or cite its lemma.
 #![tactic(auto)]
 
-ghost use Rattle.std.specs.Prelude.{◌≡◌, ◌⊎◌, ℕ, true, not, List, reverse, IsSome, is_some, Some};
-ghost use Rattle.std.specs.Prelude.{None};
+ghost use Rattle.std.specs.Prelude.{◌≡◌, ◌⊎◌, ℕ, true, false, not, ◌||◌, List, reverse, IsSome};
+ghost use Rattle.std.specs.Prelude.{is_some, Some};
 ghost use Rattle.irq_base.specs.Who.{actor_of};
 ghost use Rattle.irq_base.specs.declared.calls.Call.{Call};
 ghost use Rattle.irq_base.specs.declared.lines.LineDef.{LineDef};
@@ -22,11 +22,16 @@ ghost use Rattle.irq_model.specs.Legal.{IsLegal, IsLegalPast};
 ghost use Rattle.irq_model.specs.Owed.{IsCovered, IsDelivered};
 ghost use Rattle.irq_model.specs.Reason.{HasReason, OneIsCalled, OneIsFreed};
 ghost use Rattle.irq_model.specs.Scripts.{FollowsScripts};
-ghost use Rattle.irq_model.specs.Rounds.{flow};
+ghost use Rattle.irq_model.specs.Rounds.{flow, has_flow};
+ghost use Rattle.irq_model.specs.RunLaws.{FollowsRunScripts, EnablesWhatItDisables};
+ghost use Rattle.irq_model.specs.RunLaws.{IsLeftEnabled};
 ghost use Rattle.irq_model.specs.Settled.{IsSettled};
 ghost use Rattle.irq_model.specs.Next.{next};
 ghost use Rattle.irq_model.specs.Signal.{target};
+ghost use Rattle.irq_model.specs.Threads.{is_woken, is_running};
 ghost use Rattle.irq_model.specs.Valid.{IsValid};
+ghost use Rattle.irq_model.specs.ValidRuns.{HasValidRuns};
+ghost use Rattle.irq_model.specs.Waits.{IsAtRest, NoStandstillPast, wanted, nothing_wanted};
 ghost use Rattle.irq_laws.specs.Blocks.{block_of, stands_in_way, FreeMoves};
 ghost use Rattle.irq_laws.specs.Driven.{IsDrivenCell};
 ghost use Rattle.irq_laws.specs.Kept.{Kept};
@@ -98,18 +103,19 @@ pub fn has_target()
         → IsSome (target def past) }
 {}
 
-/// No standstill: if no actor may add an entry, every driver's calls are complete.
-#[tactic(auto, using(crate::proofs::RestLaws::no_standstill))]
+/// No standstill: where no actor may add an entry, whoever isn't done waits for himself, or for one
+/// that does, at once or through others. The scripts of runs are as a board may have them.
+#[tactic(auto, using(crate::proofs::Standstill::no_standstill))]
 pub fn no_standstill()
-    ensures law { (def : LineDef) (h : List Entry) → IsValid def → IsLegal def h
-        → ((a : Actor) → next def h a ≡ None) → IsSettled def h }
+    ensures law { (def : LineDef) (past : List Entry) → IsValid def → HasValidRuns def
+        → IsLegalPast def past → NoStandstillPast def past }
 {}
 
 /// Delivered: at rest no edge is owed on a line that isn't left disabled, and on a level line every
-/// linked device that works has all its asks served.
-#[tactic(auto, using(crate::proofs::RestLaws::settled_is_delivered))]
-pub fn settled_is_delivered()
-    ensures law { (def : LineDef) (h : List Entry) → IsValid def → IsLegal def h → IsSettled def h
+/// linked device that works and isn't quiet has all its asks served.
+#[tactic(auto, using(crate::proofs::RestLaws::at_rest_is_delivered))]
+pub fn at_rest_is_delivered()
+    ensures law { (def : LineDef) (h : List Entry) → IsValid def → IsLegal def h → IsAtRest def h
         → IsDelivered def h }
 {}
 
@@ -117,6 +123,13 @@ pub fn settled_is_delivered()
 #[tactic(auto, using(crate::proofs::ScriptLaws::follows_scripts))]
 pub fn follows_scripts()
     ensures law { (def : LineDef) (h : List Entry) → IsLegal def h → FollowsScripts def h }
+{}
+
+/// The calls of handlers and threads stand within their runs, in the order of their scripts, each
+/// once, and all of them in a run that has returned.
+#[tactic(auto, using(crate::proofs::ScriptLaws::follows_run_scripts))]
+pub fn follows_run_scripts()
+    ensures law { (def : LineDef) (h : List Entry) → IsLegal def h → FollowsRunScripts def h }
 {}
 
 /// The facts that every entry keeps (`Kept`) hold of every legal past, whose newest entry comes
@@ -164,9 +177,11 @@ pub fn one_takes()
         → next def h (actors.Cpu c) ≡ Some f → b ≡ c }
 {}
 
-/// The processor of the flow in progress always has an entry due.
+/// The processor of the flow in progress has an entry due, unless its handler's next step waits for
+/// somebody.
 pub fn flow_moves()
-    ensures law { (def : LineDef) (h : List Entry) (c : CpuNo) → flow def (reverse h) ≡ Some c
+    ensures law { (def : LineDef) (h : List Entry) (c : CpuNo) → HasValidRuns def
+        → flow def (reverse h) ≡ Some c → wanted def (actors.Cpu c) (reverse h) ≡ nothing_wanted
         → IsSome (next def h (actors.Cpu c)) }
 {}
 
@@ -179,21 +194,24 @@ pub fn call_waits()
         ≡ not (stands_in_way def (reverse h) (block_of c n)) }
 {}
 
-/// No standstill among drivers: if no thread and no processor may add an entry, a driver whose
-/// calls aren't complete may, or the driver of the free that is under way may.
+/// No standstill among drivers: where no flow is in progress and no thread is woken or in a run, a
+/// driver whose calls aren't complete may add its next entry, or the maker of the free that is
+/// under
+/// way may.
 pub fn drivers_move()
     ensures law { (def : LineDef) (h : List Entry) → IsValid def → IsLegal def h
-        → ((d : DevNo) → next def h (actors.Thread d) ≡ None)
-        → ((c : CpuNo) → next def h (actors.Cpu c) ≡ None) → (r : DriverNo)
-        → IsSome (due_call def r (reverse h))
+        → has_flow def (reverse h) ≡ false
+        → ((d : DevNo) → (is_woken (reverse h) d || is_running (reverse h) d) ≡ false)
+        → (r : DriverNo) → IsSome (due_call def r (reverse h))
         → IsSome (next def h (actors.Driver r)) ⊎ FreeMoves def h }
 {}
 
-/// Quiet: on a settled line no flow is in progress, each handler that was called has returned, no
-/// thread is to run or in a run, and no free is under way.
-pub fn settled_is_quiet()
-    ensures law { (def : LineDef) (h : List Entry) → IsValid def → IsLegal def h → IsSettled def h
+/// Quiet: on a line at rest no flow is in progress, each handler that was called has returned, no
+/// thread is to run or in a run, and no free is under way; and it is settled.
+pub fn at_rest_is_quiet()
+    ensures law { (def : LineDef) (h : List Entry) → IsValid def → IsLegal def h → IsAtRest def h
         → IsQuiet def h }
+    ensures settled { (def : LineDef) (h : List Entry) → IsAtRest def h → IsSettled def h }
 {}
 
 /// The log limit is no rule: with another limit the same is due of every actor after every history,
@@ -203,4 +221,14 @@ pub fn log_is_no_rule()
         → next (with_log def n) h a ≡ next def h a }
     ensures legal { (def : LineDef) (n : ℕ) (h : List Entry) → IsLegal def h
         → IsLegal (with_log def n) h }
+{}
+
+/// Not left disabled: where each run that disables the line has its thread enable it, and each
+/// driver
+/// enables as often as it disables, a line at rest with something linked is enabled, unless an end
+/// killed it since its depth was last set anew.
+#[tactic(auto, using(crate::proofs::LeftEnabled::left_enabled))]
+pub fn left_enabled()
+    ensures law { (def : LineDef) (h : List Entry) → IsValid def → EnablesWhatItDisables def
+        → IsLegal def h → IsAtRest def h → IsLeftEnabled def h }
 {}

@@ -11,7 +11,7 @@ use Rattle.irq_base.specs.declared.numbers.DriverNo.{DriverNo}
 use Rattle.irq_base.specs.declared.waiting.WaitFor.{WaitFor}
 use Rattle.irq_base.specs.declared.waiting.WaitFor.TheVariants as waits
 use Rattle.irq_model.specs.Due.{due_call}
-use Rattle.irq_model.specs.Next.{next, next_of_call}
+use Rattle.irq_model.specs.Next.{next, next_of_driver}
 use Rattle.irq_laws.specs.Blocks.{block_of, stands_in_way}
 use Rattle.irq_laws.proofs.BlockLaws as blocked
 use Rattle.irq_line.specs.Queries.{blocks_at, blocks_of, is_blocked}
@@ -39,4 +39,4 @@ call_waits line r c n sound is =
 
 -- a driver whose calls are all complete has none due
 pub complete_rests : (line : LineSeen) (r : DriverNo) → due_call line.def r (reverse line.entries) ≡ None → next line.def line.entries (actors.Driver r) ≡ None
-complete_rests line r none = ap (next_of_call line.def r (reverse line.entries)) none
+complete_rests line r none = ap (next_of_driver line.def r (reverse line.entries)) none

@@ -6,3 +6,5 @@ mod DriverRows
 mod ValidRows
 pub mod Lists
 pub mod Lowest
+pub mod CallRows
+pub mod RunRows

@@ -24,7 +24,7 @@ abbrev pub driver : ℕ → DriverNo
 driver n = record { 0 = n }
 
 abbrev pub device : ℕ → Kind → DeviceDef
-device n kind = record { dev = dev n; line = line; kind = kind }
+device n kind = record { dev = dev n; line = line; kind = kind; held = false; forgets = false }
 
 abbrev pub no_flags : Flags
 no_flags = record { shared = false; oneshot = false; noauto = false }
@@ -61,6 +61,8 @@ latch =
       log = 10000;
       devices = [];
       calls = [];
+      runs = [];
+      told = [];
     }
 
 -- one whose chip drops edges while it is masked

@@ -44,6 +44,12 @@ entries_of_call calls.Enable es = 1
 entries_of_call calls.Sync es = 2
 entries_of_call (calls.Affinity mask) es = 1
 entries_of_call (calls.Moment at) es = 1
+entries_of_call calls.SyncHard es = 1
+entries_of_call calls.DisableHard es = 2
+entries_of_call (calls.Wake dev) es = 1
+entries_of_call (calls.Quiet dev) es = 1
+entries_of_call (calls.Arm dev) es = 1
+entries_of_call (calls.Serve dev) es = 1
 
 -- the first call that isn't complete, and how many entries it has made
 abbrev pub due_of : List Call → List Entry → Option (Call × ℕ)

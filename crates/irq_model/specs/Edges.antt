@@ -8,11 +8,12 @@ use Rattle.irq_model.specs.Kinds.{is_device_edge, is_chip_start, is_again, is_ta
 use Rattle.irq_model.specs.Lines.{is_edge_line, is_eoi_flow}
 use Rattle.irq_model.specs.Masks.{is_masked}
 
--- an entry at which an edge comes: one that the device makes, a start that the chip resends, and on the fast-EOI flow
--- an end that retriggers
+-- an entry at which an edge comes: one that a device makes, a start that the chip resends, and on
+-- the fast-EOI flow an end that retriggers
 abbrev pub is_edge : LineDef → Entry → Bool
 is_edge def e =
-    is_edge_line def && (is_device_edge e || (is_chip_start e || (is_eoi_flow def.flow && is_again e)))
+    is_edge_line def && (is_device_edge e
+    || (is_chip_start e || (is_eoi_flow def.flow && is_again e)))
 
 abbrev pub ends_in_edge : LineDef → List Entry → Bool
 ends_in_edge def [] = false

@@ -56,10 +56,15 @@ abbrev pub is_any_ask : Entry → Bool
 is_any_ask (by.Driver driver (drivers.Ask edge dev)) = true
 is_any_ask _ = false
 
--- the device makes an edge, if the line is an edge line
+abbrev pub arms_with_edge : CallEntry → Bool
+arms_with_edge (called.Arm edge dev) = edge
+arms_with_edge _ = false
+
+-- the device makes an edge, if the line is an edge line: by an ask, or as its own interrupt is
+-- turned on over what is unserved
 abbrev pub is_device_edge : Entry → Bool
 is_device_edge (by.Driver driver (drivers.Ask edge dev)) = edge
-is_device_edge _ = false
+is_device_edge e = is_call arms_with_edge e
 
 abbrev pub is_ask : DevNo → Entry → Bool
 is_ask d (by.Driver driver (drivers.Ask edge dev)) = same_dev d dev
@@ -96,10 +101,53 @@ abbrev pub returns_handled : Entry → Bool
 returns_handled (by.Cpu cpu (cpus.Return answer dev served)) = is_handled answer
 returns_handled _ = false
 
--- the return of d wakes its thread
+abbrev pub wakes_by_call : DevNo → CallEntry → Bool
+wakes_by_call d (called.Wake woken dev) = woken && same_dev d dev
+wakes_by_call d _ = false
+
+-- d's thread is woken: by its handler's return, or by a call (`__irq_wake_thread`, from
+-- `__handle_irq_event_percpu` and from `irq_wake_thread`)
 abbrev pub wakes : DevNo → Entry → Bool
 wakes d (by.Cpu cpu (cpus.Return answer dev served)) = same_dev d dev && is_wake answer
-wakes d _ = false
+wakes d e = is_call (wakes_by_call d) e
+
+-- ---- a device's own interrupt, and its service outside of a return
+
+abbrev pub quiets : DevNo → CallEntry → Bool
+quiets d (called.Quiet dev) = same_dev d dev
+quiets d _ = false
+
+abbrev pub turns_off : DevNo → Entry → Bool
+turns_off d e = is_call (quiets d) e
+
+abbrev pub arms : DevNo → CallEntry → Bool
+arms d (called.Arm edge dev) = same_dev d dev
+arms d _ = false
+
+abbrev pub turns_on : DevNo → Entry → Bool
+turns_on d e = is_call (arms d) e
+
+abbrev pub serves_this : DevNo → CallEntry → Bool
+serves_this d (called.Serve dev served) = same_dev d dev
+serves_this d _ = false
+
+abbrev pub is_serve : DevNo → Entry → Bool
+is_serve d e = is_call (serves_this d) e
+
+-- a call's step by a handler, and by d's thread
+abbrev pub is_cpu_call : Entry → Bool
+is_cpu_call (by.CpuCall cpu call) = true
+is_cpu_call _ = false
+
+abbrev pub is_thread_call : DevNo → Entry → Bool
+is_thread_call d (by.ThreadCall dev call) = same_dev d dev
+is_thread_call d _ = false
+
+-- the step of a call by that actor
+abbrev pub made_by : Actor → CallEntry → Entry
+made_by (actors.Cpu c) call = by.CpuCall c call
+made_by (actors.Thread d) call = by.ThreadCall d call
+made_by (actors.Driver r) call = by.DriverCall r call
 
 abbrev pub is_thread_begin : DevNo → Entry → Bool
 is_thread_begin d (by.Thread dev threads.Begin) = same_dev d dev
@@ -176,7 +224,8 @@ is_linked_answer _ = false
 
 -- a request that was linked
 abbrev pub is_linked_request : Entry → Bool
-is_linked_request (by.Driver driver (drivers.Request flags answer opened dev)) = is_linked_answer answer
+is_linked_request (by.Driver driver (drivers.Request flags answer opened dev)) =
+    is_linked_answer answer
 is_linked_request _ = false
 
 -- the request of d was linked

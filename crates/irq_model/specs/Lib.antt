@@ -3,6 +3,7 @@ pub mod Kinds
 pub mod Lines
 pub mod Links
 pub mod Asks
+pub mod Runs
 pub mod Masks
 pub mod Rounds
 pub mod Waiting
@@ -21,3 +22,7 @@ pub mod Scripts
 pub mod Reason
 pub mod Laws
 pub mod Bounds
+pub mod Waits
+pub mod RunLaws
+pub mod RunBounds
+pub mod ValidRuns

@@ -6,6 +6,10 @@ use Rattle.irq_base.specs.declared.numbers.DevNo.{DevNo}
 use Rattle.irq_base.specs.declared.devices.Kind.{Kind}
 use Rattle.irq_base.specs.declared.devices.Kind.TheVariants as kinds
 use Rattle.irq_base.specs.declared.devices.DeviceDef.{DeviceDef}
+use Rattle.irq_base.specs.declared.devices.Part.{Part}
+use Rattle.irq_base.specs.declared.devices.Part.TheVariants as parts
+use Rattle.irq_base.specs.declared.devices.ToldAnswer.{ToldAnswer}
+use Rattle.irq_base.specs.declared.calls.Call.{Call}
 use Rattle.irq_base.specs.declared.lines.FlowKind.{FlowKind}
 use Rattle.irq_base.specs.declared.lines.FlowKind.TheVariants as flows
 use Rattle.irq_base.specs.declared.lines.LineDef.{LineDef}
@@ -47,6 +51,38 @@ kind_in (x ∷ xs) d = if is_device d x then x.kind else kind_in xs d
 
 abbrev pub kind_of : LineDef → DevNo → Kind
 kind_of def d = kind_in def.devices d
+
+-- the device has the option; one that the line lacks has none
+abbrev pub is_held : LineDef → DevNo → Bool
+is_held def d = list_any (λ x. is_device d x && x.held) def.devices
+
+abbrev pub does_forget : LineDef → DevNo → Bool
+does_forget def d = list_any (λ x. is_device d x && x.forgets) def.devices
+
+abbrev pub same_part : Part → Part → Bool
+same_part parts.Primary parts.Primary = true
+same_part parts.Thread parts.Thread = true
+same_part _ _ = false
+
+-- the calls that a run of that part of d makes, in order
+abbrev pub script_in : List (DevNo × Part × Call) → DevNo → Part → List Call
+script_in [] d part = []
+script_in (c ∷ cs) d part =
+    if same_dev d c.0 && same_part part c.1 then (c.2 ∷ script_in cs d part)
+    else script_in cs d part
+
+abbrev pub run_script : LineDef → DevNo → Part → List Call
+run_script def d part = script_in def.runs d part
+
+-- what that part of a told device answers, in turn
+abbrev pub told_in : List (DevNo × Part × ToldAnswer) → DevNo → Part → List ToldAnswer
+told_in [] d part = []
+told_in (c ∷ cs) d part =
+    if same_dev d c.0 && same_part part c.1 then (c.2 ∷ told_in cs d part)
+    else told_in cs d part
+
+abbrev pub told_answers : LineDef → DevNo → Part → List ToldAnswer
+told_answers def d part = told_in def.told d part
 
 -- processor c is in the mask
 abbrev pub is_in_mask : ℕ → ℕ → Bool

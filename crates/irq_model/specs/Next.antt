@@ -1,6 +1,7 @@
 -- The table of steps: the one entry that an actor may add. Each row is a definition.
 use Rattle.std.specs.Prelude.{ℕ, Bool, true, false, not, ◌||◌, ◌&&◌, ◌==◌, if◌then◌else◌, Option}
-use Rattle.std.specs.Prelude.{Some, None, is_some, List, [], ◌∷◌, nat_lt, length, reverse, option_map}
+use Rattle.std.specs.Prelude.{Some, None, is_some, List, [], ◌∷◌, nat_lt, length, reverse}
+use Rattle.std.specs.Prelude.{option_map}
 use Rattle.std.specs.List.{list_any}
 use Rattle.irq_base.specs.declared.numbers.CpuNo.{CpuNo}
 use Rattle.irq_base.specs.declared.numbers.DevNo.{DevNo}
@@ -40,14 +41,15 @@ use Rattle.irq_base.specs.declared.entries.UnlinkAnswer.{UnlinkAnswer}
 use Rattle.irq_base.specs.declared.entries.UnlinkAnswer.TheVariants as unlinks
 use Rattle.irq_base.specs.declared.entries.AffinityAnswer.{AffinityAnswer}
 use Rattle.irq_base.specs.declared.entries.AffinityAnswer.TheVariants as moves
-use Rattle.irq_base.specs.Handlers.{answer_of}
+use Rattle.irq_base.specs.Handlers.{has_thread}
 use Rattle.irq_model.specs.Places.{since, before}
-use Rattle.irq_model.specs.Kinds.{same_dev, is_begin, is_thread_begin}
+use Rattle.irq_model.specs.Kinds.{same_dev, is_handled, is_thread_begin, made_by}
 use Rattle.irq_model.specs.Kinds.{is_thread_return, is_finish, is_kill, opened_by_enable}
-use Rattle.irq_model.specs.Lines.{is_edge_line, has_device, kind_of}
+use Rattle.irq_model.specs.Lines.{is_edge_line, has_device, kind_of, is_held, does_forget}
 use Rattle.irq_model.specs.Links.{linked, is_linked, is_empty, is_none_linked, depth, is_disabled}
 use Rattle.irq_model.specs.Links.{is_oneshot, linking_flags, has_spurious_mark}
-use Rattle.irq_model.specs.Asks.{unserved_asks}
+use Rattle.irq_model.specs.Asks.{unserved_asks, is_quiet}
+use Rattle.irq_model.specs.Runs.{answer_of_run_now, served_by_run, due_in_run}
 use Rattle.irq_model.specs.Masks.{is_masked}
 use Rattle.irq_model.specs.Rounds.{flow, has_flow, is_cpu, first_left, at_work}
 use Rattle.irq_model.specs.Waiting.{is_pending, is_soft}
@@ -57,116 +59,7 @@ use Rattle.irq_model.specs.Threads.{active_count}
 use Rattle.irq_model.specs.Due.{due_call, holds_mutex}
 use Rattle.irq_model.specs.Spurious.{note_of}
 
--- ---- threads (`irq_thread`, `irq_finalize_oneshot`)
-
--- how many asks were unserved as the thread's run began
-abbrev pub asks_of_thread : LineDef → DevNo → List Entry → ℕ
-asks_of_thread def d past = unserved_asks def d (before (is_thread_begin d) past)
-
--- the answer is IRQ_HANDLED if the run served
-abbrev pub thread_return : DevNo → ℕ → Entry
-thread_return d served = by.Thread d (threads.Return (nat_lt 0 served) served)
-
-abbrev pub finish_unmasks : LineDef → DevNo → List Entry → Bool
-finish_unmasks def d past =
-    not (is_woken past d)
-    && (not (is_disabled past) && (is_masked def past && not (is_other_unfinished def past d)))
-
--- after the thread's handler returned: on a one-shot line it gives its bit up, once no flow is in
--- progress. Why it waits: a thread may be done before the flow that woke it has come to its end. If
--- it opened the line then, the interrupt could come again, mask the line, and leave since the flow
--- is in progress; the line would stay masked (so says the comment of `irq_finalize_oneshot`).
-abbrev pub finish_or_done : LineDef → DevNo → List Entry → Option Entry
-finish_or_done def d past =
-    if is_oneshot past && not (list_any (is_finish d) (since (is_thread_return d) past))
-    then (if has_flow def past then None
-    else Some (by.Thread d (threads.Finish (is_woken past d) (finish_unmasks def d past))))
-    else Some (by.Thread d threads.Done)
-
-abbrev pub next_of_thread : LineDef → DevNo → List Entry → Option Entry
-next_of_thread def d past =
-    if not (is_running past d) then (if is_woken past d then Some (by.Thread d threads.Begin) else None)
-    else (if not (list_any (is_thread_return d) (since (is_thread_begin d) past))
-    then Some (thread_return d (asks_of_thread def d past))
-    else finish_or_done def d past)
-
--- ---- processors: in the flow (`handle_irq_event`, and the ends of the flow handlers)
-
--- how many asks were unserved as the handler was called
-abbrev pub asks_of_handler : LineDef → DevNo → List Entry → ℕ
-asks_of_handler def d past = unserved_asks def d (before (is_begin d) past)
-
--- only a direct device's handler serves
-abbrev pub served_by_handler : Kind → ℕ → ℕ
-served_by_handler kinds.Direct unserved = unserved
-served_by_handler _ unserved = 0
-
-abbrev pub return_of : LineDef → CpuNo → DevNo → List Entry → Entry
-return_of def c d past =
-    by.Cpu c (cpus.Return (answer_of (kind_of def d) parts.Primary (asks_of_handler def d past)) d
-    (served_by_handler (kind_of def d) (asks_of_handler def d past)))
-
--- disabled already, or by this very note
-abbrev pub is_off_now : List Entry → Note → Bool
-is_off_now past note = is_disabled past || is_kill (by.Cpu (record { 0 = 0 }) (cpus.End false false note))
-
-abbrev pub end_edge : LineDef → CpuNo → List Entry → Note → Bool → Entry
-end_edge def c past note again = by.Cpu c (cpus.End again (again && is_masked def past) note)
-
-abbrev pub end_level : LineDef → CpuNo → List Entry → Note → Bool → Entry
-end_level def c past note may_open =
-    by.Cpu c (cpus.End false (may_open && (is_masked def past && not (is_some_unfinished def past))) note)
-
--- the flow's end: the edge flow goes on with what is pending; the level flow opens the line unless
--- a thread still holds it; the fast-EOI flow does so on a one-shot level line, and on an edge line
--- sends what is pending again (ours). Why an edge line sends it again: this flow has no loop, and
--- the controller has forgotten an edge that was taken while the flow was in progress.
-abbrev pub end_by_flow : LineDef → FlowKind → CpuNo → List Entry → Note → Entry
-end_by_flow def flows.Edge c past note =
-    end_edge def c past note (is_pending def past && not (is_off_now past note))
-end_by_flow def flows.Level c past note = end_level def c past note (not (is_off_now past note))
-end_by_flow def flows.Eoi c past note =
-    if is_edge_line def
-    then by.Cpu c (cpus.End (is_pending def past && not (is_off_now past note)) false note)
-    else end_level def c past note (not (is_off_now past note) && is_oneshot past)
-
-abbrev pub end_of : LineDef → CpuNo → List Entry → Entry
-end_of def c past = end_by_flow def def.flow c past (note_of def past)
-
-abbrev pub begin_or_end : LineDef → CpuNo → List Entry → Option DevNo → Entry
-begin_or_end def c past None = end_of def c past
-begin_or_end def c past (Some d) = by.Cpu c (cpus.Begin d)
-
--- a handler that is at work returns; else the first handler that is left is called; else the round
--- ends
-abbrev pub next_in_flow : LineDef → CpuNo → List Entry → Option DevNo → Entry
-next_in_flow def c past (Some d) = return_of def c d past
-next_in_flow def c past None = begin_or_end def c past (first_left def past (linked past))
-
--- ---- processors: taking an interrupt (the flow handlers' beginnings)
-
--- Why Busy: one processor at a time walks the actions. What another takes meanwhile is left pending
--- on an edge line, and on the edge flow the line is masked, so that the same source can't come
--- again and again until the first one goes on with it.
-abbrev pub take_answer : LineDef → List Entry → TakeAnswer
-take_answer def past =
-    if has_flow def past then takes.Busy
-    else (if is_disabled past || is_none_linked past then takes.Off else takes.Handle)
-
--- the target takes what is signalled, or else what the software resends (two things are ours: the
--- target takes the resend, and the signal comes first)
-abbrev pub next_take : LineDef → CpuNo → List Entry → Option Entry
-next_take def c past =
-    if not (is_cpu c (target def past)) then None
-    else (if signals def past then Some (by.Cpu c (cpus.Take ways.Line (take_answer def past)))
-    else (if is_soft past then Some (by.Cpu c (cpus.Take ways.Resend (take_answer def past))) else None))
-
-abbrev pub next_of_cpu : LineDef → CpuNo → List Entry → Option Entry
-next_of_cpu def c past =
-    if is_cpu c (flow def past) then Some (next_in_flow def c past (at_work past))
-    else next_take def c past
-
--- ---- drivers (`kernel/irq/manage.c`)
+-- ---- calls (`kernel/irq/manage.c`)
 
 -- how a start sends again what is pending (`check_irq_resend`); a level shows by itself
 abbrev pub resend_of : LineDef → List Entry → Resend
@@ -269,23 +162,171 @@ abbrev pub next_of_request : LineDef → DriverNo → DevNo → Flags → List E
 next_of_request def r d flags past =
     if holds_mutex past then None else Some (request_of def r d flags past)
 
--- what a driver adds next, by its due call and how many entries the call has made
-abbrev pub next_of_call : LineDef → DriverNo → List Entry → Option (Call × ℕ) → Option Entry
-next_of_call def r past None = None
-next_of_call def r past (Some (calls.Ask d, n)) = Some (by.Driver r (drivers.Ask true d))
-next_of_call def r past (Some (calls.Request d flags, n)) = next_of_request def r d flags past
-next_of_call def r past (Some (calls.Free d, n)) =
-    option_map (by.DriverCall r) (next_of_free def d n past)
-next_of_call def r past (Some (calls.Disable, n)) =
-    option_map (by.DriverCall r) (next_of_disable def n past)
-next_of_call def r past (Some (calls.DisableNosync, n)) = Some (by.DriverCall r called.Disable)
-next_of_call def r past (Some (calls.Enable, n)) =
-    Some (by.DriverCall r (called.Enable (enable_answer def past)))
-next_of_call def r past (Some (calls.Sync, n)) =
-    option_map (by.DriverCall r) (next_of_sync def n past)
-next_of_call def r past (Some (calls.Affinity mask, n)) =
+-- `disable_hardirq`
+abbrev pub next_of_disable_hard : LineDef → ℕ → List Entry → Option CallEntry
+next_of_disable_hard def n past = if n == 0 then Some called.Disable else hard_clear_of def past
+
+-- `irq_wake_thread`: a linked device's thread that isn't woken yet is woken; the line isn't masked
+abbrev pub wake_answer : LineDef → DevNo → List Entry → Bool
+wake_answer def d past =
+    is_linked past d && (has_thread (kind_of def d) && not (is_woken past d))
+
+-- an ask makes an edge unless the device's own interrupt is off, or its signal still stands; on a
+-- level line each ask counts as one that does
+abbrev pub ask_makes_edge : LineDef → DevNo → List Entry → Bool
+ask_makes_edge def d past = not (is_edge_line def)
+    || (not (is_quiet past d) && (not (is_held def d) || (unserved_asks def d past == 0)))
+
+-- as its own interrupt is turned on, a device makes an edge over what is unserved, unless it
+-- forgets; on a level line none does
+abbrev pub arm_makes_edge : LineDef → DevNo → List Entry → Bool
+arm_makes_edge def d past = is_edge_line def
+    && (is_quiet past d && (nat_lt 0 (unserved_asks def d past) && not (does_forget def d)))
+
+-- the step of a call that drivers, handlers and threads make alike, by how many entries it has made
+abbrev pub next_step : LineDef → List Entry → Call × ℕ → Option CallEntry
+next_step def past (calls.Free d, n) = next_of_free def d n past
+next_step def past (calls.Disable, n) = next_of_disable def n past
+next_step def past (calls.DisableNosync, n) = Some called.Disable
+next_step def past (calls.Enable, n) = Some (called.Enable (enable_answer def past))
+next_step def past (calls.Sync, n) = next_of_sync def n past
+next_step def past (calls.SyncHard, n) = hard_clear_of def past
+next_step def past (calls.DisableHard, n) = next_of_disable_hard def n past
+next_step def past (calls.Wake d, n) = Some (called.Wake (wake_answer def d past) d)
+next_step def past (calls.Quiet d, n) = Some (called.Quiet d)
+next_step def past (calls.Arm d, n) = Some (called.Arm (arm_makes_edge def d past) d)
+next_step def past (calls.Serve d, n) = Some (called.Serve d (unserved_asks def d past))
+next_step def past _ = None
+
+-- what an actor adds next by its due call: what drivers alone call, or a step that all may make
+abbrev pub next_of_call : LineDef → Actor → List Entry → Call × ℕ → Option Entry
+next_of_call def (actors.Driver r) past (calls.Ask d, n) =
+    Some (by.Driver r (drivers.Ask (ask_makes_edge def d past) d))
+next_of_call def (actors.Driver r) past (calls.Request d flags, n) =
+    next_of_request def r d flags past
+next_of_call def (actors.Driver r) past (calls.Affinity mask, n) =
     Some (by.Driver r (drivers.Affinity (affinity_answer def mask) mask))
-next_of_call def r past (Some (calls.Moment at, n)) = Some (by.Driver r (drivers.Moment at))
+next_of_call def (actors.Driver r) past (calls.Moment at, n) =
+    Some (by.Driver r (drivers.Moment at))
+next_of_call def a past due = option_map (made_by a) (next_step def past due)
+
+abbrev pub next_of_driver : LineDef → DriverNo → List Entry → Option (Call × ℕ) → Option Entry
+next_of_driver def r past None = None
+next_of_driver def r past (Some due) = next_of_call def (actors.Driver r) past due
+
+-- ---- threads (`irq_thread`, `irq_finalize_oneshot`)
+
+abbrev pub finish_unmasks : LineDef → DevNo → List Entry → Bool
+finish_unmasks def d past =
+    not (is_woken past d)
+    && (not (is_disabled past) && (is_masked def past && not (is_other_unfinished def past d)))
+
+-- after the thread's handler returned: on a one-shot line it gives its bit up, once no flow is in
+-- progress. Why it waits: a thread may be done before the flow that woke it has come to its end. If
+-- it opened the line then, the interrupt could come again, mask the line, and leave since the flow
+-- is in progress; the line would stay masked (so says the comment of `irq_finalize_oneshot`).
+abbrev pub finish_or_done : LineDef → DevNo → List Entry → Option Entry
+finish_or_done def d past =
+    if is_oneshot past && not (list_any (is_finish d) (since (is_thread_return d) past))
+    then (if has_flow def past then None
+    else Some (by.Thread d (threads.Finish (is_woken past d) (finish_unmasks def d past))))
+    else Some (by.Thread d threads.Done)
+
+-- the thread's handler returns: what it answers, and how many asks it served
+abbrev pub thread_return_of : LineDef → DevNo → List Entry → Entry
+thread_return_of def d past =
+    by.Thread d (threads.Return (is_handled (answer_of_run_now def parts.Thread d past))
+    (served_by_run def parts.Thread d past))
+
+-- a run that has calls left makes the next one; else it returns
+abbrev pub call_or_return : LineDef → DevNo → List Entry → Option (Call × ℕ) → Option Entry
+call_or_return def d past (Some due) = next_of_call def (actors.Thread d) past due
+call_or_return def d past None = Some (thread_return_of def d past)
+
+abbrev pub next_of_thread : LineDef → DevNo → List Entry → Option Entry
+next_of_thread def d past =
+    if not (is_running past d)
+    then (if is_woken past d then Some (by.Thread d threads.Begin) else None)
+    else (if not (list_any (is_thread_return d) (since (is_thread_begin d) past))
+    then call_or_return def d past (due_in_run def parts.Thread d past)
+    else finish_or_done def d past)
+
+-- ---- processors: in the flow (`handle_irq_event`, and the ends of the flow handlers)
+
+-- the handler returns: what it answers, and how many asks it served
+abbrev pub return_of : LineDef → CpuNo → DevNo → List Entry → Entry
+return_of def c d past = by.Cpu c
+    (cpus.Return (answer_of_run_now def parts.Primary d past) d
+    (served_by_run def parts.Primary d past))
+
+-- disabled already, or by this very note
+abbrev pub is_off_now : List Entry → Note → Bool
+is_off_now past note = is_disabled past
+    || is_kill (by.Cpu (record { 0 = 0 }) (cpus.End false false note))
+
+abbrev pub end_edge : LineDef → CpuNo → List Entry → Note → Bool → Entry
+end_edge def c past note again = by.Cpu c (cpus.End again (again && is_masked def past) note)
+
+abbrev pub end_level : LineDef → CpuNo → List Entry → Note → Bool → Entry
+end_level def c past note may_open =
+    by.Cpu c (cpus.End false
+    (may_open && (is_masked def past && not (is_some_unfinished def past))) note)
+
+-- the flow's end: the edge flow goes on with what is pending; the level flow opens the line unless
+-- a thread still holds it; the fast-EOI flow does so on a one-shot level line, and on an edge line
+-- sends what is pending again (ours). Why an edge line sends it again: this flow has no loop, and
+-- the controller has forgotten an edge that was taken while the flow was in progress.
+abbrev pub end_by_flow : LineDef → FlowKind → CpuNo → List Entry → Note → Entry
+end_by_flow def flows.Edge c past note =
+    end_edge def c past note (is_pending def past && not (is_off_now past note))
+end_by_flow def flows.Level c past note = end_level def c past note (not (is_off_now past note))
+end_by_flow def flows.Eoi c past note =
+    if is_edge_line def
+    then by.Cpu c (cpus.End (is_pending def past && not (is_off_now past note)) false note)
+    else end_level def c past note (not (is_off_now past note) && is_oneshot past)
+
+abbrev pub end_of : LineDef → CpuNo → List Entry → Entry
+end_of def c past = end_by_flow def def.flow c past (note_of def past)
+
+abbrev pub begin_or_end : LineDef → CpuNo → List Entry → Option DevNo → Entry
+begin_or_end def c past None = end_of def c past
+begin_or_end def c past (Some d) = by.Cpu c (cpus.Begin d)
+
+abbrev pub handler_or_return : LineDef → CpuNo → DevNo → List Entry → Option (Call × ℕ)
+    → Option Entry
+handler_or_return def c d past (Some due) = next_of_call def (actors.Cpu c) past due
+handler_or_return def c d past None = Some (return_of def c d past)
+
+-- a handler that is at work makes its next call, or returns; else the first handler that is left is
+-- called; else the round ends
+abbrev pub next_in_flow : LineDef → CpuNo → List Entry → Option DevNo → Option Entry
+next_in_flow def c past (Some d) =
+    handler_or_return def c d past (due_in_run def parts.Primary d past)
+next_in_flow def c past None = Some (begin_or_end def c past (first_left def past (linked past)))
+
+-- ---- processors: taking an interrupt (the flow handlers' beginnings)
+
+-- Why Busy: one processor at a time walks the actions. What another takes meanwhile is left pending
+-- on an edge line, and on the edge flow the line is masked, so that the same source can't come
+-- again and again until the first one goes on with it.
+abbrev pub take_answer : LineDef → List Entry → TakeAnswer
+take_answer def past =
+    if has_flow def past then takes.Busy
+    else (if is_disabled past || is_none_linked past then takes.Off else takes.Handle)
+
+-- the target takes what is signalled, or else what the software resends (two things are ours: the
+-- target takes the resend, and the signal comes first)
+abbrev pub next_take : LineDef → CpuNo → List Entry → Option Entry
+next_take def c past =
+    if not (is_cpu c (target def past)) then None
+    else (if signals def past then Some (by.Cpu c (cpus.Take ways.Line (take_answer def past)))
+    else (if is_soft past then Some (by.Cpu c (cpus.Take ways.Resend (take_answer def past)))
+    else None))
+
+abbrev pub next_of_cpu : LineDef → CpuNo → List Entry → Option Entry
+next_of_cpu def c past =
+    if is_cpu c (flow def past) then next_in_flow def c past (at_work past)
+    else next_take def c past
 
 -- ---- the table
 
@@ -295,7 +336,7 @@ abbrev pub next_past : LineDef → List Entry → Actor → Option Entry
 next_past def past (actors.Thread d) =
     if has_device def d then next_of_thread def d past else None
 next_past def past (actors.Cpu c) = next_of_cpu def c past
-next_past def past (actors.Driver r) = next_of_call def r past (due_call def r past)
+next_past def past (actors.Driver r) = next_of_driver def r past (due_call def r past)
 
 -- the entry that is due for the actor after a history, whose oldest entry comes first
 abbrev pub next : LineDef → List Entry → Actor → Option Entry

@@ -11,7 +11,7 @@ use Rattle.irq_model.specs.Places.{some_place}
 use Rattle.irq_model.specs.Kinds.{is_device_edge, is_begin, unlinks_dev}
 use Rattle.irq_model.specs.Lines.{is_edge_line, is_level_line, kind_of}
 use Rattle.irq_model.specs.Links.{is_started, is_linked, depth}
-use Rattle.irq_model.specs.Asks.{unserved_asks}
+use Rattle.irq_model.specs.Asks.{unserved_asks, is_quiet}
 use Rattle.irq_model.specs.Rounds.{is_ahead}
 use Rattle.irq_model.specs.Waiting.{is_pending, is_soft}
 use Rattle.irq_model.specs.Edges.{is_sent, is_stored}
@@ -47,11 +47,11 @@ is_stuck kinds.Stuck = true
 is_stuck _ = false
 
 -- on a line that isn't left disabled: no edge is owed, and on a level line every linked device that
--- works has all its asks served. Why the two differ: an edge says that something happened, and is
--- gone once the handlers were called, whatever they found. A level stays until the device was
--- served, so the line comes back until it is.
+-- works and isn't quiet has all its asks served. Why the two differ: an edge says that something
+-- happened, and is gone once the handlers were called, whatever they found. A level stays until the
+-- device was served, so the line comes back until it is.
 pub record IsDelivered (def : LineDef) (h : List Entry) : Type 0 where
   pub edges : depth (reverse h) ≡ 0 → (d : DevNo) → is_owed def d (reverse h) ≡ false
   pub levels : depth (reverse h) ≡ 0 → is_level_line def ≡ true → (d : DevNo)
-      → is_linked (reverse h) d ≡ true
+      → is_linked (reverse h) d ≡ true → is_quiet (reverse h) d ≡ false
       → is_stuck (kind_of def d) ≡ false → unserved_asks def d (reverse h) ≡ 0

@@ -1,5 +1,5 @@
 -- A driver's entries are the entries of its calls, in the order of its script, each once.
-use Rattle.std.specs.Prelude.{◌≡◌, ◌⊎◌, List, [], ◌∷◌, ◌++◌, reverse}
+use Rattle.std.specs.Prelude.{◌≡◌, ◌⊎◌, List, [], ◌∷◌, ◌++◌, length, reverse}
 use Rattle.irq_base.specs.declared.numbers.DriverNo.{DriverNo}
 use Rattle.irq_base.specs.declared.calls.Call.{Call}
 use Rattle.irq_base.specs.declared.calls.Call.TheVariants as calls
@@ -7,25 +7,53 @@ use Rattle.irq_base.specs.declared.lines.LineDef.{LineDef}
 use Rattle.irq_base.specs.declared.entries.Entry.{Entry}
 use Rattle.irq_base.specs.declared.entries.Entry.TheVariants as by
 use Rattle.irq_base.specs.declared.entries.DriverEntry.TheVariants as drivers
+use Rattle.irq_base.specs.declared.entries.CallEntry.{CallEntry}
 use Rattle.irq_base.specs.declared.entries.CallEntry.TheVariants as called
 use Rattle.irq_base.specs.declared.entries.UnlinkAnswer.TheVariants as unlinks
 use Rattle.irq_model.specs.Due.{calls_by, entries_by}
+
+-- the steps of a complete call that drivers, handlers and threads make alike
+abbrev pub MakesSteps : Call → List CallEntry → Type 0
+MakesSteps (calls.Free d) (called.Unlink unlinks.NotThere dev ∷ []) = dev ≡ d
+MakesSteps (calls.Free d) (called.Unlink (unlinks.Unlinked last) dev ∷ called.HardClear
+    ∷ called.Freed freed ∷ []) = (dev ≡ d) × (freed ≡ d)
+MakesSteps calls.Disable (called.Disable ∷ called.HardClear ∷ called.Synced ∷ []) = Unit {0}
+MakesSteps calls.DisableNosync (called.Disable ∷ []) = Unit {0}
+MakesSteps calls.Enable (called.Enable answer ∷ []) = Unit {0}
+MakesSteps calls.Sync (called.HardClear ∷ called.Synced ∷ []) = Unit {0}
+MakesSteps calls.SyncHard (called.HardClear ∷ []) = Unit {0}
+MakesSteps calls.DisableHard (called.Disable ∷ called.HardClear ∷ []) = Unit {0}
+MakesSteps (calls.Wake d) (called.Wake woken dev ∷ []) = dev ≡ d
+MakesSteps (calls.Quiet d) (called.Quiet dev ∷ []) = dev ≡ d
+MakesSteps (calls.Arm d) (called.Arm edge dev ∷ []) = dev ≡ d
+MakesSteps (calls.Serve d) (called.Serve dev served ∷ []) = dev ≡ d
+MakesSteps _ _ = ⊥
+
+abbrev pub step_in : Entry → List CallEntry
+step_in (by.CpuCall cpu call) = call ∷ []
+step_in (by.ThreadCall dev call) = call ∷ []
+step_in (by.DriverCall driver call) = call ∷ []
+step_in _ = []
+
+-- the entries as steps of calls; one that is none is left out
+abbrev pub steps_in : List Entry → List CallEntry
+steps_in [] = []
+steps_in (e ∷ es) = step_in e ++ steps_in es
 
 -- the entries that a complete call makes
 abbrev pub MakesAll : Call → List Entry → Type 0
 MakesAll (calls.Ask d) (by.Driver r (drivers.Ask edge dev) ∷ []) = dev ≡ d
 MakesAll (calls.Request d flags) (by.Driver r (drivers.Request given answer opened dev) ∷ []) =
     (dev ≡ d) × (given ≡ flags)
-MakesAll (calls.Free d) (by.DriverCall r (called.Unlink unlinks.NotThere dev) ∷ []) = dev ≡ d
-MakesAll (calls.Free d) (by.DriverCall r (called.Unlink (unlinks.Unlinked last) dev) ∷ by.DriverCall s called.HardClear
-    ∷ by.DriverCall t (called.Freed freed) ∷ []) = (dev ≡ d) × (freed ≡ d)
-MakesAll calls.Disable (by.DriverCall r called.Disable ∷ by.DriverCall s called.HardClear ∷ by.DriverCall t called.Synced ∷ []) = Unit {0}
-MakesAll calls.DisableNosync (by.DriverCall r called.Disable ∷ []) = Unit {0}
-MakesAll calls.Enable (by.DriverCall r (called.Enable answer) ∷ []) = Unit {0}
-MakesAll calls.Sync (by.DriverCall r called.HardClear ∷ by.DriverCall s called.Synced ∷ []) = Unit {0}
 MakesAll (calls.Affinity mask) (by.Driver r (drivers.Affinity answer given) ∷ []) = given ≡ mask
 MakesAll (calls.Moment at) (by.Driver r (drivers.Moment given) ∷ []) = given ≡ at
-MakesAll _ _ = ⊥
+MakesAll c es = MakesSteps c (steps_in es) × (length (steps_in es) ≡ length es)
+
+-- the calls one after another, all complete
+abbrev pub MakesAllOf : List Call → List Entry → Type 0
+MakesAllOf [] es = es ≡ []
+MakesAllOf (c ∷ cs) es =
+    (own rest : List Entry) × (es ≡ own ++ rest) × MakesAll c own × MakesAllOf cs rest
 
 -- some of the entries that a call makes, from its first one on
 abbrev pub MakesSome : Call → List Entry → Type 0

@@ -1,4 +1,6 @@
--- A line at rest: no actor may add an entry, and every driver's calls on the line are complete.
+-- A settled line: no actor may add an entry, and every driver's calls on the line are complete. A
+-- line that hangs may be settled too: a handler or a thread that waits for itself has no step, and
+-- leaves no driver a call. That nobody hangs either is IsAtRest of Waits.
 use Rattle.std.specs.Prelude.{◌≡◌, None, List, reverse}
 use Rattle.irq_base.specs.declared.numbers.DriverNo.{DriverNo}
 use Rattle.irq_base.specs.declared.lines.LineDef.{LineDef}

@@ -27,7 +27,8 @@ signals def past =
 -- that waited, if a take stands after it
 abbrev pub puts_in_force : List Entry → List Entry → Bool
 puts_in_force after (by.Driver driver (drivers.Affinity moves.Now mask) ∷ past) = true
-puts_in_force after (by.Driver driver (drivers.Affinity moves.Later mask) ∷ past) = list_any is_take after
+puts_in_force after (by.Driver driver (drivers.Affinity moves.Later mask) ∷ past) =
+    list_any is_take after
 puts_in_force after _ = false
 
 abbrev pub mask_of : ℕ → List Entry → ℕ

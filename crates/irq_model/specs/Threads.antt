@@ -10,7 +10,8 @@ use Rattle.irq_model.specs.Kinds.{same_dev, wakes, is_thread_begin, is_done, is_
 use Rattle.irq_model.specs.Kinds.{links_dev}
 use Rattle.irq_model.specs.Links.{linking_flags}
 
--- the thread is to run: a return that woke it has no beginning of its run after it
+-- the thread is to run: a wake, by its handler's return or by a call, has no beginning of its run
+-- after it
 abbrev pub is_woken : List Entry → DevNo → Bool
 is_woken past d = stands (wakes d) (is_thread_begin d) past
 
@@ -18,8 +19,8 @@ is_woken past d = stands (wakes d) (is_thread_begin d) past
 abbrev pub is_running : List Entry → DevNo → Bool
 is_running past d = stands (is_thread_begin d) (is_done d) past
 
--- the device's thread bit stands: it was linked one-shot, and since then a return woke its thread
--- and no finish gave the bit up
+-- the device's thread bit stands: it was linked one-shot, and since then its thread was woken, by
+-- its handler's return or by a call, and no finish gave the bit up
 abbrev pub is_unfinished : List Entry → DevNo → Bool
 is_unfinished past d = (linking_flags past d).oneshot
     && stands (wakes d) (is_cleared_finish d) (since (links_dev d) past)

@@ -13,7 +13,7 @@ use Rattle.irq_play.specs.Headline.{CutShort, RefusedStep}
 use Rattle.irq_play.specs.Played.{HandsOutSystem, TellsStep}
 use Rattle.irq_play.specs.Report.{report_text}
 use Rattle.play_report.proofs.Answered as answered
-use Rattle.play_report.proofs.Answered.{answers_as, of_some, printed, without_step}
+use Rattle.play_report.proofs.Answered.{printed}
 use Rattle.play_report.specs.Answers.{Answers, Prints}
 use Rattle.play_report.specs.declared.failing.PlayFailed.{PlayFailed}
 use Rattle.play_report.specs.declared.failing.PlayFailed.TheVariants as fails

@@ -15,11 +15,11 @@ use Rattle.irq_base.specs.declared.numbers.DriverNo.{DriverNo}
 use Rattle.irq_base.specs.declared.numbers.LineNo.{LineNo}
 use Rattle.irq_model.specs.Due.{due_call}
 use Rattle.irq_model.specs.Kinds.{same_line, same_driver, is_any_ask, is_by_driver, is_driver}
-use Rattle.irq_model.specs.Next.{next_of_call, next_past}
+use Rattle.irq_model.specs.Next.{ask_makes_edge, next_of_driver, next_past}
 use Rattle.irq_steps.proofs.Same.{line_from_same}
 use Rattle.irq_laws.proofs.Chosen.{the_same}
 use Rattle.irq_laws.proofs.OwnLaws.{due_is_own_past}
-use Rattle.irq_laws.proofs.Progress.{no_more, same_call}
+use Rattle.irq_laws.proofs.Progress.{same_call}
 use Rattle.play_laws.specs.Actors.{IsOneOf}
 use Rattle.board_def.specs.Rules.{IsBoard, has_driver}
 use Rattle.board_def.specs.Seen.{BoardSeen}
@@ -29,7 +29,7 @@ use Rattle.board_play.specs.Kept.{AreKept}
 use Rattle.board_play.specs.Lines.{BoardLine, Move, lines_of, lines_after, line_after}
 use Rattle.board_play.specs.Order.{due_move, threads_of, cpus_of, actors_of}
 use Rattle.board_play.specs.Play.{first_move, or_move}
-use Rattle.board_play.proofs.Counting.{completed, one_completed, not_completed, others_complete}
+use Rattle.board_play.proofs.Counting.{no_more, completed, one_completed, not_completed, others_complete}
 use Rattle.board_play.proofs.KeptAlways.{apart_kept, move_keeps}
 use Rattle.board_play.proofs.Moves.{MovesOn, moves_on}
 use Rattle.board_play.proofs.Moving.{moved_at}
@@ -131,11 +131,11 @@ module _ (board : BoardSeen) (is : IsBoard board) (lines : List BoardLine) (k : 
       still_shut x e next p = by_driver (is_by_driver last_driver e) refl
         where
           by_due : is_by_driver last_driver e ≡ true → (o : Option (Call × ℕ)) → due_call x.def last_driver x.past ≡ o
-              → next_of_call x.def last_driver x.past o ≡ Some e → 1 ≤ completed x.def last_driver (e ∷ x.past)
+              → next_of_driver x.def last_driver x.past o ≡ Some e → 1 ≤ completed x.def last_driver (e ∷ x.past)
           by_due mine None due next = cc
           by_due mine (Some z) due next = by_next x e z mine due (due_call x.def last_driver (e ∷ x.past)) refl p
 
-          own : is_by_driver last_driver e ≡ true → next_of_call x.def last_driver x.past (due_call x.def last_driver x.past) ≡ Some e
+          own : is_by_driver last_driver e ≡ true → next_of_driver x.def last_driver x.past (due_call x.def last_driver x.past) ≡ Some e
           own mine = own_due x.def last_driver e x.past (ap (λ (b : Actor). next_past x.def x.past b) (due_is_own_past x.def x.past a e next) ∙ next) mine
 
           by_driver : (t : Bool) → is_by_driver last_driver e ≡ t → 1 ≤ completed x.def last_driver (e ∷ x.past)
@@ -148,7 +148,7 @@ module _ (board : BoardSeen) (is : IsBoard board) (lines : List BoardLine) (k : 
       still_open : (x : BoardLine) (e : Entry) → next_past x.def x.past a ≡ Some e → IsOpened x → IsOpened (record { def = x.def; past = e ∷ x.past })
       still_open x e next p = by_driver (is_by_driver last_driver e) refl
         where
-          none_next : (o : Option (Call × ℕ)) → o ≡ None → next_of_call x.def last_driver x.past o ≡ Some e → ⊥
+          none_next : (o : Option (Call × ℕ)) → o ≡ None → next_of_driver x.def last_driver x.past o ≡ Some e → ⊥
           none_next None none next = cc
           none_next (Some z) none next = cc
 
@@ -186,11 +186,11 @@ asks : (def : LineDef) (r : DriverNo) (past : List Entry) (line : LineNo) (e : E
     → is_any_ask e ≡ true
 asks def r past line e asking next = by_due (due_call def r past) asking next
   where
-    by_call : (c : Call) (n : ℕ) → is_ask_call c ≡ true → next_of_call def r past (Some (c, n)) ≡ Some e → is_any_ask e ≡ true
-    by_call (calls.Ask d) n asking next = ap (λ (x : Entry). is_any_ask x) (sym (the_same (by.Driver r (drivers.Ask true d)) e next))
+    by_call : (c : Call) (n : ℕ) → is_ask_call c ≡ true → next_of_driver def r past (Some (c, n)) ≡ Some e → is_any_ask e ≡ true
+    by_call (calls.Ask d) n asking next = ap (λ (x : Entry). is_any_ask x) (sym (the_same (by.Driver r (drivers.Ask (ask_makes_edge def d past) d)) e next))
     by_call c n asking next = cc
 
-    by_due : (o : Option (Call × ℕ)) → is_ask_due (with_line line o) ≡ true → next_of_call def r past o ≡ Some e → is_any_ask e ≡ true
+    by_due : (o : Option (Call × ℕ)) → is_ask_due (with_line line o) ≡ true → next_of_driver def r past o ≡ Some e → is_any_ask e ≡ true
     by_due None asking next = cc
     by_due (Some (c, n)) asking next = by_call c n asking next
 

@@ -1,6 +1,7 @@
 pub mod Script
 pub mod Listed
 pub mod Rests
+pub mod Calm
 pub mod Alone
 pub mod Order
 pub mod Turning

@@ -15,7 +15,7 @@ use Rattle.irq_pm.specs.Phases.{Phase, Picking, Disabling, Asleep, Enabling, Goi
 use Rattle.irq_pm.specs.Phases.{is_disable_due, last_move, picked, sleep_next, sleep_order, sleeping, step_in}
 use Rattle.irq_pm.specs.SleepLog.{moves_of}
 use Rattle.irq_pm.specs.Slept.{Sleeps}
-use Rattle.irq_pm.specs.SleptBoard.{slept}
+use Rattle.irq_pm.specs.SleptBoard.{are_runs_calm, slept}
 use Rattle.irq_pm.specs.Waking.{woken_by}
 use Rattle.irq_pm.specs.declared.entries.SleepEntry.{SleepEntry}
 use Rattle.irq_pm.specs.declared.entries.SleepEntry.TheVariants as sleeps
@@ -129,21 +129,22 @@ marks_made b armed picks (e ∷ g) at made = marks_more b armed g made.0 e at (m
 
 module _ (b : BoardSeen) (armed : List LineNo) (g : List SleepEntry) (is : IsBoard b) (long : IsBoard (slept b))
     (free : has_driver b.drivers last_driver ≡ false) (played : Sleeps (slept b) armed b.picks g Done) where
-  pub has_woken : HasWoken played.0
-  has_woken = by_phase played.0 (state b is long free armed g played.0 played.1).kept played.2
+  pub has_woken : are_runs_calm b ≡ true → HasWoken played.0
+  has_woken calm = by_phase played.0 (state b is long free armed g played.0 played.1).kept played.2
     where
       now : List BoardLine
       now = lines_of (slept b) (moves_of g)
 
       by_phase : (at : Phase) → AreKept (slept b) (lines_of (slept b) (moves_of g)) → sleep_next (slept b) armed (moves_of g) at ≡ None → HasWoken at
-      by_phase (Picking picks) k none = absurd (stuck b is long free armed now k (neither_next (picked (slept b) now picks) (disabling (slept b) now) none).1)
-      by_phase Disabling k none = absurd (stuck b is long free armed now k none)
+      by_phase (Picking picks) k none = absurd (stuck b is long free armed calm now k
+          (neither_next (picked (slept b) now picks) (disabling (slept b) now) none).1)
+      by_phase Disabling k none = absurd (stuck b is long free armed calm now k none)
       by_phase Asleep k none = absurd (some_next b is long free armed (woken_by armed (moves_of g)) now none)
       by_phase Enabling k none = tt
       by_phase Going k none = tt
 
-  pub slept_once : SleptOnce g
-  slept_once = by_phase played.0 has_woken (marks_made (slept b) armed b.picks g played.0 played.1)
+  pub slept_once : are_runs_calm b ≡ true → SleptOnce g
+  slept_once calm = by_phase played.0 (has_woken calm) (marks_made (slept b) armed b.picks g played.0 played.1)
     where
       by_phase : (at : Phase) → HasWoken at → HasMarks at g → SleptOnce g
       by_phase (Picking picks) woken marks = absurd woken

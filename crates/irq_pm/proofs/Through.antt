@@ -43,12 +43,13 @@ use Rattle.irq_pm.specs.Phases.{Phase, Picking, Disabling, Asleep, Enabling, Goi
 use Rattle.irq_pm.specs.Phases.{inner_move, is_disable_due, last_move, ask_move, picked, step_in, sleep_next}
 use Rattle.irq_pm.specs.Phases.{sleep_order}
 use Rattle.irq_pm.specs.SleepLog.{told, moves_of}
-use Rattle.irq_pm.specs.SleptBoard.{slept}
+use Rattle.irq_pm.specs.SleptBoard.{are_runs_calm, slept}
 use Rattle.irq_pm.specs.Slept.{Sleeps, SleepsThrough, IsReopened, NamesWaker}
 use Rattle.irq_pm.specs.Waking.{woken_by}
 use Rattle.irq_pm.specs.declared.entries.SleepEntry.{SleepEntry}
 use Rattle.irq_pm.specs.declared.entries.SleepEntry.TheVariants as sleeps
 use Rattle.irq_pm.proofs.Alone.{awake_is_alone}
+use Rattle.irq_pm.proofs.Calm.{calm_def}
 use Rattle.irq_pm.proofs.Keeps.{Holds, NoneIsLast, IsAloneOn, IsAwakeOn, after_move, keeps}
 use Rattle.irq_pm.proofs.Listed.{no_thread_moves, no_cpu_moves}
 use Rattle.irq_pm.proofs.Order.{either_next, neither_move, neither_next, of_step, of_mark, no_step}
@@ -125,13 +126,14 @@ module _ (b : BoardSeen) (is : IsBoard b) (long : IsBoard (slept b)) (free : has
     pub legal : (g : List SleepEntry) (at : Phase) → IsMade (sleep_order (slept b) armed) (Picking b.picks) g at → IsLegalPast def (past_of g)
     legal g at made = (state g at made).kept.legal i (record { def = def; past = past_of g }) (there g)
 
-    alone : (g : List SleepEntry) (at : Phase) → IsMade (sleep_order (slept b) armed) (Picking b.picks) g at
+    alone : are_runs_calm b ≡ true → (g : List SleepEntry) (at : Phase) → IsMade (sleep_order (slept b) armed) (Picking b.picks) g at
         → is_suspended last_driver (past_of g) ≡ true → is_left_alone last_driver (past_of g) ≡ true
-    alone g at made stands =
+    alone calm g at made stands =
         let back : (P : List Entry → Type 0) → P (past_of g) → P (reverse (reverse (past_of g))) = λ P p. subst P (sym (reverse-reverse (past_of g))) p in
         let others = alone_in at (lines_of (slept b) (moves_of g)) (state g at made).holds i (record { def = def; past = past_of g }) (there g) stands in
         subst (λ (p : List Entry). is_left_alone last_driver p ≡ true) (reverse-reverse (past_of g))
-        (left_alone def last_driver (reverse (past_of g)) (back (λ p. IsLegalPast def p) (legal g at made)) (its_script b is long free i def at_def)
+        (left_alone def last_driver (reverse (past_of g)) (back (λ p. IsLegalPast def p) (legal g at made))
+        (calm_def b calm i def at_def) (its_script b is long free i def at_def)
         (back (λ p. is_suspended last_driver p ≡ true) stands) (back (λ p. others_only_ask last_driver p ≡ true) others))
 
     -- a law of each entry, and of what stands before it, of a line that is left alone
@@ -140,12 +142,12 @@ module _ (b : BoardSeen) (is : IsBoard b) (long : IsBoard (slept b)) (free : has
         → (is_suspended last_driver (e ∷ past) ≡ true → is_left_alone last_driver (e ∷ past) ≡ true)
         → (is_suspended last_driver past ≡ true → is_left_alone last_driver past ≡ true) → P e past
 
-    each : (P : Entry → List Entry → Type 0) → IsLawful P → (g : List SleepEntry) (at : Phase)
+    each : are_runs_calm b ≡ true → (P : Entry → List Entry → Type 0) → IsLawful P → (g : List SleepEntry) (at : Phase)
         → IsMade (sleep_order (slept b) armed) (Picking b.picks) g at → EachEntry P (past_of g)
-    each P law [] at made = tt
-    each P law (sleeps.Asleep ∷ g) at made = each P law g made.0 made.1
-    each P law (sleeps.Wake line ∷ g) at made = each P law g made.0 made.1
-    each P law (sleeps.Step line e ∷ g) at made = by_line (same_line def.line line) refl (each P law g made.0 made.1)
+    each calm P law [] at made = tt
+    each calm P law (sleeps.Asleep ∷ g) at made = each calm P law g made.0 made.1
+    each calm P law (sleeps.Wake line ∷ g) at made = each calm P law g made.0 made.1
+    each calm P law (sleeps.Step line e ∷ g) at made = by_line (same_line def.line line) refl (each calm P law g made.0 made.1)
       where
         more : (t : Bool) → same_line def.line line ≡ t → past_of (sleeps.Step line e ∷ g) ≡ cond t (e ∷ past_of g) (past_of g)
         more t test = ap (λ (t : Bool). cond t (e ∷ past_of g) (past_of g)) test
@@ -157,7 +159,7 @@ module _ (b : BoardSeen) (is : IsBoard b) (long : IsBoard (slept b)) (free : has
             subst (λ (p : List Entry). EachEntry P p) (sym same) (
               law e (past_of g) (subst (λ (p : List Entry). IsLegalPast def p) same (legal (sleeps.Step line e ∷ g) at made))
                   (subst (λ (p : List Entry). is_suspended last_driver p ≡ true → is_left_alone last_driver p ≡ true)
-                  same (alone (sleeps.Step line e ∷ g) at made)) (alone g made.0 made.1),
+                  same (alone calm (sleeps.Step line e ∷ g) at made)) (alone calm g made.0 made.1),
               before,
             )
 
@@ -182,25 +184,26 @@ module _ (b : BoardSeen) (is : IsBoard b) (long : IsBoard (slept b)) (free : has
           unkilled = r.unkilled;
         })).1
 
-    pub through : (g : List SleepEntry) (at : Phase) → IsMade (sleep_order (slept b) armed) (Picking b.picks) g at → SleepsThrough (past_of g)
-    through g at made =
+    pub through : are_runs_calm b ≡ true → (g : List SleepEntry) (at : Phase)
+        → IsMade (sleep_order (slept b) armed) (Picking b.picks) g at → SleepsThrough (past_of g)
+    through calm g at made =
         record {
-          alone = each (λ e past. is_suspended last_driver (e ∷ past) ≡ true
+          alone = each calm (λ e past. is_suspended last_driver (e ∷ past) ≡ true
               → is_left_alone last_driver (e ∷ past) ≡ true) (λ e past legal now before stands. now stands) g at made;
-          still = each (λ e past. is_asleep last_driver past ≡ true → begins_run e ≡ false)
+          still = each calm (λ e past. is_asleep last_driver past ≡ true → begins_run e ≡ false)
               (λ e past legal now before asleep. still_at def e past legal.0
               (rests def last_driver past valid legal.1 asleep (before (asleep_stands past asleep)))) g at made;
-          deep = each (λ e past. is_asleep last_driver (e ∷ past) ≡ true → 0 < depth (e ∷ past))
+          deep = each calm (λ e past. is_asleep last_driver (e ∷ past) ≡ true → 0 < depth (e ∷ past))
               (λ e past legal now before asleep. (rests def last_driver (e ∷ past) valid legal asleep
               (now (asleep_stands (e ∷ past) asleep))).disabled) g at made;
-          opens = each (λ e past. IsReopened e past → depth (e ∷ past) ≡ 0) (λ e past legal now before r. opens e past legal before r) g at made;
+          opens = each calm (λ e past. IsReopened e past → depth (e ∷ past) ≡ 0) (λ e past legal now before r. opens e past legal before r) g at made;
         }
 
   -- ---- its end
 
   -- the machine doesn't stay between two phases
-  pub stuck : (lines : List BoardLine) → AreKept (slept b) lines → disabling (slept b) lines ≡ None → ⊥
-  stuck lines k none = by_test (is_disable_due (due_of (slept b) lines last_driver)) refl none
+  pub stuck : are_runs_calm b ≡ true → (lines : List BoardLine) → AreKept (slept b) lines → disabling (slept b) lines ≡ None → ⊥
+  stuck calm lines k none = by_test (is_disable_due (due_of (slept b) lines last_driver)) refl none
     where
       by_test : (t : Bool) → is_disable_due (due_of (slept b) lines last_driver) ≡ t
           → cond t (step_in Disabling (or_move (last_move (slept b) lines) (inner_move (slept b) lines)))
@@ -210,7 +213,7 @@ module _ (b : BoardSeen) (is : IsBoard b) (long : IsBoard (slept b)) (free : has
           let no = neither_move (last_move (slept b) lines) (inner_move (slept b) lines)
           (no_step Disabling (or_move (last_move (slept b) lines) (inner_move (slept b) lines)) none) in
           let rest = none_listed (slept b) lines (threads_of (slept b) ++ cpus_of (slept b)) no.1 in
-          never_stuck b is long free lines k (no_thread_moves (slept b) long lines k rest) (no_cpu_moves (slept b) long lines k rest) test no.0
+          never_stuck b is long free lines k calm (no_thread_moves (slept b) long lines k rest) (no_cpu_moves (slept b) long lines k rest) test no.0
 
   pub some_next : (woken : Option LineNo) (lines : List BoardLine) → sleeping woken (slept b) lines ≡ None → ⊥
   some_next (Some line) lines none = cc
@@ -218,24 +221,24 @@ module _ (b : BoardSeen) (is : IsBoard b) (long : IsBoard (slept b)) (free : has
       (or_move (inner_move (slept b) lines) (ask_move (slept b) lines))) (Some (sleeps.Wake None, Enabling)) none).1 in
       cc
 
-  nobody_moves : (at : Phase) (g : List Move) → AreKept (slept b) (lines_of (slept b) g)
+  nobody_moves : are_runs_calm b ≡ true → (at : Phase) (g : List Move) → AreKept (slept b) (lines_of (slept b) g)
       → sleep_next (slept b) armed g at ≡ None → first_move (slept b) (lines_of (slept b) g) (actors_of (slept b))
       ≡ None
-  nobody_moves (Picking picks) g k none = absurd (stuck (lines_of (slept b) g) k
+  nobody_moves calm (Picking picks) g k none = absurd (stuck calm (lines_of (slept b) g) k
       (neither_next (picked (slept b) (lines_of (slept b) g) picks) (disabling (slept b) (lines_of (slept b) g))
       none).1)
-  nobody_moves Disabling g k none = absurd (stuck (lines_of (slept b) g) k none)
-  nobody_moves Asleep g k none = absurd (some_next (woken_by armed g) (lines_of (slept b) g) none)
-  nobody_moves Enabling g k none =
+  nobody_moves calm Disabling g k none = absurd (stuck calm (lines_of (slept b) g) k none)
+  nobody_moves calm Asleep g k none = absurd (some_next (woken_by armed g) (lines_of (slept b) g) none)
+  nobody_moves calm Enabling g k none =
       no_step Going (first_move (slept b) (lines_of (slept b) g) (actors_of (slept b)))
       (neither_next (step_in Enabling (last_move (slept b) (lines_of (slept b) g))) (going (slept b) (lines_of (slept b) g)) none).1
-  nobody_moves Going g k none = no_step Going (first_move (slept b) (lines_of (slept b) g) (actors_of (slept b))) none
+  nobody_moves calm Going g k none = no_step Going (first_move (slept b) (lines_of (slept b) g) (actors_of (slept b))) none
 
-  pub comes_to_rest : (g : List SleepEntry) → Sleeps (slept b) armed b.picks g Done → (a : Actor)
+  pub comes_to_rest : are_runs_calm b ≡ true → (g : List SleepEntry) → Sleeps (slept b) armed b.picks g Done → (a : Actor)
       → IsOneOf a (actors_of (slept b)) → due_move (slept b) (lines_of (slept b) (moves_of g)) a ≡ None
-  comes_to_rest g played a at =
+  comes_to_rest calm g played a at =
       none_listed (slept b) (lines_of (slept b) (moves_of g)) (actors_of (slept b))
-      (nobody_moves played.0 (moves_of g) (state g played.0 played.1).kept played.2) a at
+      (nobody_moves calm played.0 (moves_of g) (state g played.0 played.1).kept played.2) a at
 
 -- ---- what wakes the machine
 
@@ -313,11 +316,11 @@ module _ (b : BoardSeen) (armed : List LineNo) (g : List SleepEntry) (end : End)
   pub kept_lines : AreKept (slept b) (lines_of (slept b) (moves_of g))
   kept_lines = (state b is long free armed g played.0 played.1).kept
 
-  pub lines_through : (i : ℕ) (x : BoardLine) → slice_get (lines_of (slept b) (moves_of g)) i ≡ Some x → SleepsThrough x.past
-  lines_through i x at =
+  pub lines_through : are_runs_calm b ≡ true → (i : ℕ) (x : BoardLine) → slice_get (lines_of (slept b) (moves_of g)) i ≡ Some x → SleepsThrough x.past
+  lines_through calm i x at =
       let d = def_at (slept b) (lines_of (slept b) (moves_of g)) kept_lines i x at in
       subst (λ (p : List Entry). SleepsThrough p) (sym (past_at (defs_of (slept b)) (moves_of g) i x at))
-      (through b is long free armed i x.def d g played.0 played.1)
+      (through b is long free armed i x.def d calm g played.0 played.1)
 
 pub wake_named : (b : BoardSeen) (armed : List LineNo) (picks : List Actor) (g : List SleepEntry) (end : End) → Sleeps b armed picks g end → NamesWaker armed g
 wake_named b armed picks g end played = names_waker b armed (Picking picks) g played.0 played.1

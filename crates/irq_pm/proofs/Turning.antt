@@ -12,7 +12,7 @@ use Rattle.irq_base.specs.declared.numbers.DriverNo.{DriverNo}
 use Rattle.irq_base.specs.declared.numbers.LineNo.{LineNo}
 use Rattle.irq_model.specs.Due.{calls_by, entries_by, due_of as due_among, due_call}
 use Rattle.irq_model.specs.Kinds.{same_line, same_driver}
-use Rattle.irq_model.specs.Next.{next_of_call, next_past}
+use Rattle.irq_model.specs.Next.{next_of_driver, next_past}
 use Rattle.irq_steps.proofs.Same.{same_self_line}
 use Rattle.irq_laws.proofs.Lists.{both_ways}
 use Rattle.irq_laws.proofs.Progress.{due_at}
@@ -35,7 +35,8 @@ use Rattle.board_play.proofs.Script.{is_on, in_all, done, current, no_current}
 use Rattle.sleep_laws.proofs.LeftAlone.{script, Position, at_none, at_disable, at_clear, at_synced, at_enable, position}
 use Rattle.sleep_laws.specs.Sleeping.{is_suspended}
 use Rattle.irq_pm.specs.Phases.{due_of, is_disable_call, is_disable_due, last_move}
-use Rattle.irq_pm.specs.SleptBoard.{slept}
+use Rattle.irq_pm.specs.SleptBoard.{are_runs_calm, slept}
+use Rattle.irq_pm.proofs.Calm.{calm_def}
 use Rattle.irq_pm.proofs.Rests.{disable_moves}
 use Rattle.irq_pm.proofs.Script.{disables, enables, all_calls, its_script, disabled_once}
 
@@ -170,7 +171,7 @@ module _ (b : BoardSeen) (is : IsBoard b) (long : IsBoard (slept b)) (free : has
       let two : length (calls_by last_driver x.def.calls) ≡ 2 = ap (λ (cs : List Call). length cs) (its i x at) in
       let due = due_enable i x at (one_of (completed x.def last_driver x.past) (omega (arith, waits, fits, two)) shut) in
       let next : is_some (next_past x.def x.past (actors.Driver last_driver))
-      ≡ true = ap (λ (o : Option (Call × ℕ)). is_some (next_of_call x.def last_driver x.past o)) due.1 in
+      ≡ true = ap (λ (o : Option (Call × ℕ)). is_some (next_of_driver x.def last_driver x.past o)) due.1 in
       not_none (next_past x.def x.past (actors.Driver last_driver)) x.def.line next
       (ap (λ (o : Option BoardLine). due_on o (actors.Driver last_driver)) (sym here) ∙ none)
 
@@ -184,10 +185,10 @@ module _ (b : BoardSeen) (is : IsBoard b) (long : IsBoard (slept b)) (free : has
 
   -- ---- falling asleep never gets stuck
 
-  pub never_stuck : ((d : DevNo) → due_move (slept b) lines (actors.Thread d) ≡ None)
+  pub never_stuck : are_runs_calm b ≡ true → ((d : DevNo) → due_move (slept b) lines (actors.Thread d) ≡ None)
       → ((c : CpuNo) → due_move (slept b) lines (actors.Cpu c) ≡ None)
       → is_disable_due (due_of (slept b) lines last_driver) ≡ true → last_move (slept b) lines ≡ None → ⊥
-  never_stuck threads cpus disabling none = by_line (current_line (slept b).calls lines last_driver) refl disabling
+  never_stuck calm threads cpus disabling none = by_line (current_line (slept b).calls lines last_driver) refl disabling
     where
       by_call : (x : BoardLine) (o : Option (Call × ℕ)) → current_line (slept b).calls lines last_driver ≡ Some x
           → due_call x.def last_driver x.past ≡ o → is_disable_due (with_line x.def.line o) ≡ true → ⊥
@@ -196,7 +197,8 @@ module _ (b : BoardSeen) (is : IsBoard b) (long : IsBoard (slept b)) (free : has
           let s = line_stands (slept b) lines (actors.Driver last_driver) x here in
           let its : due_call x.def last_driver x.past ≡ Some (calls.Disable, c.1) = due ∙ ap (λ (k : Call). due_at k c.1) (is_disable c.0 disabling) in
           not_none (next_past x.def x.past (actors.Driver last_driver)) x.def.line
-          (disable_moves (slept b) long lines k threads cpus s.place x s.at last_driver c.1 its)
+          (disable_moves (slept b) long lines k threads cpus s.place x s.at
+          (calm_def b calm s.place x.def (def_at (slept b) lines k s.place x s.at)) last_driver c.1 its)
           (ap (λ (o : Option BoardLine). due_on o (actors.Driver last_driver)) (sym here) ∙ none)
 
       by_line : (o : Option BoardLine) → current_line (slept b).calls lines last_driver ≡ o → is_disable_due (call_on o last_driver) ≡ true → ⊥

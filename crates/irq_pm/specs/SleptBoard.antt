@@ -13,6 +13,7 @@ use Rattle.board_def.specs.Seen.{BoardSeen}
 use Rattle.board_def.specs.declared.rows.LineRow.{LineRow}
 use Rattle.domain_rules.specs.Layout.{is_mapped}
 use Rattle.domain_rules.specs.declared.layouts.Placement.{Placement}
+use Rattle.sleep_laws.specs.Sleeping.{moves_or_waits}
 use Rattle.board_driver.specs.Longer.{last_driver, with_last_driver}
 use Rattle.board_driver.specs.declared.adding.LineCall.{LineCall}
 use Rattle.board_play.specs.Lines.{mapped}
@@ -59,5 +60,10 @@ has_room_for_sleep b =
 abbrev pub can_all_wake : BoardSeen → List LineNo → Bool
 can_all_wake b armed = list_all (can_wake b) armed
 
+-- no run of a handler or a thread disables or enables its line, frees a device or waits, be it on a
+-- line that takes part or not: such a run could disable or open a line that sleeps
+abbrev pub are_runs_calm : BoardSeen → Bool
+are_runs_calm b = not (list_any (λ r. moves_or_waits r.call) b.runs)
+
 abbrev pub is_for_sleep : BoardSeen → List LineNo → Bool
-is_for_sleep b armed = can_all_wake b armed && has_room_for_sleep b
+is_for_sleep b armed = can_all_wake b armed && (has_room_for_sleep b && are_runs_calm b)

@@ -1,9 +1,11 @@
 //! Which boards can sleep, and the board that does.
 ghost use Rattle.std.specs.Prelude.{◌≡◌, ◌&&◌, ◌∷◌, ◌++◌, [], if◌then◌else◌, true, IfOk, OnOk, map};
 ghost use Rattle.board_def.specs.Layout.{layout_of};
-ghost use Rattle.irq_pm.specs.SleptBoard.{can_all_wake, can_wake, has_room_for_sleep};
+ghost use Rattle.irq_pm.specs.SleptBoard.{are_runs_calm, can_all_wake, can_wake};
+ghost use Rattle.irq_pm.specs.SleptBoard.{has_room_for_sleep};
 ghost use Rattle.irq_pm.specs.SleptBoard.{is_for_sleep, is_mapped_at, live_rows, sleep_script};
 ghost use Rattle.irq_pm.specs.SleptBoard.{slept, wakes_row};
+ghost use Rattle.sleep_laws.specs.Sleeping.{moves_or_waits};
 
 use board_def::{Board, Layout, LineRow, Placement};
 use board_driver::{LineCall, with_last_driver};
@@ -14,12 +16,13 @@ use std::alloc::Global;
 const SYSTEM: DriverNo = DriverNo(65_535);
 
 /// Whether the board can sleep with these lines armed: each of them takes part and is disabled
-/// lazily; the system's driver can be added with its calls.
+/// lazily; the system's driver can be added with its calls; and no run disables or enables its
+/// line, frees a device or waits.
 pub fn fits_sleep(board: &Board, layout: &Layout, armed: &[LineNo]) -> bool
     requires layout { layout.now ≡ layout_of board.now }
     ensures { result ≡ is_for_sleep board.now armed.now }
 {
-    can_all_wake(board, layout, armed) && has_room_for_sleep(board)
+    can_all_wake(board, layout, armed) && has_room_for_sleep(board) && are_runs_calm(board)
 }
 
 /// The board with the system's driver, which disables each line that takes part, and then enables
@@ -84,6 +87,41 @@ fn has_room_for_sleep(board: &Board) -> bool
     ensures { result ≡ has_room_for_sleep board.now }
 {
     !board.has_driver(SYSTEM) && board.drivers_len() < 64 && board.calls_len() <= 16_256
+}
+
+/// Whether no run disables or enables its line, frees a device or waits.
+fn are_runs_calm(board: &Board) -> bool
+    ensures { result ≡ are_runs_calm board.now }
+{
+    for run in board.runs() {
+        if moves_or_waits(run.call) {
+            return false;
+        }
+    }
+    true
+}
+
+/// Whether the call disables or enables a line, frees a device or waits.
+fn moves_or_waits(call: Call) -> bool
+    ensures { result ≡ moves_or_waits call }
+{
+    match call {
+        Call::Disable
+        | Call::DisableNosync
+        | Call::DisableHard
+        | Call::Enable
+        | Call::Free { .. }
+        | Call::Sync
+        | Call::SyncHard => true,
+        Call::Ask { .. }
+        | Call::Request { .. }
+        | Call::Affinity { .. }
+        | Call::Moment { .. }
+        | Call::Wake { .. }
+        | Call::Quiet { .. }
+        | Call::Arm { .. }
+        | Call::Serve { .. } => false,
+    }
 }
 
 /// The script of the system's driver.

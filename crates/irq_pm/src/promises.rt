@@ -1,7 +1,7 @@
 //! What holds of every sleep, as sentences over the definitions alone. Each is the clause of a
 //! function with an empty body, so that crates above can call it or cite its lemma. `b` is the
 //! board without the system's driver; its sleep is a play of `slept b`.
-ghost use Rattle.std.specs.Prelude.{◌≡◌, ℕ, false, List, None, Some, slice_get};
+ghost use Rattle.std.specs.Prelude.{◌≡◌, ℕ, true, false, List, None, Some, slice_get};
 ghost use Rattle.board_def.specs.Rules.{IsBoard, has_driver};
 ghost use Rattle.board_def.specs.Seen.{BoardSeen};
 ghost use Rattle.board_driver.specs.Longer.{last_driver};
@@ -14,7 +14,7 @@ ghost use Rattle.irq_base.specs.declared.numbers.LineNo.{LineNo};
 ghost use Rattle.irq_pm.specs.Marked.{HasWoken, SleptOnce};
 ghost use Rattle.irq_pm.specs.SleepLog.{moves_of};
 ghost use Rattle.irq_pm.specs.Slept.{NamesWaker, Sleeps, SleepsThrough};
-ghost use Rattle.irq_pm.specs.SleptBoard.{slept};
+ghost use Rattle.irq_pm.specs.SleptBoard.{are_runs_calm, slept};
 ghost use Rattle.irq_pm.specs.declared.entries.SleepEntry.{SleepEntry};
 ghost use Rattle.play_laws.specs.Actors.{IsOneOf};
 
@@ -40,6 +40,7 @@ pub fn sleep_keeps_lines()
 pub fn sleeps_through()
     ensures lines { (b : BoardSeen) (armed : List LineNo) (g : List SleepEntry) (end : End)
         → IsBoard b → IsBoard (slept b) → has_driver b.drivers last_driver ≡ false
+        → are_runs_calm b ≡ true
         → Sleeps (slept b) armed b.picks g end → (i : ℕ) (x : BoardLine)
         → slice_get (lines_of (slept b) (moves_of g)) i ≡ Some x → SleepsThrough x.past }
     ensures wake { (b : BoardSeen) (armed : List LineNo) (picks : List Actor)
@@ -50,10 +51,10 @@ pub fn sleeps_through()
 /// stands in its last phase.
 pub fn sleep_is_marked()
     ensures marks { (b : BoardSeen) (armed : List LineNo) (g : List SleepEntry) → IsBoard b
-        → IsBoard (slept b) → has_driver b.drivers last_driver ≡ false
+        → IsBoard (slept b) → has_driver b.drivers last_driver ≡ false → are_runs_calm b ≡ true
         → Sleeps (slept b) armed b.picks g Done → SleptOnce g }
     ensures phase { (b : BoardSeen) (armed : List LineNo) (g : List SleepEntry) → IsBoard b
-        → IsBoard (slept b) → has_driver b.drivers last_driver ≡ false
+        → IsBoard (slept b) → has_driver b.drivers last_driver ≡ false → are_runs_calm b ≡ true
         → (played : Sleeps (slept b) armed b.picks g Done) → HasWoken played.0 }
 {}
 
@@ -61,7 +62,7 @@ pub fn sleep_is_marked()
 /// the board can move.
 pub fn sleep_comes_to_rest()
     ensures law { (b : BoardSeen) (armed : List LineNo) (g : List SleepEntry) → IsBoard b
-        → IsBoard (slept b) → has_driver b.drivers last_driver ≡ false
+        → IsBoard (slept b) → has_driver b.drivers last_driver ≡ false → are_runs_calm b ≡ true
         → Sleeps (slept b) armed b.picks g Done → (a : Actor) → IsOneOf a (actors_of (slept b))
         → due_move (slept b) (lines_of (slept b) (moves_of g)) a ≡ None }
 {}

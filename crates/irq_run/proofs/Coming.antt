@@ -2,13 +2,15 @@
 use Rattle.std.proofs.Common.{◌≡◌, ℕ, zero, suc, ◌+◌, Bool, true, false, cond, IsSomeAnd, Option, Some, None, List, [], ◌∷◌, ◌++◌}
 use Rattle.std.proofs.Common.{map, reverse, slice_get, refl, sym, ap, ◌∙◌, subst}
 use Rattle.std.proofs.lemmas.List.{reverse-append, reverse-reverse}
+use Rattle.irq_base.specs.declared.devices.Run.{Run}
 use Rattle.irq_base.specs.declared.entries.Entry.{Entry}
 use Rattle.irq_base.specs.declared.lines.LineDef.{LineDef}
 use Rattle.irq_laws.proofs.Chosen.{the_same}
 use Rattle.irq_line.specs.Seen.{LineSeen}
 use Rattle.irq_model.specs.Kinds.{same_line}
-use Rattle.board_core.specs.Playing.{AreLowestMoves, Settles, lines_after_all}
+use Rattle.board_core.specs.Playing.{AreLowestMoves, lines_after_all}
 use Rattle.board_core.specs.Seen.{SystemSeen, board_line, board_lines}
+use Rattle.board_core.specs.Settled.{SettlesLines}
 use Rattle.board_def.specs.Rules.{IsBoard}
 use Rattle.board_def.specs.Seen.{BoardSeen}
 use Rattle.board_play.specs.Kept.{AreKept}
@@ -87,7 +89,8 @@ goes_on moves lines apart i x at = (reverse y.more, is)
         ∙ (reverse-append y.more (reverse x.entries) ∙ ap (λ (es : List Entry). es ++ reverse y.more) (reverse-reverse x.entries)))
 
 -- what settling a system of these lines leaves
-pub settled_so : (b : BoardSeen) (lines : List LineSeen) (old new : SystemSeen) → old.board ≡ b → old.lines ≡ lines → (s : Settles old new)
+settled_so : {H : Type 0} {hears : H → Run → H → Type 0} {before after : H} (b : BoardSeen) (lines : List LineSeen) (old new : SystemSeen)
+    → old.board ≡ b → old.lines ≡ lines → (s : SettlesLines hears old new before after)
     → AreSettled b (board_lines lines) s.moves (entries_in (board_lines new.lines))
 settled_so b lines old new same are s =
     record {
@@ -97,14 +100,10 @@ settled_so b lines old new same are s =
           (s.lines ∙ ap (λ (ls : List LineSeen). lines_after_all s.moves (board_lines ls)) are);
     }
 
--- a log that began empty has the moves alone
-pub log_settled : (old new : SystemSeen) → old.log ≡ [] → (s : Settles old new) → s.moves ≡ reverse new.log
-log_settled old new none s =
-    sym (ap reverse (s.log ∙ ap (λ (g : List Move). g ++ reverse s.moves) none) ∙ reverse-reverse s.moves)
-
-pub came : (terms : Terms) (b : BoardSeen) (locks : List LockSeen) (jobs : JobsSeen) (lines : List LineSeen) (old new : SystemSeen) → IsBoard b
+pub came : {H : Type 0} {hears : H → Run → H → Type 0} {first last : H} (terms : Terms) (b : BoardSeen)
+    (locks : List LockSeen) (jobs : JobsSeen) (lines : List LineSeen) (old new : SystemSeen) → IsBoard b
     → jobs.board ≡ b → Fit locks jobs → AreOver terms jobs → AreKept jobs.board (board_lines lines) → AreGathered jobs lines
-    → old.board ≡ b → old.lines ≡ lines → Settles old new → CameOfShifts terms b (entries_in (board_lines new.lines))
+    → old.board ≡ b → old.lines ≡ lines → SettlesLines hears old new first last → CameOfShifts terms b (entries_in (board_lines new.lines))
 came terms b locks jobs lines old new isb of_board fit over kept gathered same are settles =
     record {
       locks = locks;

@@ -1,15 +1,13 @@
 -- A system whose run has ended, and what its reports hand out.
-use Rattle.std.proofs.Common.{◌≡◌, ◌≤◌, ℕ, Option, Some, None, Result, Ok, Err, List, IsSome, reverse, sym, ap, ◌∙◌, subst}
-use Rattle.std.proofs.lemmas.List.{length-reverse}
+use Rattle.std.proofs.Common.{◌≡◌, ◌≤◌, ℕ, Option, Some, None, Result, Ok, Err, List, IsSome, sym, ap, ◌∙◌, subst}
 use Rattle.irq_base.specs.declared.entries.Entry.{Entry}
 use Rattle.irq_base.specs.declared.numbers.LineNo.{LineNo}
 use Rattle.irq_base.specs.declared.reporting.LineReport.{LineReport}
 use Rattle.irq_line.specs.declared.answers.StepRefused.{StepRefused}
 use Rattle.irq_line.specs.declared.answers.StepRefused.TheVariants as refusals
-use Rattle.board_core.specs.Pieces.{EndsPiece}
 use Rattle.board_core.specs.Seen.{SystemSeen, board_lines}
 use Rattle.board_core.specs.Turns.{lowest_move}
-use Rattle.board_core.specs.Wanted.{EndWants, HasSpare, WantsLowest}
+use Rattle.board_core.specs.Wanted.{HasSpare, LowestWantsByLine, SettleWants}
 use Rattle.board_def.specs.Rules.{IsBoard}
 use Rattle.board_def.specs.Seen.{BoardSeen}
 use Rattle.board_play.specs.Kept.{AreKept}
@@ -70,11 +68,8 @@ module _ (b : BoardSeen) (isb : IsBoard b) (s : SystemSeen) (of_board : s.board 
 
   -- which step was refused, by the room that is handed out
   step_done : (may_want : Option Entry → Type 0) (end : Result Unit StepRefused) → IsRun b s end → (reports : List LineReport) → KeepRoom s.lines reports
-      → WantsLowest may_want s → RefusedStep may_want b its reports
+      → LowestWantsByLine may_want s → RefusedStep may_want b its reports
   step_done may_want end p reports keep w = record {
-    before = p.before;
-    moves = reverse s.log;
-    settled = p.settled;
     actor = w.actor;
     next = sym next_is ∙ (w.lowest ∙ (ap (λ (c : BoardSeen). due_move c (board_lines s.lines) w.actor) of_board
         ∙ ap (λ (ls : List BoardLine). due_move b ls w.actor) (sym are_same)));
@@ -82,8 +77,7 @@ module _ (b : BoardSeen) (isb : IsBoard b) (s : SystemSeen) (of_board : s.board 
       line = w.step.line;
       is = ap (λ (ls : List BoardLine). line_for b ls w.actor) are_same
           ∙ (ap (λ (c : BoardSeen). line_for c (board_lines s.lines) w.actor) (sym of_board) ∙ w.step.is);
-      wanted = λ room fits. w.step.wanted (spare w.step.line.def.line room)
-          (λ ends. fits (subst EndsPiece (sym (length-reverse s.log)) ends));
+      wanted = λ room. w.step.wanted (spare w.step.line.def.line room);
     };
   }
     where
@@ -92,9 +86,9 @@ module _ (b : BoardSeen) (isb : IsBoard b) (s : SystemSeen) (of_board : s.board 
           subst (λ (n : ℕ). 1 ≤ n) (keep k i x report at_x at (number_is ∙ sym same)) room
 
   -- what the reports of its lines hand out
-  pub handed_out : (may_want : Option Entry → Type 0) (end : Result Unit StepRefused) → IsRun b s end → EndWants may_want s end
+  pub handed_out : (may_want : Option Entry → Type 0) (end : Result Unit StepRefused) → IsRun b s end → SettleWants may_want s end
       → (reports : List LineReport) → Reported b (board_lines s.lines) reports → KeepRoom s.lines reports
       → HandsOutStep (HandsOut b its) (RefusedStep may_want b its) end reports
   handed_out may_want end p wants reports told keep =
       with_step (HandsOut b its) (RefusedStep may_want b its) end reports (handed end p reports told)
-      (λ is. step_done may_want end p reports keep (subst (λ (e : Result Unit StepRefused). EndWants may_want s e) is wants))
+      (λ is. step_done may_want end p reports keep (subst (λ (e : Result Unit StepRefused). SettleWants may_want s e) is wants))

@@ -1,6 +1,6 @@
 -- Each run that ended in the histories of a run was given.
 use Rattle.std.proofs.Common.{◌≡◌, ℕ, suc, Bool, true, false, cond, IfSome, Option, Some, None, List, [], ◌∷◌, ◌++◌}
-use Rattle.std.proofs.Common.{drop, length, map, reverse, slice_get, refl, sym, ap, ◌∙◌, subst}
+use Rattle.std.proofs.Common.{map, reverse, slice_get, refl, sym, ap, ◌∙◌, subst}
 use Rattle.std.proofs.lemmas.List.{reverse-reverse}
 use Rattle.irq_base.specs.declared.devices.Answer.{Answer}
 use Rattle.irq_base.specs.declared.devices.Run.{Run}
@@ -13,9 +13,10 @@ use Rattle.callbacks.specs.Seen.{answer_to}
 use Rattle.irq_line.specs.Given.{AreGiven}
 use Rattle.irq_line.specs.Runs.{run_ended}
 use Rattle.irq_line.specs.Seen.{LineSeen}
-use Rattle.board_core.specs.Playing.{Settles, lines_after_all}
-use Rattle.board_core.specs.Runs.{run_on, runs_by_move, runs_from, runs_since}
+use Rattle.board_core.specs.Playing.{lines_after_all}
+use Rattle.board_core.specs.Runs.{run_on, runs_by_move, runs_from}
 use Rattle.board_core.specs.Seen.{SystemSeen, board_line, board_lines}
+use Rattle.board_core.specs.Settled.{SettlesLines}
 use Rattle.board_def.specs.Rules.{IsBoard}
 use Rattle.board_def.specs.Seen.{BoardSeen}
 use Rattle.board_play.specs.Kept.{AreKept}
@@ -105,11 +106,11 @@ module _ (gave : Run → Answer → Type 0) where
 
 pub settled_given : (gave : Run → Answer → Type 0) (b : BoardSeen) (locks : List LockSeen) (jobs : JobsSeen) (lines : List LineSeen)
     (old new : SystemSeen) → IsBoard b → jobs.board ≡ b → Fit locks jobs → AreJobsGiven gave jobs
-    → AreKept jobs.board (board_lines lines) → AreGathered jobs lines → old.board ≡ b → old.lines ≡ lines → old.log ≡ []
-    → (s : Settles old new) → {E : Type 0} (hears : E → Run → E → Type 0) (first after : E)
+    → AreKept jobs.board (board_lines lines) → AreGathered jobs lines → old.lines ≡ lines
+    → {E : Type 0} (hears : E → Run → E → Type 0) (first after : E)
     → ((run : Run) (new : E) → hears first run new → gave run (answer_to run) × (new ≡ first))
-    → Heard hears (runs_since old new) first after → EachGiven gave (lines_with b (entries_in (board_lines new.lines)))
-settled_given gave b locks jobs lines old new isb of_board fit given kept gathered same are log s {E} hears first after each heard =
+    → SettlesLines hears old new first after → EachGiven gave (lines_with b (entries_in (board_lines new.lines)))
+settled_given gave b locks jobs lines old new isb of_board fit given kept gathered are {E} hears first after each s =
     subst (EachGiven gave) (sym (with_same b (board_lines new.lines) defs_new (subst AreApart (sym (defs_new ∙ sym defs_lines)) apart)))
     (subst (EachGiven gave) (sym lines_are) (moves_given gave s.moves (board_lines lines) apart each_gathered runs))
   where
@@ -133,14 +134,6 @@ settled_given gave b locks jobs lines old new isb of_board fit given kept gather
         let y = of_map board_line lines i x at in
         subst (λ (z : BoardLine). AreGiven gave z.def z.past) y.2 (gathered_given gave locks jobs lines fit given gathered i y.0 y.1)
 
-    moves_are : reverse (drop (length old.log) new.log) ≡ s.moves
-    moves_are =
-        ap (λ (g : List Move). reverse (drop (length g) new.log)) log
-        ∙ (ap reverse (s.log ∙ ap (λ (g : List Move). g ++ reverse s.moves) log) ∙ reverse-reverse s.moves)
-
-    runs_are : runs_since old new ≡ runs_from (board_lines lines) s.moves
-    runs_are = ap (runs_from (board_lines old.lines)) moves_are ∙ ap (λ (ls : List LineSeen). runs_from (board_lines ls) s.moves) are
-
     runs : AllGiven gave (runs_from (board_lines lines) s.moves)
     runs = (heard_given gave hears first each (runs_from (board_lines lines) s.moves) after
-        (subst (λ (rs : List Run). Heard hears rs first after) runs_are heard)).0
+        (subst (λ (ls : List LineSeen). Heard hears (runs_from (board_lines ls) s.moves) first after) are s.heard)).0

@@ -1,6 +1,5 @@
 -- What a board's run answers, and what is printed of it.
-use Rattle.std.specs.Prelude.{◌≡◌, ℕ, Bool, IsSome, Option, Result, Ok, Err, List, [], length}
-use Rattle.std.specs.Prelude.{reverse}
+use Rattle.std.specs.Prelude.{◌≡◌, ℕ, Bool, IsSome, Option, Result, Ok, Err, List, []}
 use Rattle.irq_base.specs.declared.devices.Answer.{Answer}
 use Rattle.irq_base.specs.declared.devices.Run.{Run}
 use Rattle.irq_base.specs.declared.entries.Actor.{Actor}
@@ -10,20 +9,19 @@ use Rattle.irq_base.specs.declared.reporting.LineReport.{LineReport}
 use Rattle.irq_line.specs.declared.answers.StepRefused.{StepRefused}
 use Rattle.irq_line.specs.declared.answers.StepRefused.TheVariants as refusals
 use Rattle.board_core.specs.Playing.{Ends}
-use Rattle.board_core.specs.Seen.{SystemSeen, board_lines}
-use Rattle.board_core.specs.Wanted.{WantedMemory}
+use Rattle.board_core.specs.Seen.{SystemSeen}
+use Rattle.board_core.specs.Wanted.{WantedByLine}
 use Rattle.board_def.specs.Layout.{layout_of}
 use Rattle.board_def.specs.Seen.{BoardSeen}
 use Rattle.board_play.specs.Kept.{AreKept}
-use Rattle.board_play.specs.Lines.{BoardLine, Move}
+use Rattle.board_play.specs.Lines.{Move}
 use Rattle.board_play.specs.Order.{actors_of, due_move, line_for}
 use Rattle.board_play.specs.Play.{first_move}
 use Rattle.board_report.specs.Headline.{FullLog, Headline, Histories, SoFar, histories_of}
-use Rattle.board_report.specs.Reporting.{IsHandedRoom, entries_in}
+use Rattle.board_report.specs.Reporting.{IsHandedRoom}
 use Rattle.play_report.specs.Answers.{Answers, HandsOutStep}
 use Rattle.play_report.specs.declared.failing.PlayFailed.{PlayFailed}
 use Rattle.play_report.specs.declared.failing.PlayFailed.TheVariants as fails
-use Rattle.irq_run.specs.Came.{AreSettled}
 use Rattle.irq_run.specs.Given.{EachGiven, lines_with}
 use Rattle.irq_run.specs.Report.{run_text}
 
@@ -54,18 +52,13 @@ HandsOut b entries (Err (refusals.Full line len)) reports = IsRunFull b entries 
 HandsOut b entries (Err refusals.NoMemory) reports = IsRunCut b entries reports
 
 -- The step that was refused memory: whose it was, and on which line; the actor's move was the next
--- one. If there was room for one more entry, in the history that is handed out for the line and in
--- the log, then the line may want memory for the entry that is due there. The log has the moves
--- that were made since the threads ended.
+-- one. If there was room for one more entry in the history that is handed out for the line, then
+-- the line may want memory for the entry that is due there.
 pub record RefusedStep (may_want : Option Entry → Type 0) (b : BoardSeen) (entries : Histories)
     (reports : List LineReport) : Type 0 where
-  -- the lines as the threads left them, and the moves since, the newest first
-  pub before : List BoardLine
-  pub moves : List Move
-  pub settled : AreSettled b before moves entries
   pub actor : Actor
   pub next : next_move b entries ≡ due_move b (lines_with b entries) actor
-  pub step : WantedMemory may_want (IsHandedRoom reports) (length moves)
+  pub step : WantedByLine may_want (IsHandedRoom reports)
       (line_for b (lines_with b entries) actor) actor
 
 -- a run with some histories, of which this holds; each run of a handler that ended in them was
@@ -96,13 +89,10 @@ TellsStep may_want b reports end = Unit {0}
 
 -- ---- a run that has ended
 
--- A system of the board's lines after a run, and how settling it ended. Its log has the moves that
--- were made since the threads ended.
+-- a system of the board's lines after a run, and how settling it ended
 pub record IsRun (b : BoardSeen) (s : SystemSeen) (end : Result Unit StepRefused) : Type 0 where
   pub board : s.board ≡ b
   pub layout : s.layout ≡ layout_of b
-  pub before : List BoardLine
-  pub settled : AreSettled b before (reverse s.log) (entries_in (board_lines s.lines))
   pub ends : Ends s end
 
 -- what is answered and printed of a run with these histories, by how it ended, and of a step that

@@ -1,7 +1,7 @@
 //! Hands out the reports of a run that has ended, and prints it if it came to its end.
 ghost use Rattle.std.specs.Prelude.{◌≡◌, ◌≤◌, [], All, OnOk, Ok, false, length, map, true};
 ghost use Rattle.board_core.specs.Seen.{board_lines};
-ghost use Rattle.board_core.specs.Wanted.{EndWants};
+ghost use Rattle.board_core.specs.Wanted.{SettleWants};
 ghost use Rattle.board_report.specs.Headline.{told_by};
 ghost use Rattle.board_report.specs.Reporting.{HasRoom, entries_in};
 ghost use Rattle.board_report.specs.Rows.{HasRows};
@@ -34,7 +34,7 @@ pub(crate) fn report_run<O: Sink, L: IrqLine>(
     out: &mut O,
 ) -> PlayedBoard
     requires ran { IsRun board.now system end }
-    requires memory { EndWants L.may_want system end }
+    requires memory { SettleWants L.may_want system end }
     requires room { HasRoom (length board.now.lines) room }
     ensures runs { ReportsRun L.may_want board.now summary
         (entries_in (board_lines system.entry.lines)) result.reports.reports (O.written out.old)

@@ -2,7 +2,7 @@
 ghost use Rattle.std.specs.Prelude.{◌≡◌, [], IfOk, OnOk, false, length};
 ghost use Rattle.board_def.specs.Layout.{layout_of};
 ghost use Rattle.board_core.specs.Seen.{board_lines};
-ghost use Rattle.board_core.specs.Wanted.{EndWants};
+ghost use Rattle.board_core.specs.Wanted.{SettleWants};
 ghost use Rattle.board_report.specs.Reporting.{HasRoom, entries_in};
 ghost use Rattle.irq_io.specs.Faults.{Counts};
 ghost use Rattle.irq_run.specs.Came.{AreOver, CameOfShifts};
@@ -115,7 +115,7 @@ fn settle<'b, L: IrqLine, H: SharedHandler>(
     requires over { AreOver (terms_of L.seen L.may_want (H.gave handlers.now)) jobs }
     requires given { AreJobsGiven (H.gave handlers.now) jobs }
     ensures run { IfOk result (λ ran. IsRun board.now ran.0 ran.1) }
-    ensures memory { IfOk result (λ ran. EndWants L.may_want ran.0 ran.1) }
+    ensures memory { IfOk result (λ ran. SettleWants L.may_want ran.0 ran.1) }
     ensures came { IfOk result (λ ran.
         CameOfShifts (terms_of L.seen L.may_want (H.gave handlers.now)) board.now
         (entries_in (board_lines ran.0.lines))) }
@@ -125,6 +125,6 @@ fn settle<'b, L: IrqLine, H: SharedHandler>(
     board.is_board();
     let lines = gather(alloc, lines, jobs)?;
     let mut system = System::of_lines(alloc, board, layout, lines)?;
-    let end = system.settle(&mut Lent(handlers));
+    let end = system.settle_lines(&mut Lent(handlers));
     Ok((system, end))
 }

@@ -8,7 +8,7 @@ use Rattle.irq_line.specs.declared.answers.StepRefused.{StepRefused}
 use Rattle.irq_line.specs.declared.answers.StepRefused.TheVariants as refusals
 use Rattle.board_play.specs.Lines.{BoardLine, Move, lines_of}
 use Rattle.board_play.specs.Order.{actors_of, cpus_of, due_move, line_for, threads_of}
-use Rattle.board_play.specs.Play.{first_move}
+use Rattle.board_play.specs.Play.{first_move, or_move}
 use Rattle.board_core.specs.Firsts.{IsFirstOf}
 use Rattle.board_core.specs.Seen.{SystemSeen, board_lines}
 use Rattle.board_core.specs.Turns.{CanMove, Turns, TurnsBy, lowest_move, move_of}
@@ -50,6 +50,11 @@ module _ (may_want : Option Entry → Type 0) where
   by_due s due more (Err (refusals.Full line len)) same wants = tt
   by_due s due more (Err refusals.NoMemory) same wants =
       record { actor = wants.actor; can = wants.can; its = λ m is. same m (wants.its m is); step = wants.step }
+
+  -- the first of two that may be due
+  pub either_wants : (s : SystemSeen) (due other : Option Move) (r : Result Bool StepRefused) → StepWants may_want s due r
+      → StepWants may_want s (or_move due other) r
+  either_wants s due other r wants = by_due s due (or_move due other) r (λ m is. ap (λ (o : Option Move). or_move o other) is) wants
 
   -- of the lowest thread or processor
   pub inner_wants : (s : SystemSeen) (a : Actor) (r : Result Bool StepRefused) → IsFirstOf s (threads_of s.board ++ cpus_of s.board) (Some a)

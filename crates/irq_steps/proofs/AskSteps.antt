@@ -1,8 +1,8 @@
 -- What one more entry makes of the unserved asks.
-use Rattle.std.proofs.Common.{Bool, ◌≡◌, ℕ, ◌+◌, List, ◌∷◌, refl, arith}
+use Rattle.std.proofs.Common.{Bool, true, ◌≡◌, ℕ, ◌+◌, min, Option, Some, None, List, ◌∷◌, nat_lt, refl, ap₂, ◌∙◌, arith}
 use Rattle.irq_base.specs.declared.devices.Answer.{Answer}
-use Rattle.irq_base.specs.declared.devices.Kind.{Kind}
-use Rattle.irq_base.specs.declared.devices.Kind.TheVariants as kinds
+use Rattle.irq_base.specs.declared.devices.Part.{Part}
+use Rattle.irq_base.specs.declared.devices.Part.TheVariants as parts
 use Rattle.irq_base.specs.declared.entries.Entry.{Entry}
 use Rattle.irq_base.specs.declared.entries.Entry.TheVariants as by
 use Rattle.irq_base.specs.declared.entries.CpuEntry.TheVariants as cpus
@@ -12,39 +12,57 @@ use Rattle.irq_base.specs.declared.lines.LineDef.{LineDef}
 use Rattle.irq_base.specs.declared.numbers.CpuNo.{CpuNo}
 use Rattle.irq_base.specs.declared.numbers.DevNo.{DevNo}
 use Rattle.irq_base.specs.declared.numbers.DriverNo.{DriverNo}
-use Rattle.irq_model.specs.Asks.{unserved_by, unserved_asks}
-use Rattle.irq_model.specs.Kinds.{is_ask, is_begin, is_thread_begin}
-use Rattle.irq_model.specs.Next.{asks_of_handler, asks_of_thread}
+use Rattle.irq_model.specs.Asks.{left_by_runs, serving, unserved_asks}
+use Rattle.irq_model.specs.Kinds.{is_ask, is_begin, is_thread_begin, is_serve}
 use Rattle.irq_model.specs.Places.{since, count_of}
+use Rattle.irq_model.specs.Runs.{met_by}
 use Rattle.irq_steps.proofs.Same.{same_self}
 
--- the asks since the handler was last called, and since the thread's last run began
+-- the asks since the handler was last called, since the thread's last run began, and since the device
+-- was last served by a call
 abbrev pub fresh_asks : DevNo → List Entry → ℕ
 fresh_asks d past = count_of (is_ask d) (since (is_begin d) past)
 
 abbrev pub fresh_thread_asks : DevNo → List Entry → ℕ
 fresh_thread_asks d past = count_of (is_ask d) (since (is_thread_begin d) past)
 
-pub unserved_ask : (makes : Bool) (kind : Kind) (r : DriverNo) (d : DevNo) (past : List Entry)
-    → unserved_by kind d (by.Driver r (drivers.Ask makes d) ∷ past) ≡ unserved_by kind d past + 1
-unserved_ask makes kinds.Direct r d past = rw (same_self d) (omega arith)
-unserved_ask makes kinds.Check r d past = rw (same_self d) (omega arith)
-unserved_ask makes kinds.Null r d past = rw (same_self d) (omega arith)
-unserved_ask makes kinds.Stuck r d past = rw (same_self d) (omega arith)
+abbrev pub asks_since_serve : DevNo → List Entry → ℕ
+asks_since_serve d past = count_of (is_ask d) (since (is_serve d) past)
 
-pub fresh_ask : (makes : Bool) (r : DriverNo) (d : DevNo) (past : List Entry) → fresh_asks d (by.Driver r (drivers.Ask makes d) ∷ past) ≡ fresh_asks d past + 1
-fresh_ask makes r d past = rw (same_self d) refl
+left_ask : (part : Option Part) (edge : Bool) (r : DriverNo) (d : DevNo) (past : List Entry)
+    → left_by_runs part d (by.Driver r (drivers.Ask edge d) ∷ past) ≡ left_by_runs part d past + 1
+left_ask None edge r d past = rw (same_self d) refl
+left_ask (Some parts.Primary) edge r d past = rw (same_self d) (omega arith)
+left_ask (Some parts.Thread) edge r d past = rw (same_self d) (omega arith)
 
-pub fresh_thread_ask : (makes : Bool) (r : DriverNo) (d : DevNo) (past : List Entry)
-    → fresh_thread_asks d (by.Driver r (drivers.Ask makes d) ∷ past) ≡ fresh_thread_asks d past + 1
-fresh_thread_ask makes r d past = rw (same_self d) refl
+fresh_serve_ask : (edge : Bool) (r : DriverNo) (d : DevNo) (past : List Entry)
+    → asks_since_serve d (by.Driver r (drivers.Ask edge d) ∷ past) ≡ asks_since_serve d past + 1
+fresh_serve_ask edge r d past = rw (same_self d) refl
+
+both_more : (a b : ℕ) → min (a + 1) (b + 1) ≡ min a b + 1
+both_more a b = omega arith
+
+pub unserved_ask : (def : LineDef) (edge : Bool) (r : DriverNo) (d : DevNo) (past : List Entry)
+    → unserved_asks def d (by.Driver r (drivers.Ask edge d) ∷ past) ≡ unserved_asks def d past + 1
+unserved_ask def edge r d past =
+    ap₂ (λ (a b : ℕ). min a b) (fresh_serve_ask edge r d past) (left_ask (serving def d) edge r d past)
+    ∙ both_more (asks_since_serve d past) (left_by_runs (serving def d) d past)
+
+pub fresh_ask : (edge : Bool) (r : DriverNo) (d : DevNo) (past : List Entry)
+    → fresh_asks d (by.Driver r (drivers.Ask edge d) ∷ past) ≡ fresh_asks d past + 1
+fresh_ask edge r d past = rw (same_self d) refl
+
+pub fresh_thread_ask : (edge : Bool) (r : DriverNo) (d : DevNo) (past : List Entry)
+    → fresh_thread_asks d (by.Driver r (drivers.Ask edge d) ∷ past) ≡ fresh_thread_asks d past + 1
+fresh_thread_ask edge r d past = rw (same_self d) refl
 
 -- a run that begins meets what is unserved
 pub met_begin : (def : LineDef) (cpu : CpuNo) (d : DevNo) (past : List Entry)
-    → asks_of_handler def d (by.Cpu cpu (cpus.Begin d) ∷ past) ≡ unserved_asks def d past
+    → met_by def parts.Primary d (by.Cpu cpu (cpus.Begin d) ∷ past) ≡ unserved_asks def d past
 met_begin def cpu d past = rw (same_self d) refl
 
-pub met_thread_begin : (def : LineDef) (d : DevNo) (past : List Entry) → asks_of_thread def d (by.Thread d threads.Begin ∷ past) ≡ unserved_asks def d past
+pub met_thread_begin : (def : LineDef) (d : DevNo) (past : List Entry)
+    → met_by def parts.Thread d (by.Thread d threads.Begin ∷ past) ≡ unserved_asks def d past
 met_thread_begin def d past = rw (same_self d) refl
 
 pub fresh_begin : (cpu : CpuNo) (d : DevNo) (past : List Entry) → fresh_asks d (by.Cpu cpu (cpus.Begin d) ∷ past) ≡ 0
@@ -53,11 +71,11 @@ fresh_begin cpu d past = rw (same_self d) refl
 pub fresh_thread_begin : (d : DevNo) (past : List Entry) → fresh_thread_asks d (by.Thread d threads.Begin ∷ past) ≡ 0
 fresh_thread_begin d past = rw (same_self d) refl
 
--- a serving run that returns leaves what came since it began
-pub unserved_return : (cpu : CpuNo) (d : DevNo) (a : Answer) (n : ℕ) (past : List Entry)
-    → unserved_by kinds.Direct d (by.Cpu cpu (cpus.Return a d n) ∷ past) ≡ fresh_asks d past
-unserved_return cpu d a n past = rw (same_self d) (omega arith)
+-- a run that returns, and has served, leaves what came since it began
+pub left_return : (cpu : CpuNo) (d : DevNo) (a : Answer) (n : ℕ) (past : List Entry) → nat_lt 0 n ≡ true
+    → left_by_runs (Some parts.Primary) d (by.Cpu cpu (cpus.Return a d n) ∷ past) ≡ fresh_asks d past
+left_return cpu d a n past some = rw (same_self d, some) (omega arith)
 
-pub unserved_thread_return : (handled : Bool) (d : DevNo) (n : ℕ) (past : List Entry)
-    → unserved_by kinds.Check d (by.Thread d (threads.Return handled n) ∷ past) ≡ fresh_thread_asks d past
-unserved_thread_return handled d n past = rw (same_self d) (omega arith)
+pub left_thread_return : (handled : Bool) (d : DevNo) (n : ℕ) (past : List Entry) → nat_lt 0 n ≡ true
+    → left_by_runs (Some parts.Thread) d (by.Thread d (threads.Return handled n) ∷ past) ≡ fresh_thread_asks d past
+left_thread_return handled d n past some = rw (same_self d, some) (omega arith)

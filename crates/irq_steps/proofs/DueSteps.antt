@@ -7,9 +7,6 @@ use Rattle.std.proofs.lemmas.List.{drop-append-le, drop_all, reverse-append}
 use Rattle.irq_base.specs.declared.calls.Call.{Call}
 use Rattle.irq_base.specs.declared.calls.Call.TheVariants as calls
 use Rattle.irq_base.specs.declared.entries.Entry.{Entry}
-use Rattle.irq_base.specs.declared.entries.Entry.TheVariants as by
-use Rattle.irq_base.specs.declared.entries.CallEntry.TheVariants as called
-use Rattle.irq_base.specs.declared.entries.UnlinkAnswer.TheVariants as unlinks
 use Rattle.irq_base.specs.declared.numbers.DriverNo.{DriverNo}
 use Rattle.irq_model.specs.Due.{begins_not_there, entries_of_call, due_of, calls_by, entries_by}
 use Rattle.irq_model.specs.Kinds.{same_driver, is_by_driver}
@@ -42,12 +39,18 @@ each_makes_some calls.Enable es = omega arith
 each_makes_some calls.Sync es = omega arith
 each_makes_some (calls.Affinity mask) es = omega arith
 each_makes_some (calls.Moment at) es = omega arith
+each_makes_some calls.SyncHard es = omega arith
+each_makes_some calls.DisableHard es = omega arith
+each_makes_some (calls.Wake dev) es = omega arith
+each_makes_some (calls.Quiet dev) es = omega arith
+each_makes_some (calls.Arm dev) es = omega arith
+each_makes_some (calls.Serve dev) es = omega arith
 
 first_only : (x : Entry) (xs ys : List Entry) → begins_not_there (x ∷ xs) ≡ begins_not_there (x ∷ ys)
 first_only x xs ys = refl
 
 -- its first entry says how many entries a call makes
-by_first : (c : Call) (x : Entry) (xs ys : List Entry) → entries_of_call c (x ∷ xs) ≡ entries_of_call c (x ∷ ys)
+pub by_first : (c : Call) (x : Entry) (xs ys : List Entry) → entries_of_call c (x ∷ xs) ≡ entries_of_call c (x ∷ ys)
 by_first (calls.Free dev) x xs ys = ap (λ b. cond b 1 3) (first_only x xs ys)
 by_first (calls.Ask dev) x xs ys = refl
 by_first (calls.Request dev flags) x xs ys = refl
@@ -57,6 +60,12 @@ by_first calls.Enable x xs ys = refl
 by_first calls.Sync x xs ys = refl
 by_first (calls.Affinity mask) x xs ys = refl
 by_first (calls.Moment at) x xs ys = refl
+by_first calls.SyncHard x xs ys = refl
+by_first calls.DisableHard x xs ys = refl
+by_first (calls.Wake dev) x xs ys = refl
+by_first (calls.Quiet dev) x xs ys = refl
+by_first (calls.Arm dev) x xs ys = refl
+by_first (calls.Serve dev) x xs ys = refl
 
 pub makes_as_many : (c : Call) (es : List Entry) (e : Entry) → 1 ≤ length es → entries_of_call c (es ++ e ∷ []) ≡ entries_of_call c es
 makes_as_many c [] e h = absurd (omega arith)

@@ -52,15 +52,15 @@ module _ {A : Type 0} where
   total_ext v w [] h = refl
   total_ext v w (x ∷ xs) h = let a = h x in let r = total_ext v w xs h in omega (arith, a, r)
 
-  total_le : (v w : A → ℕ) (xs : List A) → ((x : A) → v x ≤ w x) → total v xs ≤ total w xs
+  pub total_le : (v w : A → ℕ) (xs : List A) → ((x : A) → v x ≤ w x) → total v xs ≤ total w xs
   total_le v w [] h = omega arith
   total_le v w (x ∷ xs) h = let a = h x in let r = total_le v w xs h in omega (arith, a, r)
 
-  total_sum : (u v w : A → ℕ) (xs : List A) → ((x : A) → u x ≡ v x + w x) → total u xs ≡ total v xs + total w xs
+  pub total_sum : (u v w : A → ℕ) (xs : List A) → ((x : A) → u x ≡ v x + w x) → total u xs ≡ total v xs + total w xs
   total_sum u v w [] h = refl
   total_sum u v w (x ∷ xs) h = let a = h x in let r = total_sum u v w xs h in omega (arith, a, r)
 
-  total_none : (w : A → ℕ) (xs : List A) → ((x : A) → w x ≡ 0) → total w xs ≡ 0
+  pub total_none : (w : A → ℕ) (xs : List A) → ((x : A) → w x ≡ 0) → total w xs ≡ 0
   total_none w [] h = refl
   total_none w (x ∷ xs) h = let a = h x in let r = total_none w xs h in omega (arith, a, r)
 
@@ -110,6 +110,28 @@ module _ {A B : Type 0} (ka : A → ℕ) (va : A → ℕ) (xs : List A) (kb : B 
       let b = some_below kb vb m ys in
       let r = below_by_key m h in
       omega (arith, a, b, r)
+
+-- the same of two sums beside each other
+module _ {A B C : Type 0} (ka va : A → ℕ) (xs : List A) (kb vb : B → ℕ) (ys : List B) (kc vc : C → ℕ) (zs : List C) where
+  below_two : (m : ℕ) → ((k : ℕ) → total_at ka va k xs ≤ total_at kb vb k ys + total_at kc vc k zs)
+      → total_below ka va m xs ≤ total_below kb vb m ys + total_below kc vc m zs
+  below_two zero h = let a = below_zero ka va xs in omega (arith, a)
+  below_two (suc m) h =
+      let a = below_more ka va m xs in
+      let b = below_more kb vb m ys in
+      let c = below_more kc vc m zs in
+      let r = below_two m h in
+      let here = h m in
+      omega (arith, a, b, c, r, here)
+
+  pub totals_by_two : ((k : ℕ) → total_at ka va k xs ≤ total_at kb vb k ys + total_at kc vc k zs) → total va xs ≤ total vb ys + total vc zs
+  totals_by_two h =
+      let m = total (λ x. ka x + 1) xs in
+      let a = below_all ka va m xs (omega arith) in
+      let b = some_below kb vb m ys in
+      let c = some_below kc vc m zs in
+      let r = below_two m h in
+      omega (arith, a, b, c, r)
 
 module _ {A : Type 0} (key : A → ℕ) (xs : List A) where
   pub at_key : (p : A → Bool) (k : ℕ) → count_of (λ x. p x && (k == key x)) xs ≡ total_at key (λ x. one_if (p x)) k xs

@@ -1,5 +1,5 @@
 -- Over all devices of a line: the served asks and the unserved asks together are all asks.
-use Rattle.std.proofs.Common.{◌≡◌, ℕ, zero, suc, ◌+◌, ◌==◌, Bool, true, false, ◌||◌, cond, List, [], ◌∷◌, refl, sym, ap, subst, arith}
+use Rattle.std.proofs.Common.{◌≡◌, ℕ, zero, suc, ◌+◌, ◌≤◌, ◌==◌, Bool, true, false, ◌||◌, cond, List, [], ◌∷◌, refl, sym, ap, subst, arith}
 use Rattle.std.specs.List.{list_any}
 use Rattle.std.proofs.lemmas.Bool.{or_parts, false_from_ne_true}
 use Rattle.irq_base.specs.declared.numbers.DevNo.{DevNo}
@@ -11,6 +11,8 @@ use Rattle.irq_base.specs.declared.entries.Entry.TheVariants as by
 use Rattle.irq_base.specs.declared.entries.CpuEntry.TheVariants as cpus
 use Rattle.irq_base.specs.declared.entries.ThreadEntry.TheVariants as threads
 use Rattle.irq_base.specs.declared.entries.DriverEntry.TheVariants as drivers
+use Rattle.irq_base.specs.declared.entries.CallEntry.{CallEntry}
+use Rattle.irq_base.specs.declared.entries.CallEntry.TheVariants as called
 use Rattle.irq_model.specs.Places.{count_of}
 use Rattle.irq_model.specs.Kinds.{is_any_ask, is_ask}
 use Rattle.irq_model.specs.Lines.{is_device}
@@ -22,11 +24,12 @@ use Rattle.irq_steps.proofs.Same.{dev_from_same}
 use Rattle.irq_laws.proofs.ImpliesDriver.{ask_due}
 use Rattle.irq_laws.proofs.Lists.{both_ways}
 use Rattle.irq_laws.proofs.Requested.{due_passes}
-use Rattle.irq_storms.specs.Tests.{asks_served, all_served, total}
+use Rattle.irq_storms.specs.Tests.{asks_served, all_served, served_to, served_by_call, is_any_serving, total}
 use Rattle.irq_storms.specs.Judged.{one_if}
-use Rattle.irq_storms.proofs.Counting.{count_more, count_ext, count_total, total_ext, total_at, total_below, below_zero, below_more, below_all, at_key}
-use Rattle.irq_storms.proofs.ThreadCounts.{dev_key}
-use Rattle.irq_storms.proofs.ServedCounts.{served_exactly, key_ask}
+use Rattle.irq_storms.proofs.Counting.{count_more, count_ext, count_total, total_ext, total_at, total_below, below_zero}
+use Rattle.irq_storms.proofs.Counting.{below_more, below_all, at_key, totals_by_key}
+use Rattle.irq_storms.proofs.ThreadCounts.{dev_key, call_key}
+use Rattle.irq_storms.proofs.ServedCounts.{served_exactly, key_ask, some_if}
 
 -- ---- sums that agree at each key
 
@@ -53,7 +56,7 @@ module _ {A B C : Type 0} (ka : A → ℕ) (va : A → ℕ) (xs : List A) (kb : 
 
 -- ---- one device among the devices of the line
 
-abbrev number : DeviceDef → ℕ
+abbrev pub number : DeviceDef → ℕ
 number x = x.dev.0
 
 not_here : (b : Bool) (n : ℕ) → b ≡ false → cond b n 0 ≡ 0
@@ -64,7 +67,7 @@ here : (b : Bool) (n : ℕ) → b ≡ true → cond b n 0 ≡ n
 here true n h = refl
 here false n h = cc
 
-absent : (f : DevNo → ℕ) (d : DevNo) (xs : List DeviceDef) → list_any (is_device d) xs ≡ false → total_at number (λ x. f x.dev) d.0 xs ≡ 0
+pub absent : (f : DevNo → ℕ) (d : DevNo) (xs : List DeviceDef) → list_any (is_device d) xs ≡ false → total_at number (λ x. f x.dev) d.0 xs ≡ 0
 absent f d [] h = refl
 absent f d (x ∷ xs) h =
     let p = or_parts (is_device d x) (list_any (is_device d) xs) h in
@@ -72,7 +75,7 @@ absent f d (x ∷ xs) h =
     let r = absent f d xs p.1 in
     omega (arith, a, r)
 
-present : (f : DevNo → ℕ) (d : DevNo) (xs : List DeviceDef) → HasDistinctDevices xs → list_any (is_device d) xs ≡ true
+pub present : (f : DevNo → ℕ) (d : DevNo) (xs : List DeviceDef) → HasDistinctDevices xs → list_any (is_device d) xs ≡ true
     → total_at number (λ x. f x.dev) d.0 xs ≡ f d
 present f d [] apart h = cc
 present f d (x ∷ xs) apart h = by_test (is_device d x) refl h (λ t. present f d xs apart.1 t)
@@ -92,7 +95,7 @@ present f d (x ∷ xs) apart h = by_test (is_device d x) refl h (λ t. present f
 ask_named : (def : LineDef) (d : DevNo) (e : Entry) (past : List Entry) → IsValid def → IsDue def e past
     → is_ask d e ≡ true → list_any (is_device d) def.devices ≡ true
 ask_named def d (by.Driver r (drivers.Ask makes x)) past valid due h =
-    let u = ask_due _ def r x past due in
+    let u = ask_due def r x makes past due in
     subst (λ (y : DevNo). list_any (is_device y) def.devices ≡ true) (sym (dev_from_same d x h))
     (due_passes (names_one_of def.devices) r def.calls (entries_by r past) (calls.Ask x) u.count valid.calls u.call)
 ask_named def d e past valid due h = cc
@@ -115,7 +118,7 @@ unserved_at def d past valid legal = by_test (list_any (is_device d) def.devices
     by_test true is = present (λ y. unserved_asks def y past) d def.devices valid.distinct is
     by_test false is =
         let a = absent (λ y. unserved_asks def y past) d def.devices is in
-        let s = served_exactly def d past valid legal in
+        let s = served_exactly def d past legal in
         let n = no_asks def d past valid legal is in
         omega (arith, a, s, n)
 
@@ -125,10 +128,27 @@ no_weight : (b : Bool) → ◌≡◌ {A = ℕ} (cond b 0 0) 0
 no_weight true = refl
 no_weight false = refl
 
+key_call : (k : ℕ) (call : CallEntry) → cond (k == call_key call) (served_by_call call) 0 ≡ served_to (record { 0 = k }) call
+key_call k (called.Serve dev served) = refl
+key_call k call = no_weight (k == call_key call)
+
 key_served : (k : ℕ) (e : Entry) → cond (k == dev_key e) (all_served e) 0 ≡ asks_served (record { 0 = k }) e
 key_served k (by.Cpu cpu (cpus.Return answer dev served)) = refl
 key_served k (by.Thread dev (threads.Return handled served)) = refl
+key_served k (by.CpuCall cpu call) = key_call k call
+key_served k (by.ThreadCall dev call) = key_call k call
+key_served k (by.DriverCall driver call) = key_call k call
 key_served k e = no_weight (k == dev_key e)
+
+at_device : (def : LineDef) (past : List Entry) → IsLegalPast def past → (k : ℕ)
+    → total_at dev_key all_served k past + unserved_asks def (record { 0 = k }) past ≡ total_at dev_key (λ e. one_if (is_any_ask e)) k past
+at_device def past legal k =
+    let d : DevNo = record { 0 = k } in
+    let s : total_at dev_key all_served k past ≡ total (asks_served d) past = total_ext _ _ past (key_served k) in
+    let x = served_exactly def d past legal in
+    let a = count_ext _ _ past (key_ask k) in
+    let b = at_key dev_key past is_any_ask k in
+    omega (arith, s, x, a, b)
 
 pub served_of_all : (def : LineDef) (past : List Entry) → IsValid def → IsLegalPast def past
     → total all_served past + total (λ x. unserved_asks def x.dev past) def.devices ≡ count_of is_any_ask past
@@ -141,9 +161,24 @@ served_of_all def past valid legal =
         def.devices ≡ total_at dev_key (λ e. one_if (is_any_ask e)) k past
     each k =
         let d : DevNo = record { 0 = k } in
-        let s : total_at dev_key all_served k past ≡ total (asks_served d) past = total_ext _ _ past (key_served k) in
         let u = unserved_at def d past valid legal in
-        let x = served_exactly def d past valid legal in
-        let a = count_ext _ _ past (key_ask k) in
-        let b = at_key dev_key past is_any_ask k in
-        omega (arith, s, u, x, a, b)
+        let h = at_device def past legal k in
+        omega (arith, u, h)
+
+-- ---- the entries that served something
+
+servings : (past : List Entry) → count_of is_any_serving past ≤ total all_served past
+servings [] = omega arith
+servings (e ∷ past) =
+    let m = count_more is_any_serving e past in
+    let r = servings past in
+    let s = some_if (all_served e) in
+    omega (arith, m, r, s)
+
+pub served_past : (def : LineDef) (past : List Entry) → IsLegalPast def past → count_of is_any_serving past ≤ count_of is_any_ask past
+served_past def past legal =
+    let s = servings past in
+    let all = totals_by_key dev_key all_served past dev_key (λ e. one_if (is_any_ask e)) past
+    (λ k. let h = at_device def past legal k in omega (arith, h)) in
+    let asks = count_total is_any_ask past in
+    omega (arith, s, all, asks)

@@ -17,6 +17,7 @@ use Rattle.irq_base.specs.declared.entries.Way.TheVariants as ways
 use Rattle.irq_base.specs.declared.entries.TakeAnswer.{TakeAnswer}
 use Rattle.irq_base.specs.declared.entries.TakeAnswer.TheVariants as takes
 use Rattle.irq_base.specs.declared.entries.Note.{Note}
+use Rattle.irq_base.specs.declared.entries.Note.TheVariants as notes
 use Rattle.irq_model.specs.Places.{stands, count_of}
 use Rattle.irq_model.specs.Kinds.{is_take, is_handle, is_busy, is_off, is_kill, is_start, is_disable, is_reopening, is_leave, is_again}
 use Rattle.irq_model.specs.Lines.{is_edge_line, is_level_line, is_edge_flow, is_eoi_flow, serves}
@@ -100,10 +101,30 @@ kill_alone (by.DriverCall s (called.Enable answer)) h = cc
 kill_alone (by.Driver s (drivers.Request flags answer opened x)) h = cc
 kill_alone e h = cc
 
-kill_closes : (def : LineDef) (e : Entry) (past : List Entry) → IsValid def → is_level_line def ≡ true
-    → IsDue def e past → is_kill e ≡ true → has_flow def (e ∷ past) ≡ false
-kill_closes def (by.Cpu c (cpus.End again unmask note)) past valid level due h = no_flow_after def c again unmask note past valid level due
-kill_closes def e past valid level due h = cc
+-- an end that kills leaves, on every line
+kill_leaves : (def : LineDef) (f : FlowKind) (past : List Entry) → again_by def f past notes.Killed ≡ false
+kill_leaves def flows.Edge past = off (is_pending def past) (is_disabled past)
+  where
+    off : (p d : Bool) → (p && not (d || true)) ≡ false
+    off p d = grind arith
+kill_leaves def flows.Level past = refl
+kill_leaves def flows.Eoi past = off (is_edge_line def) (is_pending def past) (is_disabled past)
+  where
+    off : (g p d : Bool) → (g && (p && not (d || true))) ≡ false
+    off g p d = grind arith
+
+killed_note : (c : CpuNo) (again unmask : Bool) (note : Note) → is_kill (by.Cpu c (cpus.End again unmask note)) ≡ true → note ≡ notes.Killed
+killed_note c again unmask notes.Killed h = refl
+killed_note c again unmask notes.Quiet h = cc
+killed_note c again unmask notes.Counted h = cc
+
+kill_closes : (def : LineDef) (e : Entry) (past : List Entry) → IsDue def e past → is_kill e ≡ true → has_flow def (e ∷ past) ≡ false
+kill_closes def (by.Cpu c (cpus.End again unmask note)) past due h =
+    let u = end_due def c again unmask note past due in
+    let killed : note_of def past ≡ notes.Killed = sym u.note_is ∙ killed_note c again unmask note h in
+    let leaves_now : again ≡ false = u.again_is ∙ ap (again_by def def.flow past) killed ∙ kill_leaves def def.flow past in
+    subst (λ (a : Bool). has_flow def (by.Cpu c (cpus.End a unmask note) ∷ past) ≡ false) (sym leaves_now) (flow_closed def c unmask note past)
+kill_closes def e past due h = cc
 
 no_handle : (def : LineDef) (e : Entry) (past : List Entry) → IsDue def e past → is_disabled past ≡ true → is_handle e ≡ false
 no_handle def (by.Cpu c (cpus.Take way takes.Handle)) past due off =
@@ -113,12 +134,11 @@ no_handle def (by.Cpu c (cpus.Take way takes.Busy)) past due off = refl
 no_handle def (by.Cpu c (cpus.Take way takes.Off)) past due off = refl
 no_handle def e past due off = refl
 
-pub shut_past : (def : LineDef) (past : List Entry) → IsValid def → IsLegalPast def past → is_level_line def ≡ true
-    → stands is_kill is_start past ≡ true → IsShut def past
-shut_past def [] valid legal level h = cc
-shut_past def (e ∷ past) valid legal level h = by_case
+pub shut_past : (def : LineDef) (past : List Entry) → IsValid def → IsLegalPast def past → stands is_kill is_start past ≡ true → IsShut def past
+shut_past def [] valid legal h = cc
+shut_past def (e ∷ past) valid legal h = by_case
     (stands_cases (is_kill e) (is_start e) (stands is_kill is_start past) h)
-    (λ s. shut_past def past valid legal.1 level s)
+    (λ s. shut_past def past valid legal.1 s)
   where
     by_case : (is_kill e ≡ true) ⊎ ((is_start e ≡ false) × (stands is_kill is_start past ≡ true))
         → (stands is_kill is_start past ≡ true → IsShut def past) → IsShut def (e ∷ past)
@@ -126,7 +146,7 @@ shut_past def (e ∷ past) valid legal level h = by_case
         record {
           disabled = disabled_by_kill def e past legal.0 (kept def past valid legal.1).depth (kill_alone e kills)
               kills;
-          no_flow = kill_closes def e past valid level legal.0 kills;
+          no_flow = kill_closes def e past legal.0 kills;
         }
     by_case (inr s) deeper =
         let was = deeper s.1 in

@@ -133,7 +133,7 @@ count_all p (x ∷ xs) = by_test (p x) (count_all p xs)
     by_test false h = omega (arith, h)
 
 -- d is still to be called in the round of the flow
-abbrev is_left : LineDef → List Entry → DevNo → Bool
+abbrev pub is_left : LineDef → List Entry → DevNo → Bool
 is_left def past d = has_flow def past && not (has_begun def past d)
 
 abbrev left : LineDef → List Entry → ℕ
@@ -149,7 +149,7 @@ flow_before def (by.Cpu c (cpus.End again unmask note)) past other h = by_test (
     by_test false h = h
 flow_before def e past other h = sym (ap is_some (flow_quiet def e past other refl refl)) ∙ h
 
-left_before : (def : LineDef) (e : Entry) (past : List Entry) (d : DevNo) → is_handle e ≡ false
+pub left_before : (def : LineDef) (e : Entry) (past : List Entry) (d : DevNo) → is_handle e ≡ false
     → (has_begun def (e ∷ past) d ≡ false → has_begun def past d ≡ false) → is_left def (e ∷ past) d ≡ true
     → is_left def past d ≡ true
 left_before def e past d other begun h =

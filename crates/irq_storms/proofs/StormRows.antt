@@ -26,10 +26,17 @@ use Rattle.irq_base.specs.declared.entries.Note.TheVariants as notes
 use Rattle.irq_base.specs.declared.entries.Resend.TheVariants as resends
 use Rattle.irq_base.specs.declared.entries.Opened.TheVariants as opens
 use Rattle.irq_base.specs.declared.entries.LinkAnswer.TheVariants as links
-use Rattle.irq_model.specs.Bounds.{bound}
+use Rattle.irq_base.specs.declared.devices.Part.TheVariants as parts
+use Rattle.irq_base.specs.declared.entries.CallEntry.TheVariants as called
+use Rattle.irq_base.specs.declared.entries.EnableAnswer.TheVariants as enables
+use Rattle.std.specs.List.{list_any}
+use Rattle.irq_model.specs.Bounds.{other_calls, bound}
+use Rattle.irq_model.specs.Lines.{run_script}
+use Rattle.irq_model.specs.RunLaws.{is_enabling}
+use Rattle.irq_model.specs.RunBounds.{EnablesOnlyItsOwn}
 use Rattle.irq_model.specs.Legal.{IsLegal}
 use Rattle.irq_model.specs.Next.{next}
-use Rattle.irq_storms.specs.Judged.{handled_ends, nothing_ends, deferred_ends, breaks, allowed}
+use Rattle.irq_storms.specs.Judged.{handled_ends, nothing_ends, deferred_ends, breaks, allowed, count_where, starts_killed}
 
 abbrev line : LineNo
 line = record { 0 = 1 }
@@ -45,6 +52,9 @@ driver n = record { 0 = n }
 
 abbrev no_flags : Flags
 no_flags = record { shared = false; oneshot = false; noauto = false }
+
+abbrev shared_oneshot : Flags
+shared_oneshot = record { shared = true; oneshot = true; noauto = false }
 
 -- a level line of one processor and one device, which is killed by a window of 3 unhandled ends
 abbrev small : Kind → LineDef
@@ -63,7 +73,9 @@ small kind =
       window = 3;
       limit = 2;
       log = 10000;
-      devices = record { dev = dev 1; line = line; kind = kind } ∷ [];
+      devices = record { dev = dev 1; line = line; kind = kind; held = false; forgets = false } ∷ [];
+      runs = [];
+      told = [];
       calls = (driver 1, calls.Request (dev 1) no_flags) ∷ (driver 1, calls.Ask (dev 1)) ∷ [];
     }
 
@@ -327,3 +339,215 @@ pub woken_ends :
     × (breaks woken_line (reverse woken_log) ≡ 2)
     × (allowed woken_line (reverse woken_log) ≡ 4)
 woken_ends = (refl, refl, refl, refl, refl)
+
+-- A thread that enables a line which it doesn't disable: device 1 wakes it in each round, though
+-- nobody asked device 1, and nobody serves device 2. Each end past the first kills the line at once,
+-- and each run of the thread starts it again. There are two calls that aren't asks, and three such
+-- starts here; with more rounds there are more.
+abbrev pub reopened_line : LineDef
+reopened_line = record (small kinds.Null) {
+  window = 1;
+  limit = 0;
+  devices = record { dev = dev 1; line = line; kind = kinds.Null; held = false; forgets = false }
+      ∷ record { dev = dev 2; line = line; kind = kinds.Stuck; held = false; forgets = false } ∷ [];
+  calls = (driver 1, calls.Request (dev 1) shared_oneshot) ∷ (driver 1, calls.Request (dev 2) shared_oneshot) ∷ (driver 1, calls.Ask (dev 2)) ∷ [];
+  runs = (dev 1, parts.Thread, calls.Enable) ∷ [];
+}
+
+abbrev pub reopened_log : List Entry
+reopened_log =
+    by.Driver (driver 1) (drivers.Request shared_oneshot links.Linked (opens.Started resends.No) (dev 1)) ∷
+    by.Driver (driver 1) (drivers.Request shared_oneshot links.Linked opens.No (dev 2)) ∷
+    by.Driver (driver 1) (drivers.Ask true (dev 2)) ∷
+    by.Cpu (cpu 0) (cpus.Take ways.Line takes.Handle) ∷
+    by.Cpu (cpu 0) (cpus.Begin (dev 1)) ∷
+    by.Cpu (cpu 0) (cpus.Return answers.Wake (dev 1) 0) ∷
+    by.Cpu (cpu 0) (cpus.Begin (dev 2)) ∷
+    by.Cpu (cpu 0) (cpus.Return answers.Nothing (dev 2) 0) ∷
+    by.Cpu (cpu 0) (cpus.End false false notes.Quiet) ∷
+    by.Thread (dev 1) threads.Begin ∷
+    by.ThreadCall (dev 1) (called.Enable enables.Unbalanced) ∷
+    by.Thread (dev 1) (threads.Return false 0) ∷
+    by.Thread (dev 1) (threads.Finish false true) ∷
+    by.Thread (dev 1) threads.Done ∷
+    by.Cpu (cpu 0) (cpus.Take ways.Line takes.Handle) ∷
+    by.Cpu (cpu 0) (cpus.Begin (dev 1)) ∷
+    by.Cpu (cpu 0) (cpus.Return answers.Wake (dev 1) 0) ∷
+    by.Cpu (cpu 0) (cpus.Begin (dev 2)) ∷
+    by.Cpu (cpu 0) (cpus.Return answers.Nothing (dev 2) 0) ∷
+    by.Cpu (cpu 0) (cpus.End false false notes.Killed) ∷
+    by.Thread (dev 1) threads.Begin ∷
+    by.ThreadCall (dev 1) (called.Enable (enables.Started resends.No)) ∷
+    by.Thread (dev 1) (threads.Return false 0) ∷
+    by.Thread (dev 1) (threads.Finish false false) ∷
+    by.Thread (dev 1) threads.Done ∷
+    by.Cpu (cpu 0) (cpus.Take ways.Line takes.Handle) ∷
+    by.Cpu (cpu 0) (cpus.Begin (dev 1)) ∷
+    by.Cpu (cpu 0) (cpus.Return answers.Wake (dev 1) 0) ∷
+    by.Cpu (cpu 0) (cpus.Begin (dev 2)) ∷
+    by.Cpu (cpu 0) (cpus.Return answers.Nothing (dev 2) 0) ∷
+    by.Cpu (cpu 0) (cpus.End false false notes.Killed) ∷
+    by.Thread (dev 1) threads.Begin ∷
+    by.ThreadCall (dev 1) (called.Enable (enables.Started resends.No)) ∷
+    by.Thread (dev 1) (threads.Return false 0) ∷
+    by.Thread (dev 1) (threads.Finish false false) ∷
+    by.Thread (dev 1) threads.Done ∷
+    by.Cpu (cpu 0) (cpus.Take ways.Line takes.Handle) ∷
+    by.Cpu (cpu 0) (cpus.Begin (dev 1)) ∷
+    by.Cpu (cpu 0) (cpus.Return answers.Wake (dev 1) 0) ∷
+    by.Cpu (cpu 0) (cpus.Begin (dev 2)) ∷
+    by.Cpu (cpu 0) (cpus.Return answers.Nothing (dev 2) 0) ∷
+    by.Cpu (cpu 0) (cpus.End false false notes.Killed) ∷
+    by.Thread (dev 1) threads.Begin ∷
+    by.ThreadCall (dev 1) (called.Enable (enables.Started resends.No)) ∷
+    by.Thread (dev 1) (threads.Return false 0) ∷
+    by.Thread (dev 1) (threads.Finish false false) ∷
+    by.Thread (dev 1) threads.Done ∷ []
+
+pub reopened_is_legal : IsLegal reopened_line reopened_log
+reopened_is_legal = (
+  refl,
+  (
+    refl,
+    (
+      refl,
+      (
+        refl,
+        (
+          refl,
+          (
+            refl,
+            (
+              refl,
+              (
+                refl,
+                (
+                  refl,
+                  (
+                    refl,
+                    (
+                      refl,
+                      (
+                        refl,
+                        (
+                          refl,
+                          (
+                            refl,
+                            (
+                              refl,
+                              (
+                                refl,
+                                (
+                                  refl,
+                                  (
+                                    refl,
+                                    (
+                                      refl,
+                                      (
+                                        refl,
+                                        (
+                                          refl,
+                                          (
+                                            refl,
+                                            (
+                                              refl,
+                                              (
+                                                refl,
+                                                (
+                                                  refl,
+                                                  (
+                                                    refl,
+                                                    (
+                                                      refl,
+                                                      (
+                                                        refl,
+                                                        (
+                                                          refl,
+                                                          (
+                                                            refl,
+                                                            (
+                                                              refl,
+                                                              (
+                                                                refl,
+                                                                (
+                                                                  refl,
+                                                                  (
+                                                                    refl,
+                                                                    (
+                                                                      refl,
+                                                                      (
+                                                                        refl,
+                                                                        (
+                                                                          refl,
+                                                                          (
+                                                                            refl,
+                                                                            (
+                                                                              refl,
+                                                                              (
+                                                                                refl,
+                                                                                (
+                                                                                  refl,
+                                                                                  (
+                                                                                    refl,
+                                                                                    (
+                                                                                      refl,
+                                                                                      (
+                                                                                        refl,
+                                                                                        (
+                                                                                          refl,
+                                                                                          (refl, (refl, tt)),
+                                                                                        ),
+                                                                                      ),
+                                                                                    ),
+                                                                                  ),
+                                                                                ),
+                                                                              ),
+                                                                            ),
+                                                                          ),
+                                                                        ),
+                                                                      ),
+                                                                    ),
+                                                                  ),
+                                                                ),
+                                                              ),
+                                                            ),
+                                                          ),
+                                                        ),
+                                                      ),
+                                                    ),
+                                                  ),
+                                                ),
+                                              ),
+                                            ),
+                                          ),
+                                        ),
+                                      ),
+                                    ),
+                                  ),
+                                ),
+                              ),
+                            ),
+                          ),
+                        ),
+                      ),
+                    ),
+                  ),
+                ),
+              ),
+            ),
+          ),
+        ),
+      ),
+    ),
+  ),
+)
+
+pub reopened_starts :
+    (other_calls reopened_line ≡ 2)
+    × (count_where starts_killed (reverse reopened_log) ≡ 3)
+    × (list_any is_enabling (run_script reopened_line (dev 1) parts.Thread) ≡ true)
+reopened_starts = (refl, refl, refl)
+
+-- the enabling device isn't a check device
+pub reopened_isnt_bounded : EnablesOnlyItsOwn reopened_line → ⊥
+reopened_isnt_bounded rules = let k : kinds.Null ≡ kinds.Check = (rules.threads (dev 1) refl).0 in cc

@@ -1,5 +1,5 @@
 -- The runs of threads, by the returns that woke them.
-use Rattle.std.proofs.Common.{◌≡◌, ℕ, ◌+◌, ◌≤◌, ◌==◌, Bool, true, false, not, ◌||◌, ◌&&◌, cond, List, [], ◌∷◌, refl, sym, subst, arith}
+use Rattle.std.proofs.Common.{◌≡◌, ℕ, ◌+◌, ◌≤◌, Bool, true, false, not, ◌||◌, ◌&&◌, cond, List, [], ◌∷◌, refl, sym, subst, arith}
 use Rattle.std.specs.List.{list_any}
 use Rattle.irq_base.specs.declared.numbers.DevNo.{DevNo}
 use Rattle.irq_base.specs.declared.lines.LineDef.{LineDef}
@@ -8,34 +8,16 @@ use Rattle.irq_base.specs.declared.entries.Entry.TheVariants as by
 use Rattle.irq_base.specs.declared.entries.CpuEntry.TheVariants as cpus
 use Rattle.irq_base.specs.declared.entries.ThreadEntry.TheVariants as threads
 use Rattle.irq_base.specs.declared.entries.DriverEntry.TheVariants as drivers
+use Rattle.irq_base.specs.declared.entries.CallEntry.{CallEntry}
+use Rattle.irq_base.specs.declared.entries.CallEntry.TheVariants as called
 use Rattle.irq_model.specs.Places.{since, count_of}
-use Rattle.irq_model.specs.Kinds.{is_wake, wakes, returns_wake, is_thread_begin, is_thread_return, is_finish, is_done}
+use Rattle.irq_model.specs.Kinds.{wakes, is_thread_begin, is_thread_return, is_finish, is_done}
 use Rattle.irq_model.specs.Threads.{is_woken, is_running}
 use Rattle.irq_model.specs.Legal.{IsDue, IsLegalPast}
 use Rattle.irq_steps.proofs.Same.{dev_from_same}
 use Rattle.irq_laws.proofs.ImpliesThread.{has_returned, has_finished, thread_begin_due, thread_return_due, finish_due, done_due}
 use Rattle.irq_storms.specs.Judged.{one_if}
-use Rattle.irq_storms.specs.Tests.{is_any_return}
-use Rattle.irq_storms.proofs.Counting.{count_ext, count_imply, counts_by_key}
 use Rattle.irq_storms.proofs.Running.{StaysBelow, runs_below}
-
--- ---- entries of threads, of any device
-
-abbrev pub is_any_thread_begin : Entry → Bool
-is_any_thread_begin (by.Thread dev threads.Begin) = true
-is_any_thread_begin _ = false
-
-abbrev pub is_any_thread_return : Entry → Bool
-is_any_thread_return (by.Thread dev (threads.Return handled served)) = true
-is_any_thread_return _ = false
-
-abbrev pub is_any_finish : Entry → Bool
-is_any_finish (by.Thread dev (threads.Finish kept unmask)) = true
-is_any_finish _ = false
-
-abbrev pub is_any_done : Entry → Bool
-is_any_done (by.Thread dev threads.Done) = true
-is_any_done _ = false
 
 -- ---- what an entry of d's thread says when it is due
 
@@ -50,7 +32,7 @@ begin_tells def d e past due h = cc
 pub return_tells : (def : LineDef) (d : DevNo) (e : Entry) (past : List Entry) → IsDue def e past
     → is_thread_return d e ≡ true → (is_running past d ≡ true) × (has_returned past d ≡ false)
 return_tells def d (by.Thread x (threads.Return handled served)) past due h =
-    let u = thread_return_due _ def x served past due in
+    let u = thread_return_due def x handled served past due in
     let same = sym (dev_from_same d x h) in
     (subst (λ (y : DevNo). is_running past y ≡ true) same u.running, subst (λ (y : DevNo). has_returned past y ≡ false) same u.not_returned)
 return_tells def d e past due h = cc
@@ -104,7 +86,7 @@ any_since : (p : Entry → Bool) (b : Bool) (e : Entry) (xs : List Entry) → li
 any_since p true e xs = refl
 any_since p false e xs = refl
 
-returned_since : (d : DevNo) (e : Entry) (past : List Entry)
+pub returned_since : (d : DevNo) (e : Entry) (past : List Entry)
     → has_returned (e ∷ past) d ≡ cond (is_thread_begin d e) false (is_thread_return d e || has_returned past d)
 returned_since d e past = any_since (is_thread_return d) (is_thread_begin d e) e (since (is_thread_begin d) past)
 
@@ -169,8 +151,17 @@ dones_of def d = runs_below def (is_done d) (is_thread_begin d) (λ past. one_if
 
 -- ---- the counts of all devices
 
--- the number of the device that an entry of a run names
+-- the number of the device that an entry names
+abbrev pub call_key : CallEntry → ℕ
+call_key (called.Wake woken dev) = dev.0
+call_key (called.Arm makes dev) = dev.0
+call_key (called.Serve dev served) = dev.0
+call_key _ = 0
+
 abbrev pub dev_key : Entry → ℕ
+dev_key (by.CpuCall cpu call) = call_key call
+dev_key (by.ThreadCall dev call) = call_key call
+dev_key (by.DriverCall driver call) = call_key call
 dev_key (by.Driver driver (drivers.Ask makes dev)) = dev.0
 dev_key (by.Cpu cpu (cpus.Begin dev)) = dev.0
 dev_key (by.Cpu cpu (cpus.Return answer dev served)) = dev.0
@@ -179,59 +170,3 @@ dev_key (by.Thread dev (threads.Return handled served)) = dev.0
 dev_key (by.Thread dev (threads.Finish kept unmask)) = dev.0
 dev_key (by.Thread dev threads.Done) = dev.0
 dev_key _ = 0
-
-pub swapped : (a b : Bool) → (a && b) ≡ (b && a)
-swapped a b = grind arith
-
-key_wakes : (k : ℕ) (e : Entry) → wakes (record { 0 = k }) e ≡ (returns_wake e && (k == dev_key e))
-key_wakes k (by.Cpu cpu (cpus.Return answer dev served)) = swapped (k == dev.0) (is_wake answer)
-key_wakes k e = refl
-
-key_begin : (k : ℕ) (e : Entry) → is_thread_begin (record { 0 = k }) e ≡ (is_any_thread_begin e && (k == dev_key e))
-key_begin k (by.Thread dev threads.Begin) = refl
-key_begin k e = refl
-
-key_return : (k : ℕ) (e : Entry) → is_thread_return (record { 0 = k }) e ≡ (is_any_thread_return e && (k == dev_key e))
-key_return k (by.Thread dev (threads.Return handled served)) = refl
-key_return k e = refl
-
-key_finish : (k : ℕ) (e : Entry) → is_finish (record { 0 = k }) e ≡ (is_any_finish e && (k == dev_key e))
-key_finish k (by.Thread dev (threads.Finish kept unmask)) = refl
-key_finish k e = refl
-
-key_done : (k : ℕ) (e : Entry) → is_done (record { 0 = k }) e ≡ (is_any_done e && (k == dev_key e))
-key_done k (by.Thread dev threads.Done) = refl
-key_done k e = refl
-
-plain : (a b m p q : ℕ) → a ≡ p → b ≡ q → a + m ≤ b → p ≤ q
-plain a b m p q h i j = omega (arith, h, i, j)
-
-pub thread_begins_past : (def : LineDef) (past : List Entry) → IsLegalPast def past → count_of is_any_thread_begin past ≤ count_of is_any_return past
-thread_begins_past def past legal =
-    let all = counts_by_key dev_key past is_any_thread_begin returns_wake
-    (λ k. plain _ _ _ _ _ (count_ext _ _ past (key_begin k)) (count_ext _ _ past (key_wakes k))
-    (begins_of def (record { 0 = k }) past legal)) in
-    let some = count_imply returns_wake is_any_return past is_return in
-    omega (arith, all, some)
-  where
-    is_return : (e : Entry) → returns_wake e ≡ true → is_any_return e ≡ true
-    is_return (by.Cpu cpu (cpus.Return answer dev served)) h = refl
-    is_return e h = cc
-
-pub thread_returns_past : (def : LineDef) (past : List Entry) → IsLegalPast def past → count_of is_any_thread_return past ≤ count_of is_any_thread_begin past
-thread_returns_past def past legal =
-    counts_by_key dev_key past is_any_thread_return is_any_thread_begin
-    (λ k. plain _ _ _ _ _ (count_ext _ _ past (key_return k)) (count_ext _ _ past (key_begin k))
-    (returns_of def (record { 0 = k }) past legal))
-
-pub finishes_past : (def : LineDef) (past : List Entry) → IsLegalPast def past → count_of is_any_finish past ≤ count_of is_any_thread_begin past
-finishes_past def past legal =
-    counts_by_key dev_key past is_any_finish is_any_thread_begin
-    (λ k. plain _ _ _ _ _ (count_ext _ _ past (key_finish k)) (count_ext _ _ past (key_begin k))
-    (finishes_of def (record { 0 = k }) past legal))
-
-pub dones_past : (def : LineDef) (past : List Entry) → IsLegalPast def past → count_of is_any_done past ≤ count_of is_any_thread_begin past
-dones_past def past legal =
-    counts_by_key dev_key past is_any_done is_any_thread_begin
-    (λ k. plain _ _ _ _ _ (count_ext _ _ past (key_done k)) (count_ext _ _ past (key_begin k))
-    (dones_of def (record { 0 = k }) past legal))

@@ -5,10 +5,10 @@ use Rattle.std.specs.Prelude.{if◌then◌else◌, List, [], ◌∷◌, nat_lt}
 use Rattle.irq_base.specs.declared.lines.LineDef.{LineDef}
 use Rattle.irq_base.specs.declared.entries.Entry.{Entry}
 use Rattle.irq_model.specs.Places.{stands, count_of}
-use Rattle.irq_model.specs.Kinds.{is_kill, is_start}
+use Rattle.irq_model.specs.Kinds.{is_kill, is_start, is_linked_request}
 use Rattle.irq_model.specs.Rounds.{has_flow}
 use Rattle.irq_model.specs.Spurious.{Counts, now, round_wakes, round_handles, counts_of}
-use Rattle.irq_storms.specs.Tests.{is_end, is_renewal}
+use Rattle.irq_storms.specs.Tests.{is_end, is_moment, is_renewal, is_by_any_driver}
 
 -- a mark as a number
 abbrev pub one_if : Bool → ℕ
@@ -87,6 +87,20 @@ clearing_ends def past = count_where (ends_clearing def) past
 abbrev pub breaks : LineDef → List Entry → ℕ
 breaks def past = handled_ends def past + count_of is_renewal past
 
+-- an entry after which the window allows more again, though no end was judged handled: a moment, a
+-- linked request, and a start of a line that was killed
+abbrev pub renews : Entry → List Entry → Bool
+renews e past =
+    is_moment e || (is_linked_request e || (is_start e && stands is_kill is_start past))
+
+-- of these, the starts by runs of a line that was killed, and not started since
+abbrev pub starts_killed : Entry → List Entry → Bool
+starts_killed e past =
+    not (is_by_any_driver e) && (is_start e && stands is_kill is_start past)
+
+abbrev pub renewals : List Entry → ℕ
+renewals past = count_where renews past
+
 -- what the next ends can be judged handled by: a handled return in the current round, and threads
 -- that served since the last look
 abbrev pub serving_marks : LineDef → List Entry → ℕ
@@ -96,10 +110,14 @@ serving_marks def past =
 
 -- ---- what the open window allows
 
+-- the last unhandled end was long ago: the next one begins the count anew
+abbrev pub is_late : ℕ → Counts → Bool
+is_late at c = nat_lt 100 (at - c.last_unhandled)
+
 -- the next unhandled end begins the count anew, or some end of the window wasn't counted as
 -- unhandled
 abbrev pub is_forgiving : ℕ → Counts → Bool
-is_forgiving at c = nat_lt 100 (at - c.last_unhandled) || nat_lt c.irqs_unhandled c.irq_count
+is_forgiving at c = is_late at c || nat_lt c.irqs_unhandled c.irq_count
 
 -- how many ends judged nothing may come before the line is killed
 abbrev pub allowance : ℕ → ℕ → Counts → ℕ

@@ -1,3 +1,4 @@
 pub mod Tests
 pub mod Storms
 pub mod Judged
+pub mod Lengths

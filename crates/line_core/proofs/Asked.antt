@@ -5,6 +5,7 @@ use Rattle.irq_base.specs.declared.numbers.DriverNo.{DriverNo}
 use Rattle.irq_line.specs.Queries.{IsTaker, IsLowestThread, flow_of, blocks_of}
 use Rattle.irq_line.specs.Seen.{LineSeen, IsSound}
 use Rattle.line_scripts.specs.Rows.{RowSeen}
+use Rattle.run_scripts.specs.Runs.{RunsSeen}
 use Rattle.line_marks.specs.Line.{IsLine}
 use Rattle.line_marks.specs.State.{StateSeen, state_of}
 use Rattle.line_state.specs.Seen.{taker_of, lowest_due}
@@ -12,18 +13,20 @@ use Rattle.line_core.proofs.Blocked.{blocks_are}
 use Rattle.line_core.proofs.Queries.{IsLowest, is_taker, is_lowest}
 use Rattle.line_core.specs.Blocking.{blocks_by}
 
-module _ (line : LineSeen) (s : StateSeen) (scripts : List (DriverNo × RowSeen)) (is : IsLine line.def line.entries s scripts) where
+module _ (line : LineSeen) (s : StateSeen) (scripts : List (DriverNo × RowSeen)) (runs : RunsSeen)
+    (is : IsLine line.def line.entries s scripts runs) where
   pub flow_told : s.desc.flow ≡ flow_of line
   flow_told = ap (λ (x : StateSeen). x.desc.flow) is.state
 
   pub taker_told : IsTaker line (taker_of s)
-  taker_told = subst (λ (x : StateSeen). IsTaker line (taker_of x)) (sym is.state) (is_taker line.def (reverse line.entries) is.valid is.legal)
+  taker_told = subst (λ (x : StateSeen). IsTaker line (taker_of x)) (sym is.state)
+      (is_taker line.def (reverse line.entries) is.valid is.valid_runs is.waits is.legal)
 
   lowest_at : (o : Option DevNo) → lowest_due (state_of line.def (reverse line.entries)) ≡ o → IsLowestThread line o
-  lowest_at o found = seen o (subst (λ (x : Option DevNo). IsLowest line.def (reverse line.entries) is.valid is.legal x)
-      found (is_lowest line.def (reverse line.entries) is.valid is.legal))
+  lowest_at o found = seen o (subst (λ (x : Option DevNo). IsLowest line.def (reverse line.entries) is.valid is.valid_runs is.waits is.legal x)
+      found (is_lowest line.def (reverse line.entries) is.valid is.valid_runs is.waits is.legal))
     where
-      seen : (x : Option DevNo) → IsLowest line.def (reverse line.entries) is.valid is.legal x → IsLowestThread line x
+      seen : (x : Option DevNo) → IsLowest line.def (reverse line.entries) is.valid is.valid_runs is.waits is.legal x → IsLowestThread line x
       seen None h = h
       seen (Some l) h = h
 
@@ -35,4 +38,4 @@ module _ (line : LineSeen) (s : StateSeen) (scripts : List (DriverNo × RowSeen)
   blocks_told = ap blocks_by is.state ∙ sym (blocks_are line.def (reverse line.entries) is.valid is.legal)
 
   pub sound : IsSound line
-  sound = record { valid = is.valid; legal = is.legal; log = is.room }
+  sound = record { valid = is.valid; runs = is.valid_runs; waits = is.waits; legal = is.legal; log = is.room }

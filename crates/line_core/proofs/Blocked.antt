@@ -3,10 +3,10 @@ use Rattle.std.proofs.Common.{◌≡◌, ℕ, ◌+◌, Bool, true, false, not, �
 use Rattle.std.proofs.lemmas.Bool.Decides.{nat_tests}
 use Rattle.std.specs.List.{list_any}
 use Rattle.irq_base.specs.declared.devices.DeviceDef.{DeviceDef}
+use Rattle.irq_base.specs.declared.entries.Actor.{Actor}
 use Rattle.irq_base.specs.declared.entries.Entry.{Entry}
 use Rattle.irq_base.specs.declared.lines.LineDef.{LineDef}
 use Rattle.irq_base.specs.declared.numbers.DevNo.{DevNo}
-use Rattle.irq_base.specs.declared.numbers.DriverNo.{DriverNo}
 use Rattle.irq_laws.proofs.BlockLaws.{freed_is}
 use Rattle.irq_laws.proofs.KeptAlways.{kept}
 use Rattle.irq_laws.proofs.RestKept.{none_freed}
@@ -23,7 +23,7 @@ use Rattle.act_thread.specs.Steps.{is_in_run}
 use Rattle.act_thread.specs.Threads.{active_in}
 use Rattle.irq_laws.specs.Blocks.{is_freed_at_work}
 use Rattle.irq_line.specs.Queries.{blocks_at}
-use Rattle.line_marks.proofs.DriversDueIs.{idle_is}
+use Rattle.line_marks.proofs.CallsDue.{idle_is}
 use Rattle.line_marks.proofs.FreeingFollows.{mutex_is}
 use Rattle.line_marks.proofs.Known.{in_run}
 use Rattle.line_marks.specs.State.{state_of}
@@ -70,7 +70,7 @@ module _ (def : LineDef) (past : List Entry) (valid : IsValid def) (legal : IsLe
   abbrev freed_at_work : DevNo → Bool
   freed_at_work d = is_being_freed past d && at_work d
 
-  freed_told : (o : Option (DriverNo × DevNo)) → freeing past ≡ o → is_freed_at_work def past ≡ freed_in (threads_of def past) o
+  freed_told : (o : Option (Actor × DevNo)) → freeing past ≡ o → is_freed_at_work def past ≡ freed_in (threads_of def past) o
   freed_told None none =
       let free : holds_mutex past ≡ false = mutex_is def past valid legal ∙ ap is_some none in
       none_any (λ (x : DeviceDef). freed_at_work x.dev) def.devices

@@ -4,6 +4,7 @@ use Rattle.std.proofs.Common.{Some, None, List, [], ◌∷◌, option_map, refl,
 use Rattle.std.specs.List.{slice_get}
 use Rattle.irq_base.specs.declared.calls.Call.{Call}
 use Rattle.irq_base.specs.declared.devices.DeviceDef.{DeviceDef}
+use Rattle.irq_base.specs.declared.entries.Actor.{Actor}
 use Rattle.irq_base.specs.declared.entries.Actor.TheVariants as actors
 use Rattle.irq_base.specs.declared.entries.Entry.{Entry}
 use Rattle.irq_base.specs.declared.lines.LineDef.{LineDef}
@@ -31,39 +32,21 @@ use Rattle.line_obstacles.specs.Obstacles.{in_way_of_cpu, in_way_of_thread, is_a
 use Rattle.line_obstacles.specs.Obstacles.{lowest_that, waited_for}
 use Rattle.line_obstacles.specs.declared.obstacle.Obstacle.TheVariants as obstacles
 use Rattle.line_scripts.specs.Rows.{RowSeen}
+use Rattle.run_scripts.specs.Runs.{RunsSeen}
 use Rattle.line_marks.proofs.CellFollows.{presents_is}
-use Rattle.line_marks.proofs.DriversDueIs.{idle_is}
+use Rattle.line_marks.proofs.CallsDue.{idle_is}
 use Rattle.line_marks.proofs.DueIs.{call_is}
+use Rattle.line_marks.proofs.Known.{in_run}
 use Rattle.line_marks.proofs.ThreadsDue.{thread_due_is}
-use Rattle.line_marks.specs.Due.{due_at_stage, due_of_row}
+use Rattle.line_marks.specs.Due.{due_of_row}
 use Rattle.line_marks.specs.Line.{IsLine}
 use Rattle.line_marks.specs.Next.{due_call_in}
 use Rattle.line_marks.specs.State.{StateSeen, state_of}
-use Rattle.line_marks.specs.Threads.{thread_of, threads_of, stage_by, has_returned, has_finished}
-use Rattle.line_core.specs.InWay.{busy_in, by_cpu, by_freed, by_row, by_stage, by_thread, by_wait}
-use Rattle.line_core.specs.InWay.{flow_by, unless_target}
+use Rattle.line_marks.specs.Threads.{thread_of, threads_of, has_returned, has_finished}
+use Rattle.line_core.specs.InWay.{busy_in, by_cpu, by_freed, by_row, by_thread, by_wait}
+use Rattle.line_core.specs.InWay.{unless_target}
 
 -- ---- threads
-
--- a run that is over has its next entry, unless it is to be finished within a flow
-over : (x y : Entry) (oneshot : Bool) (f : Option CpuNo)
-    → cond (is_some (cond oneshot (cond (is_some f) None (Some x)) (Some y))) None (option_map obstacles.Flow f)
-    ≡ cond oneshot (option_map obstacles.Flow f) None
-over x y true (Some c) = refl
-over x y true None = refl
-over x y false f = refl
-
-staged : (s : StateSeen) (d : DevNo) (woken held run returned finished : Bool)
-    → cond run (cond (is_some (due_at_stage (stage_by run returned finished) s d (record {
-      woken = woken;
-      stage = stage_by run returned finished;
-      held = held;
-    })))
-    None (flow_by s)) None ≡ by_stage s (stage_by run returned finished)
-staged s d woken held false returned finished = refl
-staged s d woken held true false finished = refl
-staged s d woken held true true false = over _ _ s.desc.oneshot s.desc.flow
-staged s d woken held true true true = refl
 
 -- ---- the lowest of some devices
 
@@ -105,26 +88,27 @@ module _ (def : LineDef) (past : List Entry) (valid : IsValid def) (legal : IsLe
       (cond (is_masked def past) (Some obstacles.Masked) (Some obstacles.NoSignal)))
       (sym (presents_is def past valid legal))
 
-  of_thread : (d : DevNo) → in_way_of_thread def past d ≡ by_thread (state_of def past) d
+  of_thread : (d : DevNo) → in_way_of_thread def past d ≡ by_thread def (state_of def past) d
   of_thread d = by_test (has_device def d) refl
     where
       by_test : (b : Bool) → has_device def d ≡ b
           → cond (b && is_running past d) (cond (is_some (next_of_thread def d past)) None (flow_in_way def past)) None
-          ≡ by_thread (state_of def past) d
-      by_test false gone = sym (ap (by_row (state_of def past)) (at_none (thread_of past) def.devices d gone))
+          ≡ by_thread def (state_of def past) d
+      by_test false gone = sym (ap (by_row def (state_of def past) d) (at_none (thread_of past) def.devices d gone))
       by_test true there =
           let row : at (threads_of def past) d ≡ Some (thread_of past d) = at_device (thread_of past) def.devices d there in
+          let run = in_run (is_running past d) (has_returned past d) (has_finished past d) in
           ap (λ (o : Option Entry). cond (is_running past d) (cond (is_some o) None (flow_in_way def past)) None)
-          (thread_due_is def past d valid legal ∙ ap (due_of_row (state_of def past) d) row)
-          ∙ (staged (state_of def past) d (is_woken past d) (thread_of past d).held (is_running past d) (has_returned past d) (has_finished past d)
-          ∙ sym (ap (by_row (state_of def past)) row))
+          (thread_due_is def past d valid legal ∙ ap (due_of_row def (state_of def past) d) row)
+          ∙ (ap (λ b. cond b (cond (is_some (due_of_row def (state_of def past) d (Some (thread_of past d)))) None (flow_in_way def past)) None) (sym run)
+          ∙ sym (ap (by_row def (state_of def past) d) row))
 
   busy : (d : DevNo) → is_at_work past d ≡ busy_in (state_of def past) d
   busy d = not_both (is_woken past d) (is_running past d) ∙ ap not (sym (idle_is def past valid legal d))
 
-  of_freed : (o : Option (DriverNo × DevNo)) → freed_in_way past o ≡ by_freed (state_of def past) o
+  of_freed : (o : Option (Actor × DevNo)) → freed_in_way past o ≡ by_freed (state_of def past) o
   of_freed None = refl
-  of_freed (Some (driver, d)) = ap (λ b. cond b (Some (obstacles.Thread d)) None) (busy d)
+  of_freed (Some (maker, d)) = ap (λ b. cond b (Some (obstacles.Thread d)) None) (busy d)
 
   of_wait : (w : WaitFor) → waited_for def past w ≡ by_wait (state_of def past) def.devices w
   of_wait waits.Nothing = refl
@@ -133,15 +117,16 @@ module _ (def : LineDef) (past : List Entry) (valid : IsValid def) (legal : IsLe
   of_wait waits.Mutex = refl
   of_wait waits.Freed = of_freed (freeing past)
 
-module _ (line : LineSeen) (s : StateSeen) (scripts : List (DriverNo × RowSeen)) (is : IsLine line.def line.entries s scripts) where
+module _ (line : LineSeen) (s : StateSeen) (scripts : List (DriverNo × RowSeen)) (runs : RunsSeen)
+    (is : IsLine line.def line.entries s scripts runs) where
   abbrev past : List Entry
   past = reverse line.entries
 
   pub cpu_told : (c : CpuNo) → by_cpu s c ≡ in_way line.def past (actors.Cpu c)
   cpu_told c = ap (λ (x : StateSeen). by_cpu x c) is.state ∙ sym (of_cpu line.def past is.valid is.legal c)
 
-  pub thread_told : (d : DevNo) → by_thread s d ≡ in_way line.def past (actors.Thread d)
-  thread_told d = ap (λ (x : StateSeen). by_thread x d) is.state ∙ sym (of_thread line.def past is.valid is.legal d)
+  pub thread_told : (d : DevNo) → by_thread line.def s d ≡ in_way line.def past (actors.Thread d)
+  thread_told d = ap (λ (x : StateSeen). by_thread line.def x d) is.state ∙ sym (of_thread line.def past is.valid is.legal d)
 
   pub no_call_in_way : (r : DriverNo) → due_call_in scripts r ≡ None → None ≡ in_way line.def past (actors.Driver r)
   no_call_in_way r none = sym (ap (in_way_of_call line.def past) (call_is line.def past scripts is.calls is.at r ∙ none))

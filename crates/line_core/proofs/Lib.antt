@@ -6,5 +6,5 @@ pub mod Blocked
 pub mod Asked
 pub mod Stepping
 pub mod Steps
-pub mod Threaded
+pub mod RunsGo
 pub mod InWay

@@ -1,10 +1,14 @@
 -- What is asked of a line is what its state says.
-use Rattle.std.proofs.Common.{◌≡◌, ◌↔◌, ◌≤◌, Bool, true, false, not, ◌||◌, ◌&&◌, cond, is_some, Option, Some, None, List, refl, sym, ap, subst, ◌∙◌}
+use Rattle.std.proofs.Common.{◌≡◌, ◌↔◌, ◌≤◌, ℕ, option_map, Bool, true, false, not, ◌||◌, ◌&&◌, cond, is_some, Option}
+use Rattle.std.proofs.Common.{Some, None, List, refl, sym, ap, subst, ◌∙◌}
 use Rattle.std.proofs.lemmas.Bool.{false≢true}
 use Rattle.std.proofs.lemmas.Option.{none-some, same_Some}
 use Rattle.std.specs.Prelude.{IsTrue, IsSome}
 use Rattle.irq_base.specs.Cell.{signals}
+use Rattle.irq_base.specs.declared.calls.Call.{Call}
+use Rattle.irq_base.specs.declared.devices.Part.TheVariants as parts
 use Rattle.irq_base.specs.declared.entries.Actor.TheVariants as actors
+use Rattle.irq_base.specs.declared.entries.CallEntry.{CallEntry}
 use Rattle.irq_base.specs.declared.entries.Entry.{Entry}
 use Rattle.irq_base.specs.declared.entries.Entry.TheVariants as by
 use Rattle.irq_base.specs.declared.entries.CpuEntry.TheVariants as cpus
@@ -18,30 +22,45 @@ use Rattle.irq_model.specs.Legal.{IsLegalPast}
 use Rattle.irq_model.specs.Next.{next_past}
 use Rattle.irq_model.specs.Rounds.{is_cpu}
 use Rattle.irq_model.specs.Signal.{lowest_in}
+use Rattle.irq_model.specs.Lines.{has_device}
+use Rattle.irq_model.specs.Runs.{due_in_run}
+use Rattle.irq_model.specs.Threads.{is_running, is_woken}
 use Rattle.irq_model.specs.Valid.{IsValid}
+use Rattle.irq_model.specs.ValidRuns.{HasValidRuns, NeverWaits}
 use Rattle.irq_steps.proofs.Same.{same_self_cpu, cpu_from_same}
 use Rattle.act_list.specs.Lists.{first_left}
 use Rattle.act_thread.specs.Steps.{could_step, steps_at, is_returned_stage}
 use Rattle.act_thread.specs.Threads.{row_passes}
-use Rattle.act_thread.specs.declared.rows.Stage.{Stage}
-use Rattle.act_thread.specs.declared.rows.Stage.TheVariants as stages
 use Rattle.act_thread.specs.declared.rows.ThreadRow.{ThreadRow}
 use Rattle.device_table.proofs.Lowest.{own_by}
+use Rattle.device_table.proofs.Tables.{at_device, at_none}
 use Rattle.line_core.proofs.Lowest.{Below, least, passes}
+use Rattle.line_core.proofs.RunsGo.{run_goes}
 use Rattle.device_table.specs.Rows.{at, lowest_where}
 use Rattle.irq_line.specs.Queries.{is_some_take}
 use Rattle.line_marks.proofs.CpuDueIs.{cpu_due_is}
 use Rattle.line_marks.proofs.DueIs.{thread_is}
-use Rattle.line_marks.specs.Threads.{threads_of, thread_of}
-use Rattle.line_marks.specs.CpuDue.{in_flow_by, begin_or_end_by, next_take_by, take_by}
-use Rattle.line_marks.specs.Due.{due_of_row, due_at_stage}
+use Rattle.line_marks.proofs.RunsAre.{thread_due_is}
+use Rattle.line_marks.specs.Calls.{step_by}
+use Rattle.line_marks.specs.Runs.{due_in_run_at}
+use Rattle.line_marks.specs.Threads.{threads_of, thread_of, stage_by, has_returned, has_finished}
+use Rattle.line_marks.specs.CpuDue.{in_flow_by, begin_or_end_by, handler_or_return_by, next_take_by, take_by}
+use Rattle.line_marks.specs.Due.{call_or_return_by, due_of_row, due_at_stage}
 use Rattle.line_marks.specs.State.{StateSeen, state_of}
 use Rattle.line_state.specs.Seen.{taker_of, unless_in_flow, lowest_due, may_go_on}
 
 -- ---- takes
 
-flow_takes_none : (def : LineDef) (s : StateSeen) (c : CpuNo) (o : Option DevNo) → is_take (in_flow_by def s c o) ≡ false
-flow_takes_none def s c (Some d) = refl
+flow_takes_none : (def : LineDef) (s : StateSeen) (c : CpuNo) (o : Option DevNo) → is_some_take (in_flow_by def s c o) ≡ false
+flow_takes_none def s c (Some d) = by_due (due_in_run_at def s parts.Primary d)
+  where
+    by_step : (o : Option CallEntry) → is_some_take (option_map (by.CpuCall c) o) ≡ false
+    by_step None = refl
+    by_step (Some call) = refl
+
+    by_due : (o : Option (Call × ℕ)) → is_some_take (handler_or_return_by def s c d o) ≡ false
+    by_due None = refl
+    by_due (Some due) = by_step (step_by def s due)
 flow_takes_none def s c None = by_left (first_left s.list.begun s.list.actions)
   where
     by_left : (o : Option DevNo) → is_take (begin_or_end_by def s c o) ≡ false
@@ -57,7 +76,7 @@ take_told s c true false false = refl
 take_told s c false line soft = refl
 
 due_told : (def : LineDef) (s : StateSeen) (c : CpuNo) (b : Bool) → is_cpu c s.desc.flow ≡ b
-    → is_some_take (cond b (Some (in_flow_by def s c s.round.working)) (next_take_by s c))
+    → is_some_take (cond b (in_flow_by def s c s.round.working) (next_take_by s c))
     ≡ (not b && (is_cpu c (lowest_in s.aim.cpus s.aim.mask) && (signals s.cell || s.desc.soft)))
 due_told def s c true is = flow_takes_none def s c s.round.working
 due_told def s c false is = take_told s c (is_cpu c (lowest_in s.aim.cpus s.aim.mask)) (signals s.cell) s.desc.soft
@@ -108,17 +127,6 @@ wakes_so : (w : Bool) (x : Entry) → is_some (cond w (Some x) None) ≡ w
 wakes_so true x = refl
 wakes_so false x = refl
 
-by_stage : (s : StateSeen) (d : DevNo) (r : ThreadRow) (st : Stage)
-    → is_some (due_at_stage st s d r) ≡ (steps_at r.woken st || (may_go_on s.desc && is_returned_stage st))
-by_stage s d r stages.Idle = wakes_so r.woken (by.Thread d threads.Begin) ∙ or_none r.woken (may_go_on s.desc)
-by_stage s d r stages.Begun = refl
-by_stage s d r stages.Returned = goes_so s.desc.oneshot (is_some s.desc.flow) _ _
-by_stage s d r stages.Finished = refl
-
-row_due : (s : StateSeen) (d : DevNo) (o : Option ThreadRow) → is_some (due_of_row s d o) ≡ row_passes (could_step (may_go_on s.desc)) false o
-row_due s d None = refl
-row_due s d (Some r) = by_stage s d r r.stage
-
 -- a device that passes has a row that passes
 record Passing (p : ThreadRow → Bool) (o : Option ThreadRow) : Type 0 where
   row : ThreadRow
@@ -129,7 +137,7 @@ passing : (p : ThreadRow → Bool) (o : Option ThreadRow) → row_passes p false
 passing p None h = absurd (false≢true h)
 passing p (Some r) h = record { row = r; is = refl; so = h }
 
-module _ (def : LineDef) (past : List Entry) (valid : IsValid def) (legal : IsLegalPast def past) where
+module _ (def : LineDef) (past : List Entry) (valid : IsValid def) (runs : HasValidRuns def) (waits : NeverWaits def) (legal : IsLegalPast def past) where
   pub is_taker : (c : CpuNo) → (taker_of (state_of def past) ≡ Some c) ↔ IsTrue (is_some_take (next_past def past (actors.Cpu c)))
   is_taker c =
       let told : is_some_take (next_past def past (actors.Cpu c))
@@ -139,9 +147,41 @@ module _ (def : LineDef) (past : List Entry) (valid : IsValid def) (legal : IsLe
       (lowest_in (state_of def past).aim.cpus (state_of def past).aim.mask) in
       (λ h. told ∙ both.0 h, λ h. both.1 (sym told ∙ h))
 
+  -- a run that hasn't returned goes on
+  run_due : (d : DevNo) → (o : Option (Call × ℕ)) → due_in_run def parts.Thread d past ≡ o
+      → is_some (call_or_return_by def (state_of def past) d o) ≡ true
+  run_due d None is = refl
+  run_due d (Some due) is = some_step (step_by def (state_of def past) due) (run_goes def past (state_of def past) parts.Thread d due runs waits is)
+    where
+      some_step : (o : Option CallEntry) → is_some o ≡ true → is_some (option_map (by.ThreadCall d) o) ≡ true
+      some_step None h = h
+      some_step (Some call) h = refl
+
+  by_stage : (d : DevNo) (r t f : Bool) → has_device def d ≡ true → has_returned past d ≡ t
+      → is_some (due_at_stage def (stage_by r t f) (state_of def past) d (thread_of past d))
+      ≡ (steps_at (is_woken past d) (stage_by r t f) || (may_go_on (state_of def past).desc && is_returned_stage (stage_by r t f)))
+  by_stage d false t f there is = wakes_so (is_woken past d) (by.Thread d threads.Begin) ∙ or_none (is_woken past d) (may_go_on (state_of def past).desc)
+  by_stage d true false f there is =
+      ap (λ (o : Option (Call × ℕ)). is_some (call_or_return_by def (state_of def past) d o)) (thread_due_is def past d there is)
+      ∙ run_due d (due_in_run def parts.Thread d past) refl
+  by_stage d true true false there is = goes_so (state_of def past).desc.oneshot (is_some (state_of def past).desc.flow) _ _
+  by_stage d true true true there is = refl
+
   due_so : (d : DevNo) → is_some (next_past def past (actors.Thread d))
       ≡ row_passes (could_step (may_go_on (state_of def past).desc)) false (at (threads_of def past) d)
-  due_so d = ap is_some (thread_is def past d valid legal) ∙ row_due (state_of def past) d (at (threads_of def past) d)
+  due_so d = ap is_some (thread_is def past d valid legal) ∙ by_test (has_device def d) refl
+    where
+      by_test : (b : Bool) → has_device def d ≡ b → is_some (due_of_row def (state_of def past) d (at (threads_of def past) d))
+          ≡ row_passes (could_step (may_go_on (state_of def past).desc)) false (at (threads_of def past) d)
+      by_test false gone =
+          let row : at (threads_of def past) d ≡ None = at_none (thread_of past) def.devices d gone in
+          ap (λ (o : Option ThreadRow). is_some (due_of_row def (state_of def past) d o)) row
+          ∙ sym (ap (row_passes (could_step (may_go_on (state_of def past).desc)) false) row)
+      by_test true there =
+          let row : at (threads_of def past) d ≡ Some (thread_of past d) = at_device (thread_of past) def.devices d there in
+          ap (λ (o : Option ThreadRow). is_some (due_of_row def (state_of def past) d o)) row
+          ∙ (by_stage d (is_running past d) (has_returned past d) (has_finished past d) there refl
+          ∙ sym (ap (row_passes (could_step (may_go_on (state_of def past).desc)) false) row))
 
   abbrev pub IsDueThread : DevNo → Type 0
   IsDueThread d = IsSome (next_past def past (actors.Thread d))

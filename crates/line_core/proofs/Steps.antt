@@ -98,7 +98,7 @@ module _ {E L : Type 0} (hears : E → Run → E → Type 0) (lacks : E → Run 
     line = line_of def history
 
     pub acted : (s : Stepped L) (longer : HistorySeen) (after : E)
-        → Acts hears lacks (run_by def b.state step) (entry_by def b.state step) history ears s longer after
+        → Acts hears lacks (run_by def b.seen.state step) (entry_by def b.seen.state step) history ears s longer after
         → IsStep hears lacks line who ears (Ok s) (line_of def longer) after
     acted (stepped.Added e) longer after p =
         let made = made_here line b who step due e p.made in

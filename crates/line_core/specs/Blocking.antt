@@ -1,14 +1,14 @@
 -- What drivers' calls wait for, read off the state.
 use Rattle.std.specs.Prelude.{Bool, false, not, is_some, nat_lt, Option, Some, None, List}
+use Rattle.irq_base.specs.declared.entries.Actor.{Actor}
 use Rattle.irq_base.specs.declared.numbers.DevNo.{DevNo}
-use Rattle.irq_base.specs.declared.numbers.DriverNo.{DriverNo}
 use Rattle.irq_base.specs.declared.waiting.Blocks.{Blocks}
 use Rattle.act_thread.specs.Threads.{active_in, is_idle_at}
 use Rattle.act_thread.specs.declared.rows.ThreadRow.{ThreadRow}
 use Rattle.line_marks.specs.State.{StateSeen}
 
 -- the thread of the device that is being freed isn't at rest
-abbrev pub freed_in : List (DevNo × ThreadRow) → Option (DriverNo × DevNo) → Bool
+abbrev pub freed_in : List (DevNo × ThreadRow) → Option (Actor × DevNo) → Bool
 freed_in t None = false
 freed_in t (Some f) = not (is_idle_at t f.1)
 

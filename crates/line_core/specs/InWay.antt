@@ -1,22 +1,24 @@
 -- What stands in the way of an actor, read off the state.
-use Rattle.std.specs.Prelude.{Bool, not, ◌||◌, if◌then◌else◌, option_map, Option, Some, None, List}
+use Rattle.std.specs.Prelude.{Bool, not, ◌||◌, if◌then◌else◌, is_some, option_map, Option, Some}
+use Rattle.std.specs.Prelude.{None, List}
 use Rattle.irq_base.specs.Cell.{signals}
 use Rattle.irq_base.specs.declared.devices.DeviceDef.{DeviceDef}
+use Rattle.irq_base.specs.declared.entries.Actor.{Actor}
+use Rattle.irq_base.specs.declared.lines.LineDef.{LineDef}
 use Rattle.irq_base.specs.declared.numbers.CpuNo.{CpuNo}
 use Rattle.irq_base.specs.declared.numbers.DevNo.{DevNo}
-use Rattle.irq_base.specs.declared.numbers.DriverNo.{DriverNo}
 use Rattle.irq_base.specs.declared.waiting.WaitFor.{WaitFor}
 use Rattle.irq_base.specs.declared.waiting.WaitFor.TheVariants as waits
 use Rattle.irq_model.specs.Rounds.{is_cpu}
 use Rattle.irq_model.specs.Signal.{lowest_in}
 use Rattle.device_table.specs.Rows.{at}
+use Rattle.act_thread.specs.Steps.{is_in_run}
 use Rattle.act_thread.specs.Threads.{is_idle_at}
-use Rattle.act_thread.specs.declared.rows.Stage.{Stage}
-use Rattle.act_thread.specs.declared.rows.Stage.TheVariants as stages
 use Rattle.act_thread.specs.declared.rows.ThreadRow.{ThreadRow}
 use Rattle.line_obstacles.specs.Obstacles.{lowest_that}
 use Rattle.line_obstacles.specs.declared.obstacle.Obstacle.{Obstacle}
 use Rattle.line_obstacles.specs.declared.obstacle.Obstacle.TheVariants as obstacles
+use Rattle.line_marks.specs.Due.{due_at_stage}
 use Rattle.line_marks.specs.State.{StateSeen}
 
 abbrev pub busy_in : StateSeen → DevNo → Bool
@@ -25,9 +27,9 @@ busy_in s d = not (is_idle_at s.threads d)
 abbrev pub flow_by : StateSeen → Option Obstacle
 flow_by s = option_map obstacles.Flow s.desc.flow
 
-abbrev pub by_freed : StateSeen → Option (DriverNo × DevNo) → Option Obstacle
+abbrev pub by_freed : StateSeen → Option (Actor × DevNo) → Option Obstacle
 by_freed s None = None
-by_freed s (Some (driver, d)) = if busy_in s d then Some (obstacles.Thread d) else None
+by_freed s (Some (maker, d)) = if busy_in s d then Some (obstacles.Thread d) else None
 
 abbrev pub by_wait : StateSeen → List DeviceDef → WaitFor → Option Obstacle
 by_wait s devices waits.Nothing = None
@@ -36,16 +38,14 @@ by_wait s devices waits.Threads = option_map obstacles.Thread (lowest_that (busy
 by_wait s devices waits.Mutex = option_map (λ free. obstacles.Mutex free.0) s.freeing
 by_wait s devices waits.Freed = by_freed s s.freeing
 
-abbrev pub by_stage : StateSeen → Stage → Option Obstacle
-by_stage s stages.Returned = if s.desc.oneshot then flow_by s else None
-by_stage s _ = None
+-- a thread in a run whose next entry isn't due
+abbrev pub by_row : LineDef → StateSeen → DevNo → Option ThreadRow → Option Obstacle
+by_row def s d None = None
+by_row def s d (Some r) = if is_in_run r.stage
+    then (if is_some (due_at_stage def r.stage s d r) then None else flow_by s) else None
 
-abbrev pub by_row : StateSeen → Option ThreadRow → Option Obstacle
-by_row s None = None
-by_row s (Some r) = by_stage s r.stage
-
-abbrev pub by_thread : StateSeen → DevNo → Option Obstacle
-by_thread s d = by_row s (at s.threads d)
+abbrev pub by_thread : LineDef → StateSeen → DevNo → Option Obstacle
+by_thread def s d = by_row def s d (at s.threads d)
 
 abbrev pub unless_target : CpuNo → Option CpuNo → Option Obstacle
 unless_target c target = if is_cpu c target then None else option_map obstacles.Target target

@@ -10,8 +10,10 @@ ghost use Rattle.irq_model.specs.Kinds.{is_linked_request};
 ghost use Rattle.irq_model.specs.Next.{next};
 ghost use Rattle.irq_line.specs.Answers.{Adds};
 ghost use Rattle.line_scripts.specs.Rows.{call_of};
+ghost use Rattle.line_marks.specs.Calls.{ask_edge_by};
 ghost use Rattle.line_marks.specs.Line.{IsLine};
-ghost use Rattle.line_state.specs.Entries.{call_entry, links_by_call};
+ghost use Rattle.line_state.specs.Entries.{driver_entry, links_by_driver};
+ghost use Rattle.line_state.specs.Seen.{runs_seen};
 ghost use Rattle.line_state.specs.declared.due.DueStep.TheVariants as steps;
 ghost use Rattle.line_core.specs.Entries.{entry_at};
 ghost use Rattle.line_core.specs.Room.{HasRoom};
@@ -22,7 +24,7 @@ use crate::room::make_room;
 use irq_base::{Call, Chip, DevNo, DriverNo, Entry, History, LineDef, NoMemory};
 use irq_line::{StepRefused, Stepped};
 use line_scripts::{Scripts, completes};
-use line_state::{CallStep, DueStep, LineState};
+use line_state::{DriverStep, DueStep, LineState};
 
 impl<C: Chip> Line<C> {
     /// A step of a driver, which ends no run. Most calls are asks: an ask is made here, with its
@@ -76,7 +78,7 @@ impl<C: Chip> Line<C> {
         ensures step { IsStepAlone self.old.line (actors.Driver driver) result self.new.line }
         ensures wiring { self.new.wiring ≡ self.old.wiring }
     {
-        let Some(step) = self.state.due_of_call(driver, call, within) else {
+        let Some(step) = self.state.due_of_driver(driver, call, within) else {
             return Ok(Stepped::NotYet);
         };
         let len = self.history.len();
@@ -92,20 +94,20 @@ impl<C: Chip> Line<C> {
     /// Makes the step, which is due of the driver's call, and adds its entry. If it links no action
     /// and the history has room, it takes no memory.
     #[inline(always)]
-    fn add(&mut self, driver: DriverNo, call: Call, step: CallStep) -> Result<Entry, NoMemory>
+    fn add(&mut self, driver: DriverNo, call: Call, step: DriverStep) -> Result<Entry, NoMemory>
         requires call { option_map (λ due. due.0)
             (due_call self.old.line.def driver (reverse self.old.line.entries)) ≡ Some call }
         requires due { next self.old.line.def self.old.line.entries (actors.Driver driver)
-            ≡ Some (entry_at self.old.line (steps.Call driver step)) }
+            ≡ Some (entry_at self.old.line (steps.Driver driver step)) }
         requires below { length self.old.line.entries < self.old.line.def.log }
         ensures def { self.new.line.def ≡ self.old.line.def }
         ensures entry { IfOk result
-            (λ entry. entry ≡ entry_at self.old.line (steps.Call driver step)) }
+            (λ entry. entry ≡ entry_at self.old.line (steps.Driver driver step)) }
         ensures entries { IfOk result
             (λ entry. self.new.line.entries ≡ self.old.line.entries ++ entry ∷ []) }
         ensures spare { OnOk result (self.old.line.spare ≤ self.new.line.spare + 1) }
         ensures refused { OnErr result (self.new ≡ self.old) }
-        ensures needless { is_linked_request (entry_at self.old.line (steps.Call driver step))
+        ensures needless { is_linked_request (entry_at self.old.line (steps.Driver driver step))
             ≡ false
             → 1 ≤ self.old.line.spare → IsOk result }
         ensures wiring { self.new.wiring ≡ self.old.wiring }
@@ -113,7 +115,7 @@ impl<C: Chip> Line<C> {
         make_room(
             &mut self.state,
             &mut self.history,
-            DueStep::Call { driver, step },
+            DueStep::Driver { driver, step },
         )?;
         Ok(put_of_call(
             &self.def,
@@ -138,22 +140,24 @@ fn put_of_call<C: Chip>(
     scripts: &mut Scripts,
     driver: DriverNo,
     call: Call,
-    step: CallStep,
+    step: DriverStep,
 ) -> Entry
-    requires line { IsLine def.now history.old.entries state.old.state scripts.old }
+    requires line { IsLine def.now history.old.entries state.old.state scripts.old
+        (runs_seen state.old) }
     requires call { call_of scripts.old driver ≡ Some call }
     requires due { next def.now history.old.entries (actors.Driver driver)
-        ≡ Some (call_entry def.now state.old.state driver step) }
+        ≡ Some (driver_entry def.now state.old.state driver step) }
     requires below { length history.old.entries < def.now.log }
     requires room { 1 ≤ history.old.spare }
-    requires action { links_by_call state.old.state step ≡ true → 1 ≤ state.old.spare }
-    ensures entry { result ≡ call_entry def.now state.old.state driver step }
+    requires action { links_by_driver state.old.state step ≡ true → 1 ≤ state.old.spare }
+    ensures entry { result ≡ driver_entry def.now state.old.state driver step }
     ensures entries { history.new.entries ≡ history.old.entries ++ result ∷ [] }
     ensures spare { history.old.spare ≤ history.new.spare + 1 }
-    ensures line { IsLine def.now history.new.entries state.new.state scripts.new }
-    ensures wiring { state.new.wiring ≡ state.old.wiring }
+    ensures line { IsLine def.now history.new.entries state.new.state scripts.new
+        (runs_seen state.new) }
+    ensures wiring { state.new.fixed.wiring ≡ state.old.fixed.wiring }
 {
-    let entry = state.make_of_call(def, driver, step);
+    let entry = state.make_of_driver(def, driver, step);
     scripts.advance(driver, completes(call, &entry));
     history.push(entry);
     entry
@@ -169,15 +173,18 @@ fn put_ask<C: Chip>(
     driver: DriverNo,
     dev: DevNo,
 ) -> Entry
-    requires line { IsLine def.now history.old.entries state.old.state scripts.old }
+    requires line { IsLine def.now history.old.entries state.old.state scripts.old
+        (runs_seen state.old) }
     requires call { call_of scripts.old driver ≡ Some (calls.Ask dev) }
     requires below { length history.old.entries < def.now.log }
     requires room { 1 ≤ history.old.spare }
-    ensures entry { result ≡ by.Driver driver (drivers.Ask true dev) }
+    ensures entry { result
+        ≡ by.Driver driver (drivers.Ask (ask_edge_by def.now dev state.old.state) dev) }
     ensures entries { history.new.entries ≡ history.old.entries ++ result ∷ [] }
     ensures spare { history.old.spare ≤ history.new.spare + 1 }
-    ensures line { IsLine def.now history.new.entries state.new.state scripts.new }
-    ensures wiring { state.new.wiring ≡ state.old.wiring }
+    ensures line { IsLine def.now history.new.entries state.new.state scripts.new
+        (runs_seen state.new) }
+    ensures wiring { state.new.fixed.wiring ≡ state.old.fixed.wiring }
 {
     let entry = state.ask(def, driver, dev);
     scripts.advance(driver, true);

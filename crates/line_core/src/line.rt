@@ -6,6 +6,7 @@ ghost use Rattle.irq_model.specs.Lines.{serves};
 ghost use Rattle.irq_model.specs.Signal.{target};
 ghost use Rattle.irq_model.specs.Up.{is_up};
 ghost use Rattle.irq_model.specs.Valid.{IsValid};
+ghost use Rattle.irq_model.specs.ValidRuns.{HasValidRuns, NeverWaits};
 ghost use Rattle.irq_laws.specs.Driven.{cell_after};
 ghost use Rattle.callbacks.specs.Heard.{Heard};
 ghost use Rattle.irq_line.specs.Answers.{Answers};
@@ -36,6 +37,7 @@ pub struct Line<C: Chip> {
 impl<C: Chip> Model for Line<C> {
     ghost use Rattle.line_core.specs.Seen.{WiredSeen};
     ghost use Rattle.line_marks.specs.Line.{IsLine};
+    ghost use Rattle.line_state.specs.Seen.{runs_seen};
 
     ghost Value = { WiredSeen };
 
@@ -45,10 +47,11 @@ impl<C: Chip> Model for Line<C> {
         entries = l.history.entries;
         spare = l.history.spare;
       };
-      wiring = l.state.wiring;
+      wiring = l.state.fixed.wiring;
     } };
 
-    ghost invariant = { λ l. IsLine l.def l.history.entries l.state.state l.scripts };
+    ghost invariant = { λ l. IsLine l.def l.history.entries l.state.state l.scripts
+        (runs_seen l.state) };
 }
 
 impl<C: Chip + Drop> Line<C> {
@@ -58,6 +61,8 @@ impl<C: Chip + Drop> Line<C> {
     #[tactic(auto, using(crate::proofs::More::line_starts))]
     pub fn new(alloc: Global, def: &LineDef, chip: C) -> Result<Line<C>, NoMemory>
         requires valid { IsValid def.now }
+        requires runs { HasValidRuns def.now }
+        requires waits { NeverWaits def.now }
         requires cell { C.cell chip
             ≡ fresh_cell def.now.trigger def.now.keeps def.now.recalls def.now.retriggers
             (serves def.now) }

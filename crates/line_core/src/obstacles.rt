@@ -1,7 +1,10 @@
 //! What stands in the way of an actor that has no entry due: it is read off the state.
 ghost use Rattle.std.specs.Prelude.{◌≡◌, None, option_map};
+ghost use Rattle.irq_base.specs.declared.lines.LineDef.{LineDef};
+ghost use Rattle.act_thread.specs.Steps.{is_in_run};
+ghost use Rattle.line_state.specs.Seen.{IsScripted};
 ghost use Rattle.line_obstacles.specs.Obstacles.{lower, lowest_that};
-ghost use Rattle.line_core.specs.InWay.{busy_in, by_cpu, by_freed, by_stage, by_thread, by_wait};
+ghost use Rattle.line_core.specs.InWay.{busy_in, by_cpu, by_freed, by_thread, by_wait};
 ghost use Rattle.line_core.specs.InWay.{flow_by};
 
 use crate::line::Line;
@@ -43,23 +46,25 @@ fn of_cpu<C: Chip>(state: &LineState<C>, cpu: CpuNo) -> Option<Obstacle>
     }
 }
 
-/// What keeps the thread from its next entry.
+/// What keeps the thread from its next entry: in a run only a flow can.
 fn of_thread<C: Chip>(state: &LineState<C>, dev: DevNo) -> Option<Obstacle>
-    ensures { result ≡ by_thread state.now.state dev }
+    ensures { (def : LineDef) → IsScripted def state.now
+        → result ≡ by_thread def state.now.state dev }
 {
-    match state.threads().get(dev) {
-        Some(row) => of_stage(state, row.stage),
-        None => None,
+    let row = state.threads().get(dev)?;
+    if !is_in_run(row.stage) || state.due_of_thread(dev).is_some() {
+        return None;
     }
+    of_flow(state)
 }
 
-/// What keeps a thread whose run is so far from its next entry.
-fn of_stage<C: Chip>(state: &LineState<C>, stage: Stage) -> Option<Obstacle>
-    ensures { result ≡ by_stage state.now.state stage }
+/// Whether the thread is in a run.
+fn is_in_run(stage: Stage) -> bool
+    ensures { result ≡ is_in_run stage }
 {
     match stage {
-        Stage::Returned if state.desc().oneshot() => of_flow(state),
-        Stage::Idle | Stage::Begun | Stage::Returned | Stage::Finished => None,
+        Stage::Idle => false,
+        Stage::Begun | Stage::Returned | Stage::Finished => true,
     }
 }
 
@@ -75,8 +80,8 @@ fn of_wait<C: Chip>(state: &LineState<C>, devices: &DeviceList, wait: WaitFor) -
             Some(Obstacle::Thread(dev))
         }
         WaitFor::Mutex => {
-            let (driver, _) = state.freeing()?;
-            Some(Obstacle::Mutex(driver))
+            let (maker, _) = state.freeing()?;
+            Some(Obstacle::Mutex(maker))
         }
         WaitFor::Freed => of_free(state),
     }

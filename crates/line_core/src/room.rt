@@ -14,7 +14,7 @@ pub(crate) fn make_room<C: Chip>(
     step: DueStep,
 ) -> Result<(), NoMemory>
     ensures state { state.new.state ≡ state.old.state }
-    ensures wiring { state.new.wiring ≡ state.old.wiring }
+    ensures fixed { state.new.fixed ≡ state.old.fixed }
     ensures entries { history.new.entries ≡ history.old.entries }
     ensures room { OnOk result (1 ≤ history.new.spare) }
     ensures grows { OnOk result (history.old.spare ≤ history.new.spare) }

@@ -1,19 +1,17 @@
 //! What a device's thread does, from its wake to the end of its run.
 ghost use Rattle.std.specs.Prelude.{◌≡◌, ◌<◌, ◌≤◌, IfErr, IfOk, List, Ok, OnErr, Some, length};
-ghost use Rattle.std.specs.Prelude.{option_map, true};
-ghost use Rattle.irq_base.specs.Handlers.{has_thread};
+ghost use Rattle.std.specs.Prelude.{option_map};
 ghost use Rattle.irq_base.specs.declared.entries.Actor.TheVariants as actors;
 ghost use Rattle.irq_base.specs.declared.numbers.DriverNo.{DriverNo};
-ghost use Rattle.irq_model.specs.Kinds.{is_handled};
 ghost use Rattle.irq_model.specs.Next.{next};
 ghost use Rattle.callbacks.specs.Heard.{Heard, one_run};
 ghost use Rattle.line_scripts.specs.Rows.{RowSeen};
-ghost use Rattle.line_marks.specs.Kinds.{kind_at};
 ghost use Rattle.line_marks.specs.Line.{IsLine};
 ghost use Rattle.line_marks.specs.State.{state_after, IsOf};
-ghost use Rattle.line_state.specs.Entries.{CanMakeOfThread, thread_entry};
+ghost use Rattle.line_state.specs.Entries.{CanMakeOfThread, IsActivated, thread_entry};
+ghost use Rattle.line_state.specs.Running.{IsAboutThread};
+ghost use Rattle.line_state.specs.Seen.{IsScripted, runs_seen};
 ghost use Rattle.line_state.specs.declared.due.DueStep.TheVariants as steps;
-ghost use Rattle.line_state.specs.declared.due.ThreadStep.TheVariants as threads;
 ghost use Rattle.line_core.specs.Entries.{entry_at};
 ghost use Rattle.line_core.specs.Room.{HasRoom};
 ghost use Rattle.line_core.specs.Running.{run_by};
@@ -21,7 +19,7 @@ ghost use Rattle.line_core.specs.Steps.{Acts, IsStep, LacksAnswer};
 
 use crate::line::Line;
 use callbacks::Hears;
-use irq_base::{Answer, Chip, DevNo, Entry, History, LineDef};
+use irq_base::{Chip, DevNo, Entry, History, LineDef, Part};
 use irq_line::{StepRefused, Stepped};
 use line_state::{LineState, ThreadStep};
 
@@ -95,19 +93,19 @@ fn put<C: Chip, E: Hears>(
     ears: &mut E,
 ) -> Stepped<E::Lack>
     requires line { (scripts : List (DriverNo × RowSeen))
-        × IsLine def.now history.old.entries state.old.state scripts }
+        × IsLine def.now history.old.entries state.old.state scripts (runs_seen state.old) }
     requires due { next def.now history.old.entries (actors.Thread dev)
-        ≡ Some (thread_entry state.old.state dev step) }
+        ≡ Some (thread_entry def.now state.old.state dev step) }
     requires below { length history.old.entries < def.now.log }
     requires room { 1 ≤ history.old.spare }
     ensures acts { Acts E.hears E.lacks
         (run_by def.now state.old.state (steps.Thread dev step))
-        (thread_entry state.old.state dev step) history.old ears.old result
+        (thread_entry def.now state.old.state dev step) history.old ears.old result
         history.new ears.new }
     ensures line { (scripts : List (DriverNo × RowSeen))
-        → IsLine def.now history.old.entries state.old.state scripts
-        → IsLine def.now history.new.entries state.new.state scripts }
-    ensures wiring { state.new.wiring ≡ state.old.wiring }
+        → IsLine def.now history.old.entries state.old.state scripts (runs_seen state.old)
+        → IsLine def.now history.new.entries state.new.state scripts (runs_seen state.new) }
+    ensures wiring { state.new.fixed.wiring ≡ state.old.fixed.wiring }
 {
     match act(def, state, dev, step, ears) {
         Ok(entry) => {
@@ -132,10 +130,11 @@ fn act<C: Chip, E: Hears>(
     ears: &mut E,
 ) -> Result<Entry, E::Lack>
     requires is_of { IsOf def.now state.old.state }
+    requires scripted { IsScripted def.now state.old }
+    requires activated { IsActivated state.old.state }
     requires can { CanMakeOfThread step state.old.state }
-    requires threaded { step ≡ threads.Return
-        → has_thread (kind_at state.old.state.kinds dev) ≡ true }
-    ensures entry { IfOk result (λ e. e ≡ thread_entry state.old.state dev step) }
+    requires about { IsAboutThread state.old dev step }
+    ensures entry { IfOk result (λ e. e ≡ thread_entry def.now state.old.state dev step) }
     ensures state { IfOk result
         (λ e. state.new.state ≡ state_after def.now e state.old.state) }
     ensures heard { IfOk result (λ _. Heard E.hears
@@ -143,25 +142,19 @@ fn act<C: Chip, E: Hears>(
     ensures lacking { IfErr result (LacksAnswer E.lacks
         (run_by def.now state.old.state (steps.Thread dev step)) ears.old) }
     ensures unheard { OnErr result ((state.new ≡ state.old) × (ears.new ≡ ears.old)) }
-    ensures wiring { state.new.wiring ≡ state.old.wiring }
+    ensures fixed { state.new.fixed ≡ state.old.fixed }
 {
     match step {
         ThreadStep::Begin => Ok(state.thread_begin(dev)),
+        ThreadStep::Call { step } => Ok(state.call_of_thread(def, dev, step)),
         ThreadStep::Return => {
-            let run = state.thread_run(def.line, dev);
-            match ears.hear(run) {
-                Ok(answer) => Ok(state.thread_returned(def, run, is_handled(answer))),
+            let there = state.run_there(def, Part::Thread, dev);
+            match ears.hear(there.run) {
+                Ok(answer) => Ok(state.thread_returned(def, there, answer)),
                 Err(lack) => Err(lack),
             }
         }
         ThreadStep::Finish => Ok(state.finish(dev)),
         ThreadStep::Done => Ok(state.done(dev)),
     }
-}
-
-/// Whether the handler served (`IRQ_HANDLED`).
-fn is_handled(answer: Answer) -> bool
-    ensures { result ≡ is_handled answer }
-{
-    matches!(answer, Answer::Handled)
 }

@@ -1,49 +1,24 @@
 -- What an entry makes of the asks: of what decides nothing any more nothing is read.
-use Rattle.std.proofs.Common.{◌≡◌, ℕ, ◌+◌, Bool, true, false, ◌||◌, cond, ltb, Option, Some, None, List, [], ◌∷◌, refl, sym, ap, subst, ◌∙◌}
-use Rattle.irq_base.specs.declared.devices.Kind.{Kind}
-use Rattle.irq_base.specs.declared.devices.Kind.TheVariants as kinds
+use Rattle.std.proofs.Common.{◌≡◌, ℕ, ◌+◌, Bool, true, false, ◌&&◌, cond, ltb, Option, Some, None, List, [], ◌∷◌, option_map, refl, sym, ap, ◌∙◌}
+use Rattle.irq_base.specs.declared.devices.Part.{Part}
+use Rattle.irq_base.specs.declared.devices.Part.TheVariants as parts
 use Rattle.irq_base.specs.declared.numbers.DevNo.{DevNo}
 use Rattle.irq_model.specs.Kinds.{same_dev}
+use Rattle.irq_model.specs.Runs.{is_that_part}
 use Rattle.irq_steps.proofs.Same.{dev_from_same}
-use Rattle.device_table.specs.Rows.{at, put, change, changed, HasOwnKeys}
+use Rattle.device_table.specs.Rows.{at, change}
 use Rattle.device_table.specs.Sums.{one_if, how_many}
 use Rattle.act_thread.specs.Steps.{may_return}
 use Rattle.act_thread.specs.Threads.{row_passes}
 use Rattle.act_thread.specs.declared.rows.ThreadRow.{ThreadRow}
-use Rattle.ask_counts.specs.Rows.{is_waiting, asked, called, begun, served}
+use Rattle.ask_counts.specs.Rows.{is_waiting, asked, called, begun, served, emptied, turned_off, turned_on, unserved_in, unserved_at, is_quiet_in, is_quiet_at}
 use Rattle.ask_counts.specs.declared.rows.AskRow.{AskRow}
-use Rattle.line_marks.specs.Asks.{is_direct, is_threaded}
-use Rattle.line_marks.specs.CpuDue.{met_by}
-use Rattle.line_marks.specs.Due.{met_in}
+use Rattle.line_marks.specs.Runs.{met_in, taken_in}
 use Rattle.line_marks.specs.State.{high_in}
 use Rattle.line_futures.specs.Canon.{is_serving, is_thread_working, kept_if, canon_row, canon_asks}
-
--- ---- a change of one value, as a walk
-
-module _ {R : Type 0} where
-  pub walk : (R → R) → DevNo → List (DevNo × R) → List (DevNo × R)
-  walk h d [] = []
-  walk h d (e ∷ es) = cond (same_dev d e.0) ((e.0, h e.1) ∷ es) (e ∷ walk h d es)
-
-  cons_changed : (h : R → R) (d : DevNo) (e : DevNo × R) (es : List (DevNo × R)) (o : Option R) → same_dev d e.0 ≡ false
-      → changed h (e ∷ es) d o ≡ e ∷ changed h es d o
-  cons_changed h d e es None is = refl
-  cons_changed h d e es (Some r) is = ap (λ b. cond b ((e.0, h r) ∷ es) (e ∷ put es d (h r))) is
-
-  pub walk_is : (h : R → R) (d : DevNo) (t : List (DevNo × R)) → change h t d ≡ walk h d t
-  unfolding walk
-  walk_is h d [] = refl
-  walk_is h d (e ∷ es) = by_test (same_dev d e.0) refl (walk_is h d es)
-    where
-      by_test : (b : Bool) → same_dev d e.0 ≡ b → change h es d ≡ walk h d es
-          → changed h (e ∷ es) d (cond b (Some e.1) (at es d)) ≡ cond b ((e.0, h e.1) ∷ es) (e ∷ walk h d es)
-      by_test true is rest = ap (λ b. cond b ((e.0, h e.1) ∷ es) (e ∷ put es d (h e.1))) is
-      by_test false is rest = cons_changed h d e es (at es d) is ∙ ap (λ (t : List (DevNo × R)). e ∷ t) rest
+use Rattle.line_futures.proofs.EachRow.{walk, walk_is, each_at}
 
 -- ---- the rows that an entry leaves alone
-
-Tests : Type 0
-Tests = DevNo → Bool
 
 -- taken out first, what decides nothing later is taken out all the same
 abbrev pub Lower : Bool → Bool → Type 0
@@ -54,99 +29,48 @@ kept_lower false old n h = refl
 kept_lower true true n h = refl
 kept_lower true false n h = absurd (let x : ⊥ = cc (h refl) in x)
 
+pub row_by : (q r : AskRow) → q.unserved ≡ r.unserved → q.fresh ≡ r.fresh → q.met_by_handler ≡ r.met_by_handler → q.met_by_thread ≡ r.met_by_thread
+    → q.quiet ≡ r.quiet → q ≡ r
+row_by q r a b c d f =
+    (let e : ◌≡◌ {A = AskRow} (record {
+      unserved = q.unserved;
+      fresh = q.fresh;
+      met_by_handler = q.met_by_handler;
+      met_by_thread = q.met_by_thread;
+      quiet = q.quiet;
+    }) r = rw (a, b, c, d, f) refl in e)
+
 pub row_lower : (v h t v' h' t' : Bool) (r : AskRow) → Lower v' v → Lower h' h → Lower t' t → canon_row v' h' t' (canon_row v h t r) ≡ canon_row v' h' t' r
 row_lower v h t v' h' t' r lv lh lt =
-    ap (λ n. record {
-      unserved = r.unserved;
-      fresh = n;
-      met_by_handler
-          = kept_if h' (kept_if h r.met_by_handler);
-      met_by_thread = kept_if t' (kept_if t r.met_by_thread);
-    })
-    (kept_lower v' v r.fresh lv)
-    ∙ (ap (λ n. record {
-      unserved = r.unserved;
-      fresh = kept_if v' r.fresh;
-      met_by_handler = n;
-      met_by_thread
-          = kept_if t' (kept_if t r.met_by_thread);
-    }) (kept_lower h' h r.met_by_handler lh)
-    ∙ ap (λ n. record {
-      unserved = r.unserved;
-      fresh = kept_if v' r.fresh;
-      met_by_handler
-          = kept_if h' r.met_by_handler;
-      met_by_thread = n;
-    }) (kept_lower t' t r.met_by_thread lt))
+    row_by _ _ refl (kept_lower v' v r.fresh lv) (kept_lower h' h r.met_by_handler lh) (kept_lower t' t r.met_by_thread lt) refl
 
-pub serving_lower : (k : Kind) (h t h' t' : Bool) → Lower h' h → Lower t' t → Lower (is_serving k h' t') (is_serving k h t)
-serving_lower kinds.Direct h t true t' lh lt i = ap (λ b. b || false) (lh refl)
-serving_lower kinds.Direct h t false t' lh lt i = cc
-serving_lower kinds.Check h t h' t' lh lt i = lt i
-serving_lower kinds.Null h t h' t' lh lt i = lt i
-serving_lower kinds.Stuck h t h' t' lh lt i = cc
-
--- ---- all rows
-
-module _ (v h t v' h' t' : DevNo → Bool) where
-  abbrev Same : AskRow → AskRow → DevNo → Type 0
-  Same q r x = canon_row (v' x) (h' x) (t' x) q ≡ canon_row (v' x) (h' x) (t' x) r
-
-  abbrev low : DevNo → AskRow → AskRow
-  low x r = canon_row (v x) (h x) (t x) r
-
-  pub all_same : (a : List (DevNo × AskRow)) → ((x : DevNo) (r : AskRow) → Same (low x r) r x)
-      → canon_asks v' h' t' (canon_asks v h t a) ≡ canon_asks v' h' t' a
-  all_same [] one = refl
-  all_same (e ∷ es) one =
-      ap (λ (r : AskRow). (e.0, r) ∷ canon_asks v' h' t' (canon_asks v h t es)) (one e.0 e.1)
-      ∙ ap (λ (x : List (DevNo × AskRow)). (e.0, canon_row (v' e.0) (h' e.0) (t' e.0) e.1) ∷ x) (all_same es one)
-
-  -- none of the rows is d's
-  none_same : (d : DevNo) (a : List (DevNo × AskRow)) → at a d ≡ None
-      → ((x : DevNo) → same_dev d x ≡ false → (r : AskRow) → Same (low x r) r x)
-      → canon_asks v' h' t' (canon_asks v h t a) ≡ canon_asks v' h' t' a
-  none_same d [] none one = refl
-  none_same d (e ∷ es) none one = by_test (same_dev d e.0) refl none (λ n. none_same d es n one)
-    where
-      by_test : (b : Bool) → same_dev d e.0 ≡ b → cond b (Some e.1) (at es d) ≡ None
-          → (at es d ≡ None → canon_asks v' h' t' (canon_asks v h t es) ≡ canon_asks v' h' t' es)
-          → canon_asks v' h' t' (canon_asks v h t (e ∷ es)) ≡ canon_asks v' h' t' (e ∷ es)
-      by_test true is n rest = cc
-      by_test false is n rest =
-          ap (λ (r : AskRow). (e.0, r) ∷ canon_asks v' h' t' (canon_asks v h t es)) (one e.0 is e.1)
-          ∙ ap (λ (x : List (DevNo × AskRow)). (e.0, canon_row (v' e.0) (h' e.0) (t' e.0) e.1) ∷ x) (rest n)
-
-  walk_same : (f : AskRow → AskRow) (d : DevNo) (a : List (DevNo × AskRow)) → HasOwnKeys a
-      → ((x : DevNo) → same_dev d x ≡ false → (r : AskRow) → Same (low x r) r x)
-      → ((r : AskRow) → Same (f (low d r)) (f r) d)
-      → canon_asks v' h' t' (walk f d (canon_asks v h t a)) ≡ canon_asks v' h' t' (walk f d a)
-  unfolding walk
-  walk_same f d [] own other one = refl
-  walk_same f d (e ∷ es) own other one = by_test (same_dev d e.0) refl (walk_same f d es own.1 other one)
-    where
-      by_test : (b : Bool) → same_dev d e.0 ≡ b → canon_asks v' h' t' (walk f d (canon_asks v h t es)) ≡ canon_asks v' h' t' (walk f d es)
-          → canon_asks v' h' t' (cond b ((e.0, f (low e.0 e.1)) ∷ canon_asks v h t es)
-          ((e.0, low e.0 e.1) ∷ walk f d (canon_asks v h t es)))
-          ≡ canon_asks v' h' t' (cond b ((e.0, f e.1) ∷ es) (e ∷ walk f d es))
-      by_test true is rest =
-          let same : d ≡ e.0 = dev_from_same d e.0 is in
-          let none : at es d ≡ None = ap (at es) same ∙ own.0 in
-          let here : Same (f (low e.0 e.1)) (f e.1) e.0 = subst (λ (x : DevNo). Same (f (low x e.1)) (f e.1) x) same (one e.1) in
-          ap (λ (r : AskRow). (e.0, r) ∷ canon_asks v' h' t' (canon_asks v h t es)) here
-          ∙ ap (λ (x : List (DevNo × AskRow)). (e.0, canon_row (v' e.0) (h' e.0) (t' e.0) (f e.1)) ∷ x) (none_same d es none other)
-      by_test false is rest =
-          ap (λ (r : AskRow). (e.0, r) ∷ canon_asks v' h' t' (walk f d (canon_asks v h t es))) (other e.0 is e.1)
-          ∙ ap (λ (x : List (DevNo × AskRow)). (e.0, canon_row (v' e.0) (h' e.0) (t' e.0) e.1) ∷ x) rest
-
-  pub change_same : (f : AskRow → AskRow) (d : DevNo) (a : List (DevNo × AskRow)) → HasOwnKeys a
-      → ((x : DevNo) → same_dev d x ≡ false → (r : AskRow) → Same (low x r) r x)
-      → ((r : AskRow) → Same (f (low d r)) (f r) d)
-      → canon_asks v' h' t' (change f (canon_asks v h t a) d) ≡ canon_asks v' h' t' (change f a d)
-  change_same f d a own other one =
-      ap (canon_asks v' h' t') (walk_is f d (canon_asks v h t a)) ∙ (walk_same f d a own other one ∙ ap (canon_asks v' h' t') (sym (walk_is f d a)))
+pub serving_lower : (o : Option Part) (h t h' t' : Bool) → Lower h' h → Lower t' t → Lower (is_serving o h' t') (is_serving o h t)
+serving_lower None h t h' t' lh lt = λ i. i
+serving_lower (Some parts.Primary) h t h' t' lh lt = lh
+serving_lower (Some parts.Thread) h t h' t' lh lt = lt
 
 -- ---- what is read off the asks
+
+-- of a device's row, if it has one
+abbrev pub lowered : Bool → Bool → Bool → Option AskRow → Option AskRow
+lowered v h t o = option_map (canon_row v h t) o
+
+pub met_same : (v h t : Bool) (o : Option AskRow) → (h ≡ true → met_in parts.Primary (lowered v h t o) ≡ met_in parts.Primary o)
+    × (t ≡ true → met_in parts.Thread (lowered v h t o) ≡ met_in parts.Thread o)
+met_same v h t None = (λ i. refl, λ i. refl)
+met_same v h t (Some r) = (λ i. ap (λ b. kept_if b r.met_by_handler) i, λ i. ap (λ b. kept_if b r.met_by_thread) i)
+
+pub taken_same : (v h t : Bool) (o : Option AskRow) → v ≡ true → taken_in (lowered v h t o) ≡ taken_in o
+taken_same v h t None i = refl
+taken_same v h t (Some r) i = ap (λ b. taken_in (Some (canon_row b h t r))) i
+
+unserved_same_in : (v h t : Bool) (o : Option AskRow) → unserved_in (lowered v h t o) ≡ unserved_in o
+unserved_same_in v h t None = refl
+unserved_same_in v h t (Some r) = refl
+
+quiet_same_in : (v h t : Bool) (o : Option AskRow) → is_quiet_in (lowered v h t o) ≡ is_quiet_in o
+quiet_same_in v h t None = refl
+quiet_same_in v h t (Some r) = refl
 
 module _ (v h t : DevNo → Bool) where
   waiting_same : (a : List (DevNo × AskRow)) → how_many is_waiting (canon_asks v h t a) ≡ how_many is_waiting a
@@ -156,25 +80,14 @@ module _ (v h t : DevNo → Bool) where
   pub high_same : (a : List (DevNo × AskRow)) → high_in (canon_asks v h t a) ≡ high_in a
   high_same a = ap (λ n. ltb 0 n) (waiting_same a)
 
-  pub handler_met : (d : DevNo) (a : List (DevNo × AskRow)) → h d ≡ true → met_by (at (canon_asks v h t a) d) ≡ met_by (at a d)
-  handler_met d [] works = refl
-  handler_met d (e ∷ es) works = by_test (same_dev d e.0) refl (handler_met d es works)
-    where
-      by_test : (b : Bool) → same_dev d e.0 ≡ b → met_by (at (canon_asks v h t es) d) ≡ met_by (at es d)
-          → met_by (cond b (Some (canon_row (v e.0) (h e.0) (t e.0) e.1)) (at (canon_asks v h t es) d))
-          ≡ met_by (cond b (Some e.1) (at es d))
-      by_test true is rest = ap (λ b. kept_if b e.1.met_by_handler) (ap h (sym (dev_from_same d e.0 is)) ∙ works)
-      by_test false is rest = rest
+  pub asks_at : (a : List (DevNo × AskRow)) (d : DevNo) → at (canon_asks v h t a) d ≡ lowered (v d) (h d) (t d) (at a d)
+  asks_at a d = each_at (λ x. canon_row (v x) (h x) (t x)) a d
 
-  pub thread_met : (d : DevNo) (a : List (DevNo × AskRow)) → t d ≡ true → met_in (at (canon_asks v h t a) d) ≡ met_in (at a d)
-  thread_met d [] works = refl
-  thread_met d (e ∷ es) works = by_test (same_dev d e.0) refl (thread_met d es works)
-    where
-      by_test : (b : Bool) → same_dev d e.0 ≡ b → met_in (at (canon_asks v h t es) d) ≡ met_in (at es d)
-          → met_in (cond b (Some (canon_row (v e.0) (h e.0) (t e.0) e.1)) (at (canon_asks v h t es) d))
-          ≡ met_in (cond b (Some e.1) (at es d))
-      by_test true is rest = ap (λ b. kept_if b e.1.met_by_thread) (ap t (sym (dev_from_same d e.0 is)) ∙ works)
-      by_test false is rest = rest
+  pub unserved_same : (a : List (DevNo × AskRow)) (d : DevNo) → unserved_at (canon_asks v h t a) d ≡ unserved_at a d
+  unserved_same a d = ap unserved_in (asks_at a d) ∙ unserved_same_in (v d) (h d) (t d) (at a d)
+
+  pub quiet_same : (a : List (DevNo × AskRow)) (d : DevNo) → is_quiet_at (canon_asks v h t a) d ≡ is_quiet_at a d
+  quiet_same a d = ap is_quiet_in (asks_at a d) ∙ quiet_same_in (v d) (h d) (t d) (at a d)
 
 -- ---- whose thread is at work, after a change of one row
 
@@ -217,64 +130,62 @@ module _ (g : ThreadRow → ThreadRow) (d : DevNo) where
   pub other_lower : (x : DevNo) (a : List (DevNo × ThreadRow)) → same_dev d x ≡ false → Lower (is_thread_working (change g a d) x) (is_thread_working a x)
   other_lower x a ne = λ i. walk_other x a ne (ap (λ (y : List (DevNo × ThreadRow)). is_thread_working y x) (sym (walk_is g d a)) ∙ i)
 
--- ---- a row after each kind of entry; h, t: its runs at work before, h', t' after
+-- ---- a row after each kind of entry; h, t: its runs at work before, h', t' after; o: the part that
+-- serves
 
-module _ (k : Kind) (h t h' t' : Bool) (r : AskRow) where
-  abbrev before : AskRow
-  before = canon_row (is_serving k h t) h t r
-
+module _ (o : Option Part) (h t h' t' : Bool) (r : AskRow) where
   abbrev pub AfterSame : (AskRow → AskRow) → Type 0
-  AfterSame f = canon_row (is_serving k h' t') h' t' (f (canon_row (is_serving k h t) h t r)) ≡ canon_row (is_serving k h' t') h' t' (f r)
+  AfterSame f = canon_row (is_serving o h' t') h' t' (f (canon_row (is_serving o h t) h t r)) ≡ canon_row (is_serving o h' t') h' t' (f r)
 
-pub row_by : (q r : AskRow) → q.unserved ≡ r.unserved → q.fresh ≡ r.fresh → q.met_by_handler ≡ r.met_by_handler → q.met_by_thread ≡ r.met_by_thread → q ≡ r
-row_by q r a b c d =
-    (let e : ◌≡◌ {A = AskRow} (record {
-      unserved = q.unserved;
-      fresh = q.fresh;
-      met_by_handler
-          = q.met_by_handler;
-      met_by_thread = q.met_by_thread;
-    }) r = rw (a, b, c, d) refl in e)
+module _ (o : Option Part) (h t h' t' : Bool) (r : AskRow) (lh : Lower h' h) (lt : Lower t' t) where
+  lv : Lower (is_serving o h' t') (is_serving o h t)
+  lv = serving_lower o h t h' t' lh lt
 
-kept_more : (b : Bool) (n : ℕ) → kept_if b (kept_if b n + 1) ≡ kept_if b (n + 1)
-kept_more true n = refl
-kept_more false n = refl
+  kept_more : (new old : Bool) (n : ℕ) → Lower new old → kept_if new (kept_if old n + 1) ≡ kept_if new (n + 1)
+  kept_more false old n low = refl
+  kept_more true true n low = refl
+  kept_more true false n low = absurd (let x : ⊥ = cc (low refl) in x)
 
-pub row_asked : (k : Kind) (h t : Bool) (r : AskRow) → AfterSame k h t h t r asked
-row_asked k h t r = row_by _ _ refl (kept_more (is_serving k h t) r.fresh) (kept_lower h h r.met_by_handler (λ i. i)) (kept_lower t t r.met_by_thread (λ i. i))
+  pub row_asked : AfterSame o h t h' t' r asked
+  row_asked = row_by _ _ refl (kept_more (is_serving o h' t') (is_serving o h t) r.fresh lv) (kept_lower h' h r.met_by_handler lh)
+      (kept_lower t' t r.met_by_thread lt) refl
+
+  pub row_emptied : AfterSame o h t h' t' r emptied
+  row_emptied = row_by _ _ refl refl (kept_lower h' h r.met_by_handler lh) (kept_lower t' t r.met_by_thread lt) refl
+
+  pub row_off : AfterSame o h t h' t' r turned_off
+  row_off = row_by _ _ refl (kept_lower (is_serving o h' t') (is_serving o h t) r.fresh lv) (kept_lower h' h r.met_by_handler lh)
+      (kept_lower t' t r.met_by_thread lt) refl
+
+  pub row_on : AfterSame o h t h' t' r turned_on
+  row_on = row_by _ _ refl (kept_lower (is_serving o h' t') (is_serving o h t) r.fresh lv) (kept_lower h' h r.met_by_handler lh)
+      (kept_lower t' t r.met_by_thread lt) refl
 
 -- the handler is called; the thread's run stays
-pub row_called : (k : Kind) (h t t' : Bool) (r : AskRow) → Lower t' t → AfterSame k h t true t' r (called (is_direct k))
-row_called kinds.Direct h t t' r low = row_by _ _ refl refl refl (kept_lower t' t r.met_by_thread low)
-row_called kinds.Check h t t' r low = row_by _ _ refl (kept_lower t' t r.fresh low) refl (kept_lower t' t r.met_by_thread low)
-row_called kinds.Null h t t' r low = row_by _ _ refl (kept_lower t' t r.fresh low) refl (kept_lower t' t r.met_by_thread low)
-row_called kinds.Stuck h t t' r low = row_by _ _ refl refl refl (kept_lower t' t r.met_by_thread low)
+pub row_called : (o : Option Part) (h t t' : Bool) (r : AskRow) → Lower t' t → AfterSame o h t true t' r (called (is_that_part parts.Primary o))
+row_called None h t t' r low = row_by _ _ refl refl refl (kept_lower t' t r.met_by_thread low) refl
+row_called (Some parts.Primary) h t t' r low = row_by _ _ refl refl refl (kept_lower t' t r.met_by_thread low) refl
+row_called (Some parts.Thread) h t t' r low = row_by _ _ refl (kept_lower t' t r.fresh low) refl (kept_lower t' t r.met_by_thread low) refl
 
--- it returns
-pub row_returned : (k : Kind) (t t' : Bool) (r : AskRow) → Lower t' t → AfterSame k true t false t' r (served (is_direct k))
-row_returned kinds.Direct t t' r low = row_by _ _ refl refl refl (kept_lower t' t r.met_by_thread low)
-row_returned kinds.Check t t' r low = row_by _ _ refl (kept_lower t' t r.fresh low) refl (kept_lower t' t r.met_by_thread low)
-row_returned kinds.Null t t' r low = row_by _ _ refl (kept_lower t' t r.fresh low) refl (kept_lower t' t r.met_by_thread low)
-row_returned kinds.Stuck t t' r low = row_by _ _ refl refl refl (kept_lower t' t r.met_by_thread low)
+-- it returns; `some`: it had something to serve
+pub row_returned : (o : Option Part) (t t' some : Bool) (r : AskRow) → Lower t' t
+    → AfterSame o true t false t' r (served (is_that_part parts.Primary o && some))
+row_returned None t t' some r low = row_by _ _ refl refl refl (kept_lower t' t r.met_by_thread low) refl
+row_returned (Some parts.Primary) t t' some r low = row_by _ _ refl refl refl (kept_lower t' t r.met_by_thread low) refl
+row_returned (Some parts.Thread) t t' some r low = row_by _ _ refl (kept_lower t' t r.fresh low) refl (kept_lower t' t r.met_by_thread low) refl
 
 -- the thread's run begins
-pub row_begun : (k : Kind) (h t t' : Bool) (r : AskRow) → AfterSame k h t h t' r (begun (is_threaded k))
-row_begun kinds.Direct h t t' r = row_by _ _ refl (direct h) (kept_lower h h r.met_by_handler (λ i. i)) refl
-  where
-    direct : (b : Bool) → kept_if (b || false) (kept_if (b || false) r.fresh) ≡ kept_if (b || false) r.fresh
-    direct true = refl
-    direct false = refl
-row_begun kinds.Check h t t' r = row_by _ _ refl refl (kept_lower h h r.met_by_handler (λ i. i)) refl
-row_begun kinds.Null h t t' r = row_by _ _ refl refl (kept_lower h h r.met_by_handler (λ i. i)) refl
-row_begun kinds.Stuck h t t' r = row_by _ _ refl refl (kept_lower h h r.met_by_handler (λ i. i)) refl
+pub row_begun : (o : Option Part) (h t t' : Bool) (r : AskRow) → AfterSame o h t h t' r (begun (is_that_part parts.Thread o))
+row_begun None h t t' r = row_by _ _ refl refl (kept_lower h h r.met_by_handler (λ i. i)) refl refl
+row_begun (Some parts.Primary) h t t' r =
+    row_by _ _ refl (kept_lower h h r.fresh (λ i. i)) (kept_lower h h r.met_by_handler (λ i. i)) refl refl
+row_begun (Some parts.Thread) h t t' r = row_by _ _ refl refl (kept_lower h h r.met_by_handler (λ i. i)) refl refl
 
 -- its handler returns
-pub row_thread_returned : (k : Kind) (h t' : Bool) (r : AskRow) → AfterSame k h true h t' r (served (is_threaded k))
-row_thread_returned kinds.Direct h t' r = row_by _ _ refl (direct h) (kept_lower h h r.met_by_handler (λ i. i)) (kept_lower t' true r.met_by_thread (λ i. refl))
-  where
-    direct : (b : Bool) → kept_if (b || false) (kept_if (b || false) r.fresh) ≡ kept_if (b || false) r.fresh
-    direct true = refl
-    direct false = refl
-row_thread_returned kinds.Check h t' r = row_by _ _ refl refl (kept_lower h h r.met_by_handler (λ i. i)) (kept_lower t' true r.met_by_thread (λ i. refl))
-row_thread_returned kinds.Null h t' r = row_by _ _ refl refl (kept_lower h h r.met_by_handler (λ i. i)) (kept_lower t' true r.met_by_thread (λ i. refl))
-row_thread_returned kinds.Stuck h t' r = row_by _ _ refl refl (kept_lower h h r.met_by_handler (λ i. i)) (kept_lower t' true r.met_by_thread (λ i. refl))
+pub row_thread_returned : (o : Option Part) (h t' some : Bool) (r : AskRow)
+    → AfterSame o h true h t' r (served (is_that_part parts.Thread o && some))
+row_thread_returned None h t' some r = row_by _ _ refl refl (kept_lower h h r.met_by_handler (λ i. i)) (kept_lower t' true r.met_by_thread (λ i. refl)) refl
+row_thread_returned (Some parts.Primary) h t' some r =
+    row_by _ _ refl (kept_lower h h r.fresh (λ i. i)) (kept_lower h h r.met_by_handler (λ i. i)) (kept_lower t' true r.met_by_thread (λ i. refl)) refl
+row_thread_returned (Some parts.Thread) h t' some r =
+    row_by _ _ refl (kept_lower t' true r.fresh (λ i. refl)) (kept_lower h h r.met_by_handler (λ i. i)) (kept_lower t' true r.met_by_thread (λ i. refl)) refl

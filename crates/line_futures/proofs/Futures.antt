@@ -14,7 +14,7 @@ use Rattle.irq_model.specs.Next.{next_past}
 use Rattle.irq_model.specs.Valid.{IsValid}
 use Rattle.irq_steps.proofs.DueSteps.{due_laid}
 use Rattle.line_marks.proofs.CpuDueIs.{cpu_due_is}
-use Rattle.line_marks.proofs.DriversDueIs.{driver_due_is}
+use Rattle.line_marks.proofs.DriversDueIs.{driver_is}
 use Rattle.line_marks.proofs.DueIs.{thread_is}
 use Rattle.line_marks.proofs.ScriptsFollow.{other_place}
 use Rattle.line_marks.proofs.StateFollows.{state_follows}
@@ -50,17 +50,17 @@ module _ (def : LineDef) (valid : IsValid def) where
     pub due_same : (a : Actor) → next_past def g a ≡ next_past def h a
     due_same (actors.Thread d) =
         thread_is def g d valid legal ∙ (sym (thread_same def (state_of def g) d)
-        ∙ (ap (λ (s : StateSeen). thread_due s d) like.state
+        ∙ (ap (λ (s : StateSeen). thread_due def s d) like.state
         ∙ (thread_same def (state_of def h) d ∙ sym (thread_is def h d valid other))))
     due_same (actors.Cpu c) =
         cpu_due_is def g c valid legal ∙ (sym (cpu_same def (state_of def g) c)
         ∙ (ap (λ (s : StateSeen). cpu_due def s c) like.state
         ∙ (cpu_same def (state_of def h) c ∙ sym (cpu_due_is def h c valid other))))
     due_same (actors.Driver r) =
-        driver_due_is def g r (due_call def r g) valid legal ∙ (sym (driver_same def (state_of def g) r (due_call def r g))
+        driver_is def g r valid legal ∙ (sym (driver_same def (state_of def g) r (due_call def r g))
         ∙ (ap (λ (s : StateSeen). driver_due def s r (due_call def r g)) like.state
         ∙ (ap (λ (o : Option (Call × ℕ)). driver_due def (canon (state_of def h)) r o) (call_same r)
-        ∙ (driver_same def (state_of def h) r (due_call def r h) ∙ sym (driver_due_is def h r (due_call def r h) valid other)))))
+        ∙ (driver_same def (state_of def h) r (due_call def r h) ∙ sym (driver_is def h r valid other)))))
 
     pub due_alike : (e : Entry) → IsDue def e g → IsDue def e h
     due_alike e due = sym (due_same (actor_of e)) ∙ due

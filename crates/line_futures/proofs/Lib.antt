@@ -1,8 +1,10 @@
 pub mod Actions
 pub mod Counting
+pub mod EachRow
 pub mod AsksAfter
-pub mod CanonDue
+pub mod RunsAfter
 pub mod CanonAfter
+pub mod CanonDue
 pub mod CanonSteps
 pub mod MadeIs
 pub mod Placed

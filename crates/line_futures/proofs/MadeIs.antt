@@ -24,6 +24,7 @@ use Rattle.act_thread.specs.declared.rows.ThreadRow.{ThreadRow}
 use Rattle.line_marks.proofs.DueIs.{thread_is}
 use Rattle.line_marks.specs.Asks.{ask_row}
 use Rattle.line_marks.specs.Due.{due_at_stage, due_of_row, finish_opens}
+use Rattle.line_marks.specs.Places.{run_row}
 use Rattle.line_marks.specs.State.{StateSeen, state_of}
 use Rattle.line_futures.specs.Made.{IsMade, MayFollow}
 
@@ -79,7 +80,7 @@ served_kept def (_ ∷ past) = served_kept def past
 
 -- ---- the thread whose handler returns
 
-module _ (s : StateSeen) (d : DevNo) (handled : Bool) (n : ℕ) where
+module _ (def : LineDef) (s : StateSeen) (d : DevNo) (handled : Bool) (n : ℕ) where
   abbrev Returns : Option Entry → Type 0
   Returns o = o ≡ Some (by.Thread d (threads.Return handled n))
 
@@ -93,7 +94,7 @@ module _ (s : StateSeen) (d : DevNo) (handled : Bool) (n : ℕ) where
   at_returned true false e g a b h = a (let i : e ≡ by.Thread d (threads.Return handled n) = cc in i)
   at_returned false f e g a b h = b (let i : g ≡ by.Thread d (threads.Return handled n) = cc in i)
 
-  by_stage : (r : ThreadRow) (g : Stage) → Returns (due_at_stage g s d r) → is_begun g ≡ true
+  by_stage : (r : ThreadRow) (g : Stage) → Returns (due_at_stage def g s d r) → is_begun g ≡ true
   by_stage r stages.Idle h = absurd (at_idle r.woken h)
   by_stage r stages.Begun h = refl
   by_stage r stages.Returned h =
@@ -101,7 +102,7 @@ module _ (s : StateSeen) (d : DevNo) (handled : Bool) (n : ℕ) where
       (by.Thread d threads.Done) (λ i. let x : ⊥ = cc i in x) (λ i. let x : ⊥ = cc i in x) h)
   by_stage r stages.Finished h = absurd (let x : ⊥ = cc h in x)
 
-  by_row : (o : Option ThreadRow) → Returns (due_of_row s d o) → row_passes may_return false o ≡ true
+  by_row : (o : Option ThreadRow) → Returns (due_of_row def s d o) → row_passes may_return false o ≡ true
   by_row None h = absurd (let x : ⊥ = cc h in x)
   by_row (Some r) h = by_stage r r.stage h
 
@@ -112,9 +113,14 @@ module _ (def : LineDef) (past : List Entry) (valid : IsValid def) (legal : IsLe
   made (by.Cpu c (cpus.Begin d)) due = has_a_flow c (flow def past) (begin_due def c d past due).of_flow
   made (by.Cpu c (cpus.Return answer d served)) due = (return_due def c d answer served past due).is_at_work
   made (by.Cpu c (cpus.End again unmask note)) due = has_a_flow c (flow def past) (end_due def c again unmask note past due).of_flow
-  made (by.Thread d (threads.Return handled n)) due = by_row (state_of def past) d handled n
+  made (by.Thread d (threads.Return handled n)) due = by_row def (state_of def past) d handled n
       (at (state_of def past).threads d) (sym (thread_is def past d valid legal) ∙ due)
   made _ due = tt
 
   pub may_follow : (e : Entry) → IsDue def e past → MayFollow e (state_of def past)
-  may_follow e due = record { made = made e due; served = served_kept def past; own = own_by (ask_row def past) def.devices valid.distinct }
+  may_follow e due = record {
+    made = made e due;
+    served = served_kept def past;
+    own = own_by (ask_row def past) def.devices valid.distinct;
+    own_runs = own_by (run_row def past) def.devices valid.distinct;
+  }

@@ -12,7 +12,7 @@ use Rattle.irq_base.specs.declared.numbers.DriverNo.{DriverNo}
 use Rattle.irq_model.specs.Due.{calls_by, entries_by, entries_of_call, due_of, due_call}
 use Rattle.irq_model.specs.Kinds.{is_driver, is_by_driver}
 use Rattle.irq_model.specs.Legal.{IsDue, IsLegalPast}
-use Rattle.irq_model.specs.Next.{next_past, next_of_call}
+use Rattle.irq_model.specs.Next.{next_past, next_of_driver}
 use Rattle.irq_laws.specs.Kept.{complete}
 use Rattle.irq_steps.proofs.DueSteps.{due_laid, laid_start}
 use Rattle.irq_steps.proofs.Same.{driver_from_same}
@@ -72,7 +72,7 @@ module _ (def : LineDef) where
   has_call past r e due by = by_call (due_call def r past) refl
     where
       by_call : (o : Option (Call × ℕ)) → due_call def r past ≡ o → HasCall past r
-      by_call None none = absurd (let i : ◌≡◌ {A = Option Entry} None (Some e) = ap (next_of_call def r past) (sym none)
+      by_call None none = absurd (let i : ◌≡◌ {A = Option Entry} None (Some e) = ap (λ (o : Option (Call × ℕ)). next_of_driver def r past o) (sym none)
           ∙ own_due past r e due by in let x : ⊥ = cc i in x)
       by_call (Some (c, n)) some = record { call = c; count = n; due = some }
 

@@ -16,8 +16,9 @@ IsMade (by.Cpu cpu (cpus.End again unmask note)) s = in_flow s ≡ true
 IsMade (by.Thread dev (threads.Return handled served)) s = is_thread_working s.threads dev ≡ true
 IsMade _ s = Unit {0}
 
--- no run of a thread that served is forgotten, and each device has one row
+-- no run of a thread that served is forgotten, and each device has one row in each table
 pub record MayFollow (e : Entry) (s : StateSeen) : Type 0 where
   pub made : IsMade e s
   pub served : s.counts.counts.last ≤ s.counts.counts.threads_handled
   pub own : HasOwnKeys s.asks
+  pub own_runs : HasOwnKeys s.places.rows

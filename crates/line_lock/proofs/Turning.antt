@@ -17,7 +17,7 @@ use Rattle.irq_base.specs.declared.lines.LineDef.{LineDef}
 use Rattle.line_lock.specs.Placed.{placed, placed_of}
 use Rattle.line_lock.specs.Knows.{BeginsWith, is_among}
 use Rattle.line_lock.specs.Rule.{Fits, IsFree, IsTaken, Holds, left_view, right_view, met_view}
-use Rattle.line_lock.specs.Steps.{holding, counted, idle, Took, Takes, Raises, Looks, Gives, Learns, Added, Ready}
+use Rattle.line_lock.specs.Steps.{holding, counted, glimpsed, idle, Took, Takes, Raises, Looks, Glances, Gives, Learns, Added, Ready}
 use Rattle.line_lock.specs.Steps.Takes.{got, busy}
 use Rattle.line_lock.specs.declared.view.View.{View}
 use Rattle.line_lock.proofs.Placing.{begins_self, placed_other}
@@ -246,6 +246,36 @@ module _ {T : Type 0} (def_of : T → LineDef) (entries_of : T → List Entry) w
       → Allows (Holds def_of entries_of key) slots id me 1 (λ n. n) (λ found after. Looks def_of entries_of me after)
   look_step key slots id me who mine there is s rule size at small =
       (counted me.0 me.0.held, keeps, tt, looked_at key id me.0 s rule at there who is mine, refl)
+
+  pub glance_step : (key : LineDef) (slots id : ℕ) (me : Me (Option T) View) (who : Actor) → me.0.turn ≡ false → me.0.spent ≡ false
+      → me.0.knows.actor ≡ Some who → Allows (Holds def_of entries_of key) slots id me 1 (λ n. n) (λ found after. Glances me found after)
+  glance_step key slots id me who off there is s rule size at small =
+      let ws = (words_of key s rule).1 in
+      let same : set s.words 1 (slice_index s.words 1) ≡ s.words = ap (λ ns. set ns 1 (slice_index ns 1)) ws ∙ sym ws in
+      let f = rule.passes.seats id me.0 at there in
+      let w = glimpsed me.0 (slice_index s.words 1) in
+      let apart : (j : ℕ) (u : View) → get_elem? s.views j ≡ some u → u.turn ≡ true → j ≢ id =
+      λ j u e b z. false≢true (sym off ∙ (ap (λ (y : View). y.turn) (some-injective me.0 u (sym at ∙ (ap (λ k. get_elem? s.views k) (sym z) ∙ e))) ∙ b)) in
+      let P : List ℕ → Type 0 = λ ns. Holds def_of entries_of key (record { words = ns; homes = s.homes; views = set s.views id w }) in (
+        w,
+        keeps,
+        tt,
+        subst P (sym same) (record {
+          history = rule.history;
+          turn = turn_stays key rule.history s (set s.views id w)
+              (λ j u e b. elim (at_set s.views id j w u e) [
+                | inl t ↦ absurd (false≢true (sym off ∙ (ap (λ (y : View). y.turn) t.1 ∙ b)))
+                | inr t ↦ t.1
+              ])
+              (λ j u e b. set_else s.views id j w (apart j u e b) ∙ e) rule.turn;
+          passes = changed key rule.history s.views rule.passes rule.history id me.0 w who at there is there is
+              (record { def = f.def; seen = f.seen; mine = f.mine; within = f.within }) (begins_self rule.history) (λ b apart. refl);
+        }),
+        record {
+          count = record { history = rule.history; begins = f.seen; mine = f.mine; is = ap (λ ns. slice_index ns 1) ws };
+          then = refl;
+        },
+      )
 
   pub give_step : (key : LineDef) (slots id : ℕ) (me : Me (Option T) View) (who : Actor) → me.0.turn ≡ true
       → me.0.spent ≡ false → me.0.knows.actor ≡ Some who → Ready def_of entries_of me

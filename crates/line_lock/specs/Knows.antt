@@ -1,5 +1,5 @@
 -- What a pass knows, and how that changes when passes are forked and met.
-use Rattle.std.specs.Prelude.{◌≡◌, Bool, true, false, not, cond, nat_lt, IfSome, Option, Some}
+use Rattle.std.specs.Prelude.{◌≡◌, ℕ, Bool, true, false, not, cond, nat_lt, IfSome, Option, Some}
 use Rattle.std.specs.Prelude.{None, List, [], ◌∷◌, ◌++◌, length, filter}
 use Rattle.irq_base.specs.declared.entries.Actor.{Actor}
 use Rattle.irq_base.specs.declared.entries.Entry.{Entry}
@@ -29,7 +29,7 @@ without_of (Some who) all = without who all
 
 -- a first pass that has seen nothing
 abbrev pub nothing_known : Known
-nothing_known = record { seen = []; mine = []; actor = None; given = []; out = [] }
+nothing_known = record { seen = []; mine = []; actor = None; given = []; out = []; looks = [] }
 
 -- a first pass after it gave a pass to the actor
 abbrev pub forked : Known → Actor → Known
@@ -37,15 +37,32 @@ forked k who = record k { given = k.given ++ who ∷ []; out = k.out ++ who ∷ 
 
 -- the pass that was given: it has seen the same, and nothing of it is its own
 abbrev pub newcomer : Known → Actor → Known
-newcomer k who = record { seen = k.seen; mine = []; actor = Some who; given = []; out = [] }
+newcomer k who =
+    record { seen = k.seen; mine = []; actor = Some who; given = []; out = []; looks = [] }
 
 -- a first pass after it met another pass
 abbrev pub met : Known → Known → Known
 met k other = record k { seen = longer k.seen other.seen; out = without_of other.actor k.out }
 
--- a pass after the history became this one
+-- a pass after it held the value, whose history is this one now
 abbrev pub looked : Known → List Entry → Known
-looked k history = record k { seen = history; mine = placed_of k.actor history }
+looked k history = record k {
+  seen = history;
+  mine = placed_of k.actor history;
+  looks = length history ∷ k.looks;
+}
+
+-- a pass after a look at the count alone, which was this
+abbrev pub glanced : Known → ℕ → Known
+glanced k found = record k { looks = found ∷ k.looks }
+
+-- What a look at the count alone tells: the count is the length of the history, which begins with
+-- what the pass has seen, and in which the entries of its actor are those that it knows as its own.
+pub record IsCount (k : Known) (found : ℕ) : Type 0 where
+  pub history : List Entry
+  pub begins : BeginsWith history k.seen
+  pub mine : k.mine ≡ placed_of k.actor history
+  pub is : found ≡ length history
 
 -- What a first pass learns when it meets another pass; `new` is what it knows afterwards.
 pub record Meets (old other new : Known) : Type 0 where

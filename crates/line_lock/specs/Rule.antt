@@ -68,6 +68,8 @@ spent_view = record {
     log = 0;
     devices = [];
     calls = [];
+    runs = [];
+    told = [];
   };
   knows = nothing_known;
   turn = false;

@@ -7,7 +7,7 @@ use Rattle.irq_base.specs.declared.entries.Actor.{Actor}
 use Rattle.irq_base.specs.declared.entries.Entry.{Entry}
 use Rattle.irq_base.specs.declared.lines.LineDef.{LineDef}
 use Rattle.line_lock.specs.Placed.{placed_of}
-use Rattle.line_lock.specs.Knows.{BeginsWith, looked, Meets, IsKnown}
+use Rattle.line_lock.specs.Knows.{BeginsWith, looked, glanced, IsCount, Meets, IsKnown}
 use Rattle.line_lock.specs.declared.view.View.{View}
 
 -- the pass has the turn, and holds a value with this history
@@ -18,8 +18,18 @@ holding v held = record v { turn = true; held = held }
 abbrev pub counted : View → List Entry → View
 counted v history = record v { knows = looked v.knows history; held = history }
 
+-- the pass has looked at the count alone
+abbrev pub glimpsed : View → ℕ → View
+glimpsed v found = record v { knows = glanced v.knows found }
+
 abbrev pub idle : View → View
 idle v = record v { turn = false; held = [] }
+
+-- the pass looked at the count without the turn
+pub record Glances {T : Type 0} (before : Me (Option T) View) (found : ℕ)
+    (after : Me (Option T) View) : Type 0 where
+  pub count : IsCount before.0.knows found
+  pub then : after ≡ (glimpsed before.0 found, before.1)
 
 module _ {T : Type 0} (def_of : T → LineDef) (entries_of : T → List Entry) where
   -- the value fits what the pass knows

@@ -3,13 +3,13 @@ ghost use Rattle.std.specs.Prelude.{◌≡◌, ◌≤◌, true, false, [], ◌�
 ghost use Rattle.std.specs.Prelude.{IfOk, IfErr, length};
 ghost use Rattle.irq_base.specs.Who.{actor_of};
 ghost use Rattle.line_lock.specs.Knows.{BeginsWith, nothing_known, is_among, forked, newcomer};
-ghost use Rattle.line_lock.specs.Knows.{looked, Meets};
+ghost use Rattle.line_lock.specs.Knows.{looked, glanced, IsCount, Meets};
 ghost use Rattle.line_lock.specs.Passes.{IsPassOf, Extends};
 ghost use Rattle.line_lock.specs.Placed.{placed_of};
 
 use crate::kept::Kept;
 use crate::pass::Pass;
-use crate::steps::{COUNT, Counted, HOME, join, put_back, split, wait_turn};
+use crate::steps::{Counted, HOME, glance, join, put_back, split, wait_turn};
 use crate::view::View;
 use atomic_table::{Refused, Table};
 use irq_base::{Actor, LineDef};
@@ -171,10 +171,18 @@ impl<T: Kept> CountedLock<T> {
         value
     }
 
-    /// About how many entries there are now. Contracts claim nothing of it: it is a look without
-    /// the turn, good for seeing whether a hold is worth while.
-    pub fn count(&self) -> u64 {
-        self.table.shared.peek(COUNT)
+    /// How many entries there are now, seen without the turn: good for telling whether a hold is
+    /// worth while.
+    pub fn look(&self, pass: &mut Pass<T>) -> u64
+        requires pass { IsPassOf self.now pass.old }
+        requires idle { pass.old.turn ≡ false }
+        requires actor { IsSome pass.old.knows.actor }
+        ensures pass { IsPassOf self.now pass.new }
+        ensures idle { pass.new.turn ≡ false }
+        ensures knows { pass.new.knows ≡ glanced pass.old.knows result }
+        ensures count { IsCount pass.old.knows result }
+    {
+        glance(&self.table.shared, &mut pass.seat)
     }
 }
 

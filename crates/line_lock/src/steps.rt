@@ -5,7 +5,7 @@ ghost use Rattle.line_lock.specs.Knows.{is_among};
 ghost use Rattle.line_lock.specs.Rule.{left_view, right_view, met_view};
 ghost use Rattle.line_lock.specs.Passes.{IsMore};
 ghost use Rattle.line_lock.specs.Steps.{holding, counted, idle, Suits, Took, Looks, Raises};
-ghost use Rattle.line_lock.specs.Steps.{Gives, Learns, Added, Ready};
+ghost use Rattle.line_lock.specs.Steps.{Gives, Glances, Learns, Added, Ready};
 
 use crate::kept::Kept;
 use crate::view::View;
@@ -68,6 +68,16 @@ impl<T: Kept> Play<Option<T>, View> for CountsSame<T> {
     ghost use Rattle.line_lock.specs.Steps.{Looks};
 
     ghost then = { λ step before found after. Looks T.definition T.entries before after };
+}
+
+struct SeesCount<T> {
+    of: PhantomData<T>,
+}
+
+impl<T: Kept> Play<Option<T>, View> for SeesCount<T> {
+    ghost use Rattle.line_lock.specs.Steps.{Glances};
+
+    ghost then = { λ step before found after. Glances before found after };
 }
 
 struct GivesTurn<T> {
@@ -183,6 +193,17 @@ pub fn count_same<T: Kept>(lock: &Words<T>, seat: &mut Seated<T>)
     ensures seen { Looks T.definition T.entries seat.old.me seat.new.me }
 {
     lock.load::<CountsSame<T>>(seat, COUNT);
+}
+
+/// Looks at the count without the turn.
+pub fn glance<T: Kept>(lock: &Words<T>, seat: &mut Seated<T>) -> u64
+    requires table { (seat.old.table_id ≡ lock.now.table_id) × (lock.now.table_id.words ≡ 2) }
+    requires idle { (seat.old.me.0.turn ≡ false) × (seat.old.me.0.spent ≡ false) }
+    requires actor { (who : _) × (seat.old.me.0.knows.actor ≡ Some who) }
+    ensures table { seat.new.table_id ≡ seat.old.table_id }
+    ensures seen { Glances seat.old.me result seat.new.me }
+{
+    lock.load::<SeesCount<T>>(seat, COUNT)
 }
 
 /// Gives the turn back, and the slot with it.

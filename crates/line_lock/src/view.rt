@@ -22,6 +22,8 @@ pub struct Known {
     pub given: LinkedList<Actor>,
     /// For a first pass: the actors whose pass it hasn't met yet.
     pub out: LinkedList<Actor>,
+    /// How many entries it found at each of its looks, at the last one first.
+    pub looks: LinkedList<u64>,
 }
 
 /// A pass, as the lock's rule sees it.

@@ -23,9 +23,9 @@ use Rattle.irq_steps.proofs.ListSteps.{linked_refused, linked_not_there, count_f
 use Rattle.irq_steps.proofs.Same.{same_self, same_both, dev_from_same}
 use Rattle.irq_laws.proofs.ImpliesDriver.{request_due}
 use Rattle.irq_laws.proofs.KeptAlways.{kept}
-use Rattle.irq_laws.proofs.OwnLaws.{no_cpu_call, no_thread_call}
 use Rattle.irq_laws.proofs.RestKept.{no_part}
 use Rattle.irq_laws.proofs.WantedKept.{requested_unlinked}
+use Rattle.irq_laws.specs.Actors.{by_someone}
 use Rattle.irq_laws.specs.Kept.{Kept}
 use Rattle.act_list.specs.Actions.{is_bare}
 use Rattle.act_list.specs.Lists.{flags_of, action_by}
@@ -121,6 +121,12 @@ linked_more r x flags opened past off =
     ∙ (one_more (linking_flags (e ∷ past)) (linked past) x
     ∙ (ap (λ (t : List (DevNo × Flags)). t ++ (x, linking_flags (e ∷ past) x) ∷ []) old ∙ ap (λ (a : Flags). linked_flags past ++ (x, a) ∷ []) new))
 
+flags_call : (call : CallEntry) (past : List Entry) → linked_flags (by_someone call ∷ past) ≡ flags_by_call call (linked_flags past)
+flags_call (called.Unlink (unlinks.Unlinked last) x) past =
+    ap (flags_by (linking_flags past)) (linked_unlink (record { 0 = 0 }) x last past) ∙ removed (linking_flags past) x (linked past) (linked_once x past)
+flags_call (called.Unlink unlinks.NotThere x) past = ap (flags_by (linking_flags past)) (linked_not_there (record { 0 = 0 }) x past)
+flags_call call past = refl
+
 pub flags_more : (def : LineDef) (e : Entry) (past : List Entry) → IsValid def → IsDue def e past → Kept def past
     → linked_flags (e ∷ past) ≡ flags_after e (linked_flags past)
 flags_more def (by.Driver r (drivers.Request flags links.Linked opened x)) past valid due k =
@@ -130,11 +136,9 @@ flags_more def (by.Driver r (drivers.Request flags (links.Refused error) opened 
     let e = by.Driver r (drivers.Request flags (links.Refused error) opened x) in
     ap (flags_by (linking_flags (e ∷ past))) (linked_refused r x flags error opened past)
     ∙ same_flags (linking_flags past) (linking_flags (e ∷ past)) (is_linked past) (requested past) (λ y on. rw (no_part (same_dev y x)) refl)
-flags_more def (by.DriverCall r (called.Unlink (unlinks.Unlinked last) x)) past valid due k =
-    ap (flags_by (linking_flags past)) (linked_unlink r x last past) ∙ removed (linking_flags past) x (linked past) (linked_once x past)
-flags_more def (by.DriverCall r (called.Unlink unlinks.NotThere x)) past valid due k = ap (flags_by (linking_flags past)) (linked_not_there r x past)
-flags_more def (by.CpuCall c call) past valid due k = no_cpu_call def c call past due
-flags_more def (by.ThreadCall x call) past valid due k = no_thread_call def x call past due
+flags_more def (by.CpuCall c call) past valid due k = flags_call call past
+flags_more def (by.ThreadCall x call) past valid due k = flags_call call past
+flags_more def (by.DriverCall r call) past valid due k = flags_call call past
 flags_more def _ past valid due k = refl
 
 -- ---- the flags of the actions

@@ -1,8 +1,11 @@
 -- No count is above the number of entries, and the rule's counts stay within the window.
 use Rattle.std.proofs.Common.{◌≡◌, ℕ, ◌+◌, ◌-◌, ◌^◌, ◌<◌, ◌≤◌, ◌==◌, Bool, true, false, cond, ltb, eqb-true, Option}
-use Rattle.std.proofs.Common.{Some, None, List, [], ◌∷◌, length, refl, sym, ◌∙◌, subst, arith}
+use Rattle.std.proofs.Common.{Some, None, unwrap_or, List, [], ◌∷◌, length, drop, filter, reverse, nat_lt, min, refl, sym, ◌∙◌, subst, arith, length-drop}
 use Rattle.std.proofs.lemmas.Bool.Decides.{nat_tests}
-use Rattle.irq_base.specs.declared.devices.Kind.{Kind}
+use Rattle.std.proofs.lemmas.List.{length-reverse}
+use Rattle.irq_base.specs.declared.calls.Call.{Call}
+use Rattle.irq_base.specs.declared.devices.Part.{Part}
+use Rattle.irq_base.specs.declared.devices.Part.TheVariants as parts
 use Rattle.irq_base.specs.declared.entries.Entry.{Entry}
 use Rattle.irq_base.specs.declared.entries.Entry.TheVariants as by
 use Rattle.irq_base.specs.declared.entries.CpuEntry.TheVariants as cpus
@@ -12,23 +15,29 @@ use Rattle.irq_base.specs.declared.entries.LinkAnswer.TheVariants as links
 use Rattle.irq_base.specs.declared.entries.Note.TheVariants as notes
 use Rattle.irq_base.specs.declared.lines.LineDef.{LineDef}
 use Rattle.irq_base.specs.declared.numbers.DevNo.{DevNo}
-use Rattle.irq_model.specs.Asks.{unserved_by, ends_serving}
-use Rattle.irq_model.specs.Kinds.{is_ask, is_start}
-use Rattle.irq_model.specs.Lines.{is_device, kind_of}
+use Rattle.irq_model.specs.Asks.{unserved_asks, left_by_runs, serving}
+use Rattle.irq_model.specs.Kinds.{is_ask, is_begin_or_return, is_cpu_call, is_serve, is_start, is_thread_call}
+use Rattle.irq_model.specs.Lines.{is_device, run_script}
 use Rattle.irq_model.specs.Links.{depth, base, is_reset, is_deepening}
 use Rattle.irq_model.specs.Places.{since, since_place, upto_place, count_of}
-use Rattle.irq_model.specs.Rounds.{begins_round}
+use Rattle.irq_model.specs.Due.{entries_of_call}
+use Rattle.irq_model.specs.Rounds.{at_work, begins_round}
+use Rattle.irq_model.specs.Runs.{entries_of_run}
 use Rattle.irq_model.specs.Spurious.{Counts, counts_of, counted, unhandled, judged, judged_by_threads, noted, now, round_wakes, round_handles}
 use Rattle.irq_model.specs.Valid.{IsValid}
 use Rattle.std.specs.List.{list_any}
-use Rattle.device_table.specs.Rows.{at}
+use Rattle.device_table.specs.Rows.{at, table_by}
 use Rattle.device_table.proofs.Tables.{at_device, at_none}
 use Rattle.ask_counts.specs.Rows.{HasRoom}
 use Rattle.ask_counts.specs.declared.rows.AskRow.{AskRow}
-use Rattle.line_marks.proofs.AsksFollow.{unserved_more}
-use Rattle.line_marks.specs.Asks.{fresh_by, ask_row, asks_of}
+use Rattle.line_marks.proofs.PlacesFollow.{row_found}
+use Rattle.line_marks.specs.Asks.{since_begun, fresh_asks, ask_row, asks_of}
+use Rattle.run_scripts.specs.Places.{first_row, row_at, place_at}
+use Rattle.run_scripts.specs.declared.rows.RunPlace.{RunPlace}
+use Rattle.run_scripts.specs.declared.rows.RunRow.{RunRow}
 use Rattle.line_marks.specs.Below.{IsBelow}
 use Rattle.line_marks.specs.Bounded.{IsFew, HasSpace}
+use Rattle.line_marks.specs.Places.{past_one, laid_at, work_with, begins_or_returns, thread_calls, thread_place, run_row, places_of}
 use Rattle.line_marks.specs.State.{state_of}
 
 pub count_few : (p : Entry → Bool) (past : List Entry) → count_of p past ≤ length past
@@ -51,22 +60,16 @@ since_few p q (e ∷ past) = by_test (q e) (since_few p q past)
     by_test true h = omega arith
     by_test false h = more (p e) h
 
-pub fresh_few : (k : Kind) (d : DevNo) (past : List Entry) → fresh_by k d past ≤ length past
-fresh_few k d past = since_few _ _ past
+lesser : (a b n : ℕ) → a ≤ n → min a b ≤ n
+lesser a b n h = omega (arith, h)
 
-by_more : (b a : Bool) (u f n : ℕ) → u ≤ n → f ≤ n → cond b f (cond a (u + 1) u) ≤ n + 1
-by_more true a u f n h i = omega (arith, i)
-by_more false true u f n h i = omega (arith, h)
-by_more false false u f n h i = omega (arith, h)
+pub fresh_few : (def : LineDef) (d : DevNo) (past : List Entry) → fresh_asks def d past ≤ length past
+fresh_few def d past =
+    lesser (count_of (is_ask d) (since (is_serve d) past)) (since_begun (serving def d) d past) (length past) (since_few (is_ask d) (is_serve d) past)
 
-pub unserved_few : (k : Kind) (d : DevNo) (past : List Entry) → unserved_by k d past ≤ length past
-unserved_few k d [] = omega arith
-unserved_few k d (e ∷ past) = omega (
-  arith,
-  unserved_more k d e past,
-  by_more (ends_serving k d e) (is_ask d e)
-      (unserved_by k d past) (fresh_by k d past) (length past) (unserved_few k d past) (fresh_few k d past),
-)
+pub unserved_few : (def : LineDef) (d : DevNo) (past : List Entry) → unserved_asks def d past ≤ length past
+unserved_few def d past =
+    lesser (count_of (is_ask d) (since (is_serve d) past)) (left_by_runs (serving def d) d past) (length past) (since_few (is_ask d) (is_serve d) past)
 
 -- the counts of the rule
 
@@ -199,7 +202,7 @@ handled_few def (e ∷ past) = later _ e past (handled_few def past)
 
 row_few : (def : LineDef) (past : List Entry) (d : DevNo) (r : AskRow) → ask_row def past d ≡ r → (r.unserved ≤ length past) × (r.fresh ≤ length past)
 row_few def past d r same = subst (λ (x : AskRow). (x.unserved ≤ length past) × (x.fresh ≤ length past)) same
-    (unserved_few (kind_of def d) d past, fresh_few (kind_of def d) d past)
+    (unserved_few def d past, fresh_few def d past)
 
 found : (x y : AskRow) (o : Option AskRow) → o ≡ Some x → o ≡ Some y → x ≡ y
 found x y o h i = cc
@@ -212,8 +215,75 @@ asks_few def past d r h = by_test (list_any (is_device d) def.devices) refl
     by_test true is = row_few def past d r (found (ask_row def past d) r (at (asks_of def past) d) (at_device (ask_row def past) def.devices d is) h)
     by_test false is = (let none : ◌≡◌ {A = Option AskRow} None (Some r) = sym (at_none (ask_row def past) def.devices d is) ∙ h in cc)
 
+-- how far a run is with its calls
+
+laid_few : (cs : List Call) (es : List Entry) → (laid_at cs es).within ≤ length es
+laid_few [] es = omega arith
+laid_few (c ∷ cs) es = by_test (nat_lt (length es) (entries_of_call c es)) (laid_few cs (drop (entries_of_call c es) es))
+  where
+    p : RunPlace
+    p = laid_at cs (drop (entries_of_call c es) es)
+
+    by_test : (b : Bool) → p.within ≤ length (drop (entries_of_call c es) es)
+        → (cond b (record { place = 0; within = length es }) (past_one p)).within ≤ length es
+    by_test true h = omega arith
+    by_test false h = omega (arith, h, length-drop (entries_of_call c es) es)
+
+since_short : (q : Entry → Bool) (past : List Entry) → length (since q past) ≤ length past
+since_short q [] = omega arith
+since_short q (e ∷ past) = by_test (q e) (since_short q past)
+  where
+    by_test : (b : Bool) → length (since q past) ≤ length past → length (cond b [] (e ∷ since q past)) ≤ length (e ∷ past)
+    by_test true h = omega arith
+    by_test false h = omega (arith, h)
+
+filter_short : (p : Entry → Bool) (xs : List Entry) → length (filter p xs) ≤ length xs
+filter_short p [] = omega arith
+filter_short p (e ∷ xs) = by_test (p e) (filter_short p xs)
+  where
+    by_test : (b : Bool) → length (filter p xs) ≤ length xs → length (cond b (e ∷ filter p xs) (filter p xs)) ≤ length (e ∷ xs)
+    by_test true h = omega (arith, h)
+    by_test false h = omega (arith, h)
+
+calls_few : (p q : Entry → Bool) (past : List Entry) → length (reverse (filter p (since q past))) ≤ length past
+calls_few p q past =
+    let a = length-reverse (filter p (since q past)) in
+    let b = filter_short p (since q past) in
+    omega (arith, a, b, since_short q past)
+
+work_few : (def : LineDef) (past : List Entry) (o : Option DevNo) → (work_with def past o).within ≤ length past
+work_few def past None = omega arith
+work_few def past (Some d) =
+    let l = laid_few (run_script def d parts.Primary) (entries_of_run parts.Primary d past) in
+    omega (arith, l, calls_few is_cpu_call is_begin_or_return past)
+
+thread_few : (def : LineDef) (past : List Entry) (d : DevNo) → (thread_place def past d).within ≤ length past
+thread_few def past d =
+    let l = laid_few (run_script def d parts.Thread) (thread_calls d past) in
+    omega (arith, l, calls_few (is_thread_call d) (begins_or_returns d) past)
+
+rows_few : (def : LineDef) (past : List Entry) (d : DevNo) → (row_at (table_by (run_row def past) def.devices) d).calls.within ≤ length past
+rows_few def past d = by_test (list_any (is_device d) def.devices) refl
+  where
+    by_test : (b : Bool) → list_any (is_device d) def.devices ≡ b → (row_at (table_by (run_row def past) def.devices) d).calls.within ≤ length past
+    by_test true is =
+        subst (λ (r : RunRow). r.calls.within ≤ length past) (sym (row_found def past d is)) (thread_few def past d)
+    by_test false is =
+        let none = at_none (run_row def past) def.devices d is in
+        subst (λ (o : Option RunRow). (unwrap_or o first_row).calls.within ≤ length past) (sym none) (omega arith)
+
+runs_few : (def : LineDef) (past : List Entry) (d : DevNo) (part : Part) → (place_at (places_of def past) d part).within ≤ length past
+runs_few def past d parts.Primary = work_few def past (at_work past)
+runs_few def past d parts.Thread = rows_few def past d
+
 pub state_few : (def : LineDef) (past : List Entry) → IsFew (length past) (state_of def past)
-state_few def past = record { depth = depth_few past; rounds = count_few (begins_round def) past; handled = handled_few def past; asks = asks_few def past }
+state_few def past = record {
+  depth = depth_few past;
+  rounds = count_few (begins_round def) past;
+  handled = handled_few def past;
+  asks = asks_few def past;
+  runs = runs_few def past;
+}
 
 -- ---- one more fits
 
@@ -224,6 +294,9 @@ room_in n (Some r) small h = (let f = h r refl in (below f.0, below f.1))
     below : {a : ℕ} → a ≤ n → a < 2 ^ 32 - 1
     below {a} i = omega (arith, i, small)
 
+one_fits : (a n : ℕ) → n ≤ 100000000 → a ≤ n → a + 1 < 2 ^ 32
+one_fits a n small h = omega (arith, small, h)
+
 pub has_space : (def : LineDef) (past : List Entry) → IsValid def → length past ≤ def.log → HasSpace (state_of def past)
 has_space def past valid within =
     let f = state_few def past in
@@ -233,4 +306,5 @@ has_space def past valid within =
       rounds = omega (arith, small, f.rounds);
       handled = omega (arith, small, f.handled);
       asks = λ d. room_in (length past) (at (asks_of def past) d) small (f.asks d);
+      runs = λ d part. one_fits (place_at (places_of def past) d part).within (length past) small (f.runs d part);
     }

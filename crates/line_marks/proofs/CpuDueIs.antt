@@ -1,11 +1,13 @@
 -- What is due of a processor by the table of steps is due by the state.
 use Rattle.std.proofs.Common.{◌≡◌, ℕ, ◌+◌, Bool, true, false, not, ◌||◌, ◌&&◌, cond, ltb, Option, Some, None, unwrap_or}
-use Rattle.std.proofs.Common.{List, [], ◌∷◌, refl, sym, ap, ◌∙◌, arith}
+use Rattle.std.proofs.Common.{List, [], ◌∷◌, option_map, refl, sym, ap, ap₂, ◌∙◌, arith}
 use Rattle.std.proofs.lemmas.Bool.Decides.{nat_tests}
 use Rattle.irq_base.specs.Cell.{signals as presents}
-use Rattle.irq_base.specs.Handlers.{answer_of}
-use Rattle.irq_base.specs.declared.devices.Kind.{Kind}
+use Rattle.std.specs.List.{list_any}
+use Rattle.irq_base.specs.declared.calls.Call.{Call}
+use Rattle.irq_base.specs.declared.devices.Answer.{Answer}
 use Rattle.irq_base.specs.declared.devices.Part.TheVariants as parts
+use Rattle.irq_base.specs.declared.entries.CallEntry.{CallEntry}
 use Rattle.irq_base.specs.declared.entries.Entry.{Entry}
 use Rattle.irq_base.specs.declared.entries.Entry.TheVariants as by
 use Rattle.irq_base.specs.declared.entries.CpuEntry.TheVariants as cpus
@@ -23,10 +25,11 @@ use Rattle.irq_laws.proofs.KeptAlways.{kept}
 use Rattle.irq_laws.proofs.RestKept.{called_there, there_named}
 use Rattle.irq_laws.specs.Driven.{cell_after}
 use Rattle.irq_model.specs.Legal.{IsLegalPast}
-use Rattle.irq_model.specs.Lines.{is_edge_line}
+use Rattle.irq_model.specs.Lines.{is_device, is_edge_line}
 use Rattle.irq_model.specs.Links.{linked, is_none_linked, is_disabled, is_oneshot, linking_flags, depth}
 use Rattle.irq_model.specs.Masks.{is_masked}
-use Rattle.irq_model.specs.Next.{next_of_cpu, next_in_flow, next_take, begin_or_end, end_by_flow, is_off_now, take_answer, served_by_handler}
+use Rattle.irq_model.specs.Next.{next_of_cpu, next_in_flow, next_take, begin_or_end, end_by_flow, is_off_now, take_answer, handler_or_return}
+use Rattle.irq_model.specs.Runs.{due_in_run}
 use Rattle.irq_model.specs.Rounds.{flow, has_flow, is_cpu, has_begun, first_left, at_work}
 use Rattle.irq_model.specs.Signal.{target}
 use Rattle.irq_model.specs.Spurious.{note_of}
@@ -34,18 +37,17 @@ use Rattle.irq_model.specs.Threads.{is_some_unfinished}
 use Rattle.irq_model.specs.Valid.{IsValid}
 use Rattle.irq_model.specs.Waiting.{is_soft, is_pending}
 use Rattle.device_table.proofs.Tables.{at_device}
-use Rattle.device_table.specs.Rows.{at, table_by}
+use Rattle.device_table.specs.Rows.{table_by}
 use Rattle.act_list.specs.Lists.{first_left as left_in}
-use Rattle.ask_counts.specs.declared.rows.AskRow.{AskRow}
 use Rattle.line_marks.proofs.ActionsFollow.{actions_are, bare_is}
 use Rattle.line_marks.proofs.CellFollows.{presents_is}
-use Rattle.line_marks.proofs.KindsFixed.{kind_is}
+use Rattle.line_marks.proofs.CallsDue.{step_is}
 use Rattle.line_marks.proofs.Known.{linked_named, held_known}
 use Rattle.line_marks.proofs.Listed.{first_by, left_of}
+use Rattle.line_marks.proofs.RunsAre.{answer_is, served_is, at_work_open, handler_due_is}
 use Rattle.line_marks.specs.Actions.{actions_of}
 use Rattle.line_marks.specs.Acts.{left_by, killed_if}
-use Rattle.line_marks.specs.Asks.{ask_row}
-use Rattle.line_marks.specs.CpuDue.{is_held, met_by, return_by, end_with, begin_or_end_by, in_flow_by, take_by, next_take_by, cpu_due}
+use Rattle.line_marks.specs.CpuDue.{is_held, end_with, begin_or_end_by, handler_or_return_by, in_flow_by, take_by, next_take_by, cpu_due}
 use Rattle.line_marks.specs.Desc.{desc_of}
 use Rattle.line_marks.specs.State.{state_of}
 
@@ -143,16 +145,22 @@ module _ (def : LineDef) (c : CpuNo) (past : List Entry) where
   walk_is (Some d) = refl
 
   module _ (valid : IsValid def) (legal : IsLegalPast def past) where
+    handler_is : (d : DevNo) → at_work past ≡ Some d → list_any (is_device d) def.devices ≡ true → (o : Option (Call × ℕ))
+        → handler_or_return def c d past o ≡ handler_or_return_by def (state_of def past) c d o
+    handler_is d is there None =
+        ap₂ (λ (a : Answer) (n : ℕ). Some (by.Cpu c (cpus.Return a d n))) (sym (answer_is def past d there parts.Primary))
+        (sym (served_is def past d there parts.Primary (at_work_open d past is)))
+    handler_is d is there (Some due) = ap (λ (o : Option CallEntry). option_map (by.CpuCall c) o) (step_is def past valid legal due)
+
     in_flow_is : (o : Option DevNo) → at_work past ≡ o → next_in_flow def c past o ≡ in_flow_by def (state_of def past) c o
     in_flow_is (Some d) is =
         let k = kept def past valid legal in
-        let on = called_there def past k d (k.runs.working d is).0 in
-        let row : at (state_of def past).asks d ≡ Some (ask_row def past d) = at_device (ask_row def past) def.devices d (there_named def past k d on) in
-        ap (λ (x : Kind). by.Cpu c (cpus.Return (answer_of x parts.Primary (ask_row def past d).met_by_handler) d
-        (served_by_handler x (ask_row def past d).met_by_handler))) (sym (kind_is def d))
-        ∙ ap (λ (o : Option AskRow). return_by (state_of def past) c d (met_by o)) (sym row)
+        let there = there_named def past k d (called_there def past k d (k.runs.working d is).0) in
+        handler_is d is there (due_in_run def parts.Primary d past)
+        ∙ ap (handler_or_return_by def (state_of def past) c d) (sym (handler_due_is def past d there is))
     in_flow_is None is =
-        ap (begin_or_end def c past) (left_known def past valid legal) ∙ walk_is (left_in (table_by (has_begun def past) def.devices) (actions_of past))
+        ap (λ (o : Option DevNo). Some (begin_or_end def c past o)) (left_known def past valid legal)
+        ∙ ap Some (walk_is (left_in (table_by (has_begun def past) def.devices) (actions_of past)))
 
     pub take_answer_is : take_answer def past ≡ take_by (state_of def past)
     take_answer_is = rw (bare_is def past valid legal)
@@ -176,5 +184,5 @@ module _ (def : LineDef) (c : CpuNo) (past : List Entry) where
 pub cpu_due_is : (def : LineDef) (past : List Entry) (c : CpuNo) → IsValid def → IsLegalPast def past
     → next_of_cpu def c past ≡ cpu_due def (state_of def past) c
 cpu_due_is def past c valid legal =
-    ap (λ (e : Entry). cond (is_cpu c (flow def past)) (Some e) (next_take def c past)) (in_flow_is def c past valid legal (at_work past) refl)
-    ∙ ap (λ (o : Option Entry). cond (is_cpu c (flow def past)) (Some (in_flow_by def (state_of def past) c (at_work past))) o) (take_is def c past valid legal)
+    ap (λ (o : Option Entry). cond (is_cpu c (flow def past)) o (next_take def c past)) (in_flow_is def c past valid legal (at_work past) refl)
+    ∙ ap (λ (o : Option Entry). cond (is_cpu c (flow def past)) (in_flow_by def (state_of def past) c (at_work past)) o) (take_is def c past valid legal)

@@ -1,4 +1,6 @@
-pub mod KindsFixed
+pub mod FactsFixed
+pub mod MadeBy
+pub mod CallGoes
 pub mod ActionsFollow
 pub mod DescFollow
 pub mod ThreadsFollow
@@ -9,10 +11,13 @@ pub mod ListFollows
 pub mod CountsFollow
 pub mod FreeingFollows
 pub mod ScriptsFollow
+pub mod PlacesFollow
 pub mod Bounds
 pub mod UpFollow
 pub mod Listed
 pub mod Known
+pub mod RunsAre
+pub mod CallsDue
 pub mod ThreadsDue
 pub mod CpuDueIs
 pub mod DriversDueIs
@@ -24,3 +29,4 @@ pub mod ExpectedOf
 pub mod TargetFollow
 pub mod CellFollows
 pub mod StateFollows
+mod PlayRows

@@ -3,6 +3,10 @@ use Rattle.std.proofs.Common.{◌≡◌, ℕ, Bool, true, false, not, ◌||◌, 
 use Rattle.std.specs.List.{list_any}
 use Rattle.irq_base.specs.declared.calls.Flags.{Flags}
 use Rattle.irq_base.specs.declared.devices.Answer.TheVariants as answers
+use Rattle.irq_base.specs.declared.entries.Actor.{Actor}
+use Rattle.irq_base.specs.declared.entries.Actor.TheVariants as actors
+use Rattle.irq_base.specs.declared.entries.CallEntry.{CallEntry}
+use Rattle.irq_base.specs.declared.entries.CallEntry.TheVariants as called
 use Rattle.irq_base.specs.declared.entries.Entry.{Entry}
 use Rattle.irq_base.specs.declared.entries.Entry.TheVariants as by
 use Rattle.irq_base.specs.declared.entries.CpuEntry.TheVariants as cpus
@@ -14,7 +18,7 @@ use Rattle.irq_base.specs.declared.lines.LineDef.{LineDef}
 use Rattle.irq_base.specs.declared.numbers.CpuNo.{CpuNo}
 use Rattle.irq_base.specs.declared.numbers.DevNo.{DevNo}
 use Rattle.irq_base.specs.declared.numbers.DriverNo.{DriverNo}
-use Rattle.irq_model.specs.Kinds.{same_dev, links_dev, wakes, is_cleared_finish}
+use Rattle.irq_model.specs.Kinds.{same_dev, links_dev, wakes, is_cleared_finish, made_by}
 use Rattle.irq_model.specs.Legal.{IsDue, IsLegalPast}
 use Rattle.irq_model.specs.Lines.{is_device}
 use Rattle.irq_model.specs.Links.{linking_flags, is_linked, is_oneshot}
@@ -27,12 +31,13 @@ use Rattle.irq_laws.proofs.ImpliesDriver.{request_due}
 use Rattle.irq_laws.proofs.ImpliesFlow.{return_due}
 use Rattle.irq_laws.proofs.ImpliesThread.{thread_begin_due, thread_return_due, finish_due, done_due}
 use Rattle.irq_laws.proofs.KeptAlways.{kept}
-use Rattle.irq_laws.proofs.RestKept.{no_part, parts_of, none_freed, called_there, running_there, woken_there, there_named}
+use Rattle.irq_laws.proofs.RestKept.{no_part, parts_of, none_freed, called_there, running_there, woken_there, there_named, woken_was_linked}
 use Rattle.irq_laws.proofs.WantedKept.{requested_unlinked}
+use Rattle.irq_laws.specs.Actors.{by_someone}
 use Rattle.irq_laws.specs.Kept.{Kept}
 use Rattle.device_table.proofs.Tables.{same_table, change_table}
 use Rattle.act_thread.specs.Steps.{woken_row, begun_row, returned_row, finished_row, done_row}
-use Rattle.act_thread.specs.Threads.{threads_after}
+use Rattle.act_thread.specs.Threads.{threads_after, threads_by_call}
 use Rattle.act_thread.specs.declared.rows.Stage.{Stage}
 use Rattle.act_thread.specs.declared.rows.Stage.TheVariants as stages
 use Rattle.act_thread.specs.declared.rows.ThreadRow.{ThreadRow}
@@ -75,6 +80,16 @@ wakes_held def c x n past h d = by_test (same_dev d x) refl
         → is_unfinished (by.Cpu c (cpus.Return answers.Wake x n) ∷ past) d ≡ (linking_flags (by.Cpu c (cpus.Return answers.Wake x n) ∷ past) d).oneshot
     by_test true is = λ on. rw is (held_now (linking_flags past d).oneshot true)
     by_test false is = rw is (h d)
+
+-- and a call's
+call_held : (call : CallEntry) (past : List Entry) → IsWokenHeld past → IsWokenHeld (by_someone call ∷ past)
+call_held (called.Wake woken x) past h d = by_test (woken && same_dev d x) refl
+  where
+    by_test : (b : Bool) → (woken && same_dev d x) ≡ b → is_woken (by_someone (called.Wake woken x) ∷ past) d ≡ true
+        → is_unfinished (by_someone (called.Wake woken x) ∷ past) d ≡ (linking_flags (by_someone (called.Wake woken x) ∷ past) d).oneshot
+    by_test true is = λ on. rw is (held_now (linking_flags past d).oneshot true)
+    by_test false is = rw is (h d)
+call_held call past h d = h d
 
 answers_held : (b w : Bool) → ((b && false) || w) ≡ w
 answers_held true w = refl
@@ -124,9 +139,9 @@ woken_held_more def (by.Driver r (drivers.Ask edge x)) past valid due k h = h
 woken_held_more def (by.Cpu c (cpus.Take way answer)) past valid due k h = h
 woken_held_more def (by.Cpu c (cpus.Begin x)) past valid due k h = h
 woken_held_more def (by.Cpu c (cpus.End again unmask note)) past valid due k h = h
-woken_held_more def (by.CpuCall c call) past valid due k h = h
-woken_held_more def (by.ThreadCall x call) past valid due k h = h
-woken_held_more def (by.DriverCall r call) past valid due k h = h
+woken_held_more def (by.CpuCall c call) past valid due k h = call_held call past h
+woken_held_more def (by.ThreadCall x call) past valid due k h = call_held call past h
+woken_held_more def (by.DriverCall r call) past valid due k h = call_held call past h
 woken_held_more def (by.Driver r (drivers.Affinity answer mask)) past valid due k h = h
 woken_held_more def (by.Driver r (drivers.Moment at)) past valid due k h = h
 
@@ -171,6 +186,21 @@ row_ends r t false o w u a b h = by_test o h
     by_test true i = cc
     by_test false i = rw (a, b) refl
 
+-- a call's step
+call_more : (def : LineDef) (a : Actor) (call : CallEntry) (past : List Entry) → IsValid def → IsDue def (made_by a call) past → Kept def past
+    → IsWokenHeld past → threads_of def (by_someone call ∷ past) ≡ threads_by_call (is_oneshot past) call (threads_of def past)
+call_more def a (called.Wake true x) past valid due k h =
+    let on : (is_linked past x || is_being_freed past x) ≡ true = ap (λ b. b || is_being_freed past x) (woken_was_linked def a x past due) in
+    let f = (linking_flags past x).oneshot in
+    let s = stands (wakes x) (is_cleared_finish x) (since (links_dev x) past) in
+    let st = stage_by (is_running past x) (has_returned past x) (has_finished past x) in
+    change_table (thread_of past) (thread_of (by_someone (called.Wake true x) ∷ past)) (woken_row (is_oneshot past))
+    def.devices x valid.distinct (there def past x k on)
+    (rw (same_self x) (woken_own (is_woken past x) (is_unfinished past x) s f (is_oneshot past) st (h x) refl (k.rest.flags x on)))
+    (λ d apart. rw (other_way d x apart) refl)
+call_more def a (called.Wake false x) past valid due k h = refl
+call_more def a call past valid due k h = refl
+
 pub threads_more : (def : LineDef) (e : Entry) (past : List Entry) → IsValid def → IsDue def e past → Kept def past
     → IsWokenHeld past → threads_of def (e ∷ past) ≡ threads_after (is_oneshot past) e (threads_of def past)
 threads_more def (by.Cpu c (cpus.Return answers.Wake x n)) past valid due k h =
@@ -195,7 +225,7 @@ threads_more def (by.Thread x threads.Begin) past valid due k h =
     (there def past x k (woken_there def past k x is.woken))
     (rw (same_self x, is.woken, is.not_running) refl) (λ d apart. rw (other_way d x apart) refl)
 threads_more def (by.Thread x (threads.Return handled n)) past valid due k h =
-    let is = thread_return_due handled def x n past due in
+    let is = thread_return_due def x handled n past due in
     change_table (thread_of past) (thread_of (by.Thread x (threads.Return handled n) ∷ past)) returned_row def.devices x
     valid.distinct (there def past x k (running_there def past k x is.running))
     (rw (same_self x, is.running, is.not_returned) refl) (λ d apart. rw (other_way d x apart) refl)
@@ -243,9 +273,9 @@ threads_more def (by.Driver r (drivers.Ask edge x)) past valid due k h = refl
 threads_more def (by.Cpu c (cpus.Take way answer)) past valid due k h = refl
 threads_more def (by.Cpu c (cpus.Begin x)) past valid due k h = refl
 threads_more def (by.Cpu c (cpus.End again unmask note)) past valid due k h = refl
-threads_more def (by.CpuCall c call) past valid due k h = refl
-threads_more def (by.ThreadCall x call) past valid due k h = refl
-threads_more def (by.DriverCall r call) past valid due k h = refl
+threads_more def (by.CpuCall c call) past valid due k h = call_more def (actors.Cpu c) call past valid due k h
+threads_more def (by.ThreadCall x call) past valid due k h = call_more def (actors.Thread x) call past valid due k h
+threads_more def (by.DriverCall r call) past valid due k h = call_more def (actors.Driver r) call past valid due k h
 threads_more def (by.Driver r (drivers.Affinity answer mask)) past valid due k h = refl
 threads_more def (by.Driver r (drivers.Moment at)) past valid due k h = refl
 

@@ -1,58 +1,71 @@
 -- The counts of the asks of a line's devices, read off its past, and what an entry makes of them.
-use Rattle.std.specs.Prelude.{ℕ, Bool, true, false, List}
-use Rattle.irq_base.specs.declared.devices.Kind.{Kind}
-use Rattle.irq_base.specs.declared.devices.Kind.TheVariants as device_kinds
+use Rattle.std.specs.Prelude.{ℕ, min, ◌&&◌, nat_lt, Option, Some, None, List}
+use Rattle.irq_base.specs.declared.devices.Part.{Part}
+use Rattle.irq_base.specs.declared.devices.Part.TheVariants as parts
 use Rattle.irq_base.specs.declared.entries.Entry.{Entry}
 use Rattle.irq_base.specs.declared.entries.Entry.TheVariants as by
 use Rattle.irq_base.specs.declared.entries.CpuEntry.TheVariants as cpus
 use Rattle.irq_base.specs.declared.entries.ThreadEntry.TheVariants as threads
 use Rattle.irq_base.specs.declared.entries.DriverEntry.TheVariants as drivers
+use Rattle.irq_base.specs.declared.entries.CallEntry.{CallEntry}
+use Rattle.irq_base.specs.declared.entries.CallEntry.TheVariants as called_by
 use Rattle.irq_base.specs.declared.lines.LineDef.{LineDef}
 use Rattle.irq_base.specs.declared.numbers.DevNo.{DevNo}
-use Rattle.irq_model.specs.Asks.{begins_serving, unserved_by}
-use Rattle.irq_model.specs.Kinds.{is_ask, is_begin, is_thread_begin}
-use Rattle.irq_model.specs.Lines.{kind_of}
-use Rattle.irq_model.specs.Places.{since, before, count_of}
+use Rattle.irq_model.specs.Asks.{begins_run, is_quiet, serving, unserved_asks}
+use Rattle.irq_model.specs.Kinds.{is_ask, is_serve}
+use Rattle.irq_model.specs.Places.{since, count_of}
+use Rattle.irq_model.specs.Runs.{met_by}
 use Rattle.device_table.specs.Rows.{table_by, change}
-use Rattle.ask_counts.specs.Rows.{asked, called, begun, served}
+use Rattle.ask_counts.specs.Rows.{asked, called, begun, served, emptied, turned_off, turned_on}
+use Rattle.ask_counts.specs.declared.facts.DeviceFacts.{DeviceFacts}
 use Rattle.ask_counts.specs.declared.rows.AskRow.{AskRow}
-use Rattle.line_marks.specs.Kinds.{kind_at}
+use Rattle.line_marks.specs.Facts.{serves_in}
 
--- the asks since the last serving run began
-abbrev pub fresh_by : Kind → DevNo → List Entry → ℕ
-fresh_by kind d past = count_of (is_ask d) (since (begins_serving kind d) past)
+-- how many asks came since a run that serves last began; all if none of them serves
+abbrev pub since_begun : Option Part → DevNo → List Entry → ℕ
+since_begun None d past = count_of (is_ask d) past
+since_begun (Some part) d past = count_of (is_ask d) (since (begins_run part d) past)
 
--- the unserved asks now, and as the last run of the handler and of the thread began
+-- what a run that serves would leave, if it returned now: what came since it began, and since a
+-- call last served the device
+abbrev pub fresh_asks : LineDef → DevNo → List Entry → ℕ
+fresh_asks def d past =
+    min (count_of (is_ask d) (since (is_serve d) past)) (since_begun (serving def d) d past)
+
+-- the unserved asks now, and as the last run of the handler and of the thread began; and whether
+-- the device is quiet
 abbrev pub ask_row : LineDef → List Entry → DevNo → AskRow
 ask_row def past d = record {
-  unserved = unserved_by (kind_of def d) d past;
-  fresh = fresh_by (kind_of def d) d past;
-  met_by_handler = unserved_by (kind_of def d) d (before (is_begin d) past);
-  met_by_thread = unserved_by (kind_of def d) d (before (is_thread_begin d) past);
+  unserved = unserved_asks def d past;
+  fresh = fresh_asks def d past;
+  met_by_handler = met_by def parts.Primary d past;
+  met_by_thread = met_by def parts.Thread d past;
+  quiet = is_quiet past d;
 }
 
 abbrev pub asks_of : LineDef → List Entry → List (DevNo × AskRow)
 asks_of def past = table_by (ask_row def past) def.devices
 
--- the device is served by its handler, or by its thread
-abbrev pub is_direct : Kind → Bool
-is_direct device_kinds.Direct = true
-is_direct _ = false
+-- what the step of a call makes of them, whoever makes it
+abbrev pub asks_by_call : CallEntry → List (DevNo × AskRow) → List (DevNo × AskRow)
+asks_by_call (called_by.Serve dev count) t = change emptied t dev
+asks_by_call (called_by.Quiet dev) t = change turned_off t dev
+asks_by_call (called_by.Arm edge dev) t = change turned_on t dev
+asks_by_call _ t = t
 
-abbrev pub is_threaded : Kind → Bool
-is_threaded device_kinds.Check = true
-is_threaded device_kinds.Null = true
-is_threaded _ = false
-
--- an entry of a run counts as serving if the device's kind says so
-abbrev pub asks_after : List (DevNo × Kind) → Entry → List (DevNo × AskRow) → List (DevNo × AskRow)
-asks_after kinds (by.Driver driver (drivers.Ask edge dev)) t = change asked t dev
-asks_after kinds (by.Cpu cpu (cpus.Begin dev)) t
-    = change (called (is_direct (kind_at kinds dev))) t dev
-asks_after kinds (by.Cpu cpu (cpus.Return answer dev n)) t =
-    change (served (is_direct (kind_at kinds dev))) t dev
-asks_after kinds (by.Thread dev threads.Begin) t =
-    change (begun (is_threaded (kind_at kinds dev))) t dev
-asks_after kinds (by.Thread dev (threads.Return handled n)) t =
-    change (served (is_threaded (kind_at kinds dev))) t dev
-asks_after kinds _ t = t
+-- a run counts as serving if its part is the one that serves; a return, if it served at all
+abbrev pub asks_after : List (DevNo × DeviceFacts) → Entry → List (DevNo × AskRow)
+    → List (DevNo × AskRow)
+asks_after facts (by.Driver driver (drivers.Ask edge dev)) t = change asked t dev
+asks_after facts (by.Cpu cpu (cpus.Begin dev)) t =
+    change (called (serves_in facts parts.Primary dev)) t dev
+asks_after facts (by.Cpu cpu (cpus.Return answer dev n)) t =
+    change (served (serves_in facts parts.Primary dev && nat_lt 0 n)) t dev
+asks_after facts (by.Thread dev threads.Begin) t =
+    change (begun (serves_in facts parts.Thread dev)) t dev
+asks_after facts (by.Thread dev (threads.Return handled n)) t =
+    change (served (serves_in facts parts.Thread dev && nat_lt 0 n)) t dev
+asks_after facts (by.CpuCall cpu call) t = asks_by_call call t
+asks_after facts (by.ThreadCall dev call) t = asks_by_call call t
+asks_after facts (by.DriverCall driver call) t = asks_by_call call t
+asks_after facts _ t = t

@@ -19,12 +19,13 @@ use Rattle.device_table.specs.Rows.{at}
 use Rattle.act_list.specs.Actions.{is_bare, has, answer_by as link_answer_by}
 use Rattle.act_list.specs.Lists.{unlink_by}
 use Rattle.affinity.specs.Seen.{set_answer}
-use Rattle.ask_counts.specs.Rows.{HasRoom}
+use Rattle.ask_counts.specs.Rows.{HasRoom, unserved_at}
 use Rattle.desc_state.specs.Desc.{enable_by}
 use Rattle.line_marks.specs.Acts.{killed_if, left_by}
+use Rattle.line_marks.specs.Calls.{ask_edge_by, arm_edge_by, wake_by}
 use Rattle.line_marks.specs.CpuDue.{take_by, note_by, is_held, end_with}
 use Rattle.line_marks.specs.DriversDue.{opened_by}
-use Rattle.line_marks.specs.Kinds.{kind_at}
+use Rattle.line_marks.specs.Facts.{kind_at}
 use Rattle.line_marks.specs.State.{StateSeen}
 
 -- one more round fits
@@ -51,10 +52,14 @@ IsExpectedCall def called.Disable s = HasDepth s
 IsExpectedCall def (called.Enable answer) s =
     answer ≡ enable_by (not (is_bare s.list.actions)) def.trigger s.desc s.cell
 IsExpectedCall def (called.Unlink answer dev) s = answer ≡ unlink_by dev s.list.actions
+IsExpectedCall def (called.Wake woken dev) s = woken ≡ wake_by dev s
+IsExpectedCall def (called.Arm edge dev) s = edge ≡ arm_edge_by def dev s
+IsExpectedCall def (called.Serve dev count) s = count ≡ unserved_at s.asks dev
 IsExpectedCall def _ s = Unit {0}
 
 abbrev pub IsExpected : LineDef → Entry → StateSeen → Type 0
-IsExpected def (by.Driver driver (drivers.Ask edge dev)) s = HasRoom (at s.asks dev)
+IsExpected def (by.Driver driver (drivers.Ask edge dev)) s =
+    (edge ≡ ask_edge_by def dev s) × HasRoom (at s.asks dev)
 IsExpected def (by.Cpu cpu (cpus.Take way answer)) s = (answer ≡ take_by s) × HasRounds s
 IsExpected def (by.Cpu cpu (cpus.End again unmask note)) s =
     (by.Cpu cpu (cpus.End again unmask note) ≡ end_with cpu (note_by s)
@@ -64,7 +69,7 @@ IsExpected def (by.Thread dev (threads.Return handled served)) s
     = s.counts.counts.threads_handled < 2 ^ 32 - 1
 IsExpected def (by.Driver driver (drivers.Request flags answer opened dev)) s =
     (has dev s.list.actions ≡ false)
-    × (answer ≡ link_answer_by (kind_at s.kinds dev) flags s.list.actions)
+    × (answer ≡ link_answer_by (kind_at s.facts dev) flags s.list.actions)
     × (opened ≡ opened_with def flags s answer)
 IsExpected def (by.Driver driver (drivers.Affinity answer mask)) s = answer ≡ set_answer s.aim mask
 IsExpected def (by.CpuCall cpu call) s = IsExpectedCall def call s

@@ -1,8 +1,9 @@
 pub mod Desc
-pub mod Kinds
+pub mod Facts
 pub mod Actions
 pub mod Threads
 pub mod Asks
+pub mod Places
 pub mod Aim
 pub mod Rounds
 pub mod Counts
@@ -11,6 +12,8 @@ pub mod Up
 pub mod Scripts
 pub mod State
 pub mod Acts
+pub mod Calls
+pub mod Runs
 pub mod Due
 pub mod CpuDue
 pub mod DriversDue

@@ -18,6 +18,6 @@ abbrev pub due_call_in : List (DriverNo × RowSeen) → DriverNo → Option (Cal
 due_call_in scripts r = with_count (call_of scripts r) (within_of scripts r)
 
 abbrev pub due_by : LineDef → StateSeen → List (DriverNo × RowSeen) → Actor → Option Entry
-due_by def s scripts (actors.Thread d) = thread_due s d
+due_by def s scripts (actors.Thread d) = thread_due def s d
 due_by def s scripts (actors.Cpu c) = cpu_due def s c
 due_by def s scripts (actors.Driver r) = driver_due def s r (due_call_in scripts r)

@@ -1,6 +1,7 @@
 -- Whether the line's domains are activated (`is_up`), read off the actions and the free under way;
 -- and what an entry makes of it.
 use Rattle.std.specs.Prelude.{Bool, not, ◌||◌, ◌&&◌, Option, is_some}
+use Rattle.irq_base.specs.declared.entries.Actor.{Actor}
 use Rattle.irq_base.specs.declared.entries.Entry.{Entry}
 use Rattle.irq_base.specs.declared.entries.Entry.TheVariants as by
 use Rattle.irq_base.specs.declared.entries.DriverEntry.TheVariants as drivers
@@ -8,10 +9,9 @@ use Rattle.irq_base.specs.declared.entries.CallEntry.{CallEntry}
 use Rattle.irq_base.specs.declared.entries.CallEntry.TheVariants as called
 use Rattle.irq_base.specs.declared.entries.LinkAnswer.TheVariants as links
 use Rattle.irq_base.specs.declared.numbers.DevNo.{DevNo}
-use Rattle.irq_base.specs.declared.numbers.DriverNo.{DriverNo}
 
 -- something is linked, or the last unlinked device is being freed
-abbrev pub up_by : Bool → Option (DriverNo × DevNo) → Bool
+abbrev pub up_by : Bool → Option (Actor × DevNo) → Bool
 up_by bare freeing = not bare || is_some freeing
 
 -- the step of a call, whoever makes it

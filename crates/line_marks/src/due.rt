@@ -1,6 +1,6 @@
 //! What is due of each actor is read off the state and the drivers' places. And an entry that is
 //! due meets what the functions of the state expect of it.
-ghost use Rattle.std.specs.Prelude.{◌≡◌, ℕ, ◌≤◌, Bool, List, Option, length};
+ghost use Rattle.std.specs.Prelude.{◌≡◌, ℕ, ◌≤◌, Bool, true, List, Option, length};
 ghost use Rattle.irq_base.specs.declared.calls.Call.{Call};
 ghost use Rattle.irq_base.specs.declared.calls.Flags.{Flags};
 ghost use Rattle.irq_base.specs.declared.entries.Actor.{Actor};
@@ -20,15 +20,16 @@ ghost use Rattle.irq_base.specs.declared.numbers.DevNo.{DevNo};
 ghost use Rattle.irq_base.specs.declared.numbers.DriverNo.{DriverNo};
 ghost use Rattle.irq_model.specs.Due.{calls_by, due_call};
 ghost use Rattle.irq_model.specs.Legal.{IsDue, IsLegalPast};
-ghost use Rattle.irq_model.specs.Next.{next, next_past, next_of_call};
+ghost use Rattle.irq_model.specs.Next.{next, next_past, next_of_driver};
 ghost use Rattle.irq_model.specs.Valid.{IsValid};
 ghost use Rattle.act_list.specs.Actions.{is_bare};
 ghost use Rattle.line_scripts.specs.Rows.{RowSeen, calls_of, place_of, within_of};
+ghost use Rattle.run_scripts.specs.Runs.{RunsSeen};
 ghost use Rattle.line_marks.specs.Acts.{arrived, moved, entered, handling_from, noted_at};
 ghost use Rattle.line_marks.specs.Acts.{killed_by, killed_if, left_by, left_at, gone_on};
 ghost use Rattle.line_marks.specs.Acts.{linked_at, activated_if, opened_to};
 ghost use Rattle.line_marks.specs.CpuDue.{cpu_due, is_held, note_by, end_with};
-ghost use Rattle.line_marks.specs.DriversDue.{driver_due, opened_by};
+ghost use Rattle.line_marks.specs.DriversDue.{asks_own, driver_due, opened_by};
 ghost use Rattle.line_marks.specs.Due.{thread_due};
 ghost use Rattle.line_marks.specs.Expected.{IsExpected};
 ghost use Rattle.line_marks.specs.Line.{IsLine};
@@ -36,17 +37,18 @@ ghost use Rattle.line_marks.specs.Next.{due_call_in, due_by};
 ghost use Rattle.line_marks.specs.Scripts.{IsAt};
 ghost use Rattle.line_marks.specs.State.{StateSeen, state_of, state_after};
 
-/// What is due of a thread of the line: its run begins, its handler returns, the run is finalized
-/// or is over.
+/// What is due of a thread of the line: its run begins, it makes the next call of its script, its
+/// handler returns, the run is finalized or is over.
 #[tactic(auto, using(crate::proofs::DueIs::thread_is))]
 pub fn thread_due_is_told()
     ensures law { (def : LineDef) (past : List Entry) (d : DevNo) → IsValid def
         → IsLegalPast def past
-        → next_past def past (actors.Thread d) ≡ thread_due (state_of def past) d }
+        → next_past def past (actors.Thread d) ≡ thread_due def (state_of def past) d }
 {}
 
-/// What is due of a processor: in its flow the return of the handler at work, the next handler's
-/// begin, or the end by the line's flow; else the take of what is presented or resent.
+/// What is due of a processor: in its flow the next call of the handler at work or its return, the
+/// next handler's begin, or the end by the line's flow; else the take of what is presented or
+/// resent.
 #[tactic(auto, using(crate::proofs::CpuDueIs::cpu_due_is))]
 pub fn cpu_due_is_told()
     ensures law { (def : LineDef) (past : List Entry) (c : CpuNo) → IsValid def
@@ -54,12 +56,13 @@ pub fn cpu_due_is_told()
         → next_past def past (actors.Cpu c) ≡ cpu_due def (state_of def past) c }
 {}
 
-/// What is due of a driver, by its due call and how many entries the call has made: all nine calls.
+/// What is due of a driver, by its due call and how many entries the call has made: all calls, but
+/// for an ask of a device that the line lacks, which is due of nobody.
 #[tactic(auto, using(crate::proofs::DriversDueIs::driver_due_is, crate::proofs::DriversDueIs::driver_is))]
 pub fn driver_due_is_told()
     ensures calls { (def : LineDef) (past : List Entry) (r : DriverNo) (o : Option (Call × ℕ))
-        → IsValid def → IsLegalPast def past
-        → next_of_call def r past o ≡ driver_due def (state_of def past) r o }
+        → IsValid def → IsLegalPast def past → asks_own def o ≡ true
+        → next_of_driver def r past o ≡ driver_due def (state_of def past) r o }
     ensures law { (def : LineDef) (past : List Entry) (r : DriverNo) → IsValid def
         → IsLegalPast def past
         → next_past def past (actors.Driver r)
@@ -75,8 +78,8 @@ pub fn due_is_told()
         → (a : Actor) → IsValid def → IsLegalPast def past
         → next_past def past a ≡ due_by def (state_of def past) scripts a }
     ensures line { (def : LineDef) (h : List Entry) (s : StateSeen)
-        (scripts : List (DriverNo × RowSeen)) (a : Actor)
-        → IsLine def h s scripts → next def h a ≡ due_by def s scripts a }
+        (scripts : List (DriverNo × RowSeen)) (runs : RunsSeen) (a : Actor)
+        → IsLine def h s scripts runs → next def h a ≡ due_by def s scripts a }
 {}
 
 /// A driver's due call is the call at its place.

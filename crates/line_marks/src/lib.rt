@@ -14,8 +14,8 @@ pub use due::{
 };
 pub use parts::{
     actions_are, active_follows, aim_follows, aimed_follows, asks_follow, bare_is, desc_follows,
-    freeing_follows, freeing_holds_mutex, kinds_stand, list_follows, places_follow, places_stay,
-    rounds_follow, tally_follows, threads_follow, up_is,
+    enabled_is_active, facts_stand, freeing_follows, freeing_holds_mutex, list_follows,
+    places_follow, places_stay, rounds_follow, runs_follow, tally_follows, threads_follow, up_is,
 };
 pub use whole::{
     cell_follows, cell_is_open, cell_is_told, cell_keeps_kind, counts_have_room, counts_stay_below,

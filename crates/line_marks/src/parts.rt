@@ -10,15 +10,16 @@ ghost use Rattle.irq_base.specs.declared.numbers.DriverNo.{DriverNo};
 ghost use Rattle.irq_model.specs.Due.{due_call, holds_mutex};
 ghost use Rattle.irq_model.specs.Kinds.{is_by_driver};
 ghost use Rattle.irq_model.specs.Legal.{IsLegalPast};
-ghost use Rattle.irq_model.specs.Lines.{kind_of};
-ghost use Rattle.irq_model.specs.Links.{is_none_linked, is_oneshot};
+ghost use Rattle.irq_model.specs.Links.{depth, is_none_linked, is_oneshot};
 ghost use Rattle.irq_model.specs.Next.{next_past};
+ghost use Rattle.irq_model.specs.Rounds.{at_work};
 ghost use Rattle.irq_model.specs.Up.{is_up};
 ghost use Rattle.irq_model.specs.Valid.{IsValid};
 ghost use Rattle.irq_laws.specs.Kept.{freeing};
 ghost use Rattle.act_list.specs.Actions.{is_bare};
 ghost use Rattle.act_list.specs.Lists.{flags_of};
 ghost use Rattle.act_thread.specs.Threads.{threads_after};
+ghost use Rattle.ask_counts.specs.Facts.{all_facts, facts_at, facts_of};
 ghost use Rattle.line_scripts.specs.Endings.{completes};
 ghost use Rattle.line_marks.specs.Actions.{actions_of, linked_flags, list_of, list_after};
 ghost use Rattle.line_marks.specs.Aim.{aim_of, aim_after, aimed_of, aimed_after};
@@ -26,7 +27,7 @@ ghost use Rattle.line_marks.specs.Asks.{asks_of, asks_after};
 ghost use Rattle.line_marks.specs.Counts.{tally_of, tally_after};
 ghost use Rattle.line_marks.specs.Desc.{desc_of, desc_after};
 ghost use Rattle.line_marks.specs.Freeing.{freeing_after};
-ghost use Rattle.line_marks.specs.Kinds.{kinds_of, kind_at};
+ghost use Rattle.line_marks.specs.Places.{places_of, places_after};
 ghost use Rattle.line_marks.specs.Rounds.{round_of, round_after};
 ghost use Rattle.line_marks.specs.Scripts.{IsAt, place_after, within_after};
 ghost use Rattle.line_marks.specs.Threads.{threads_of};
@@ -71,18 +72,26 @@ pub fn threads_follow()
         → threads_of def (e ∷ past) ≡ threads_after (is_oneshot past) e (threads_of def past) }
 {}
 
-/// The asks: for each device how many are unserved, how many came since its serving run began, and
-/// how many its handler and its thread met.
+/// The asks: for each device how many are unserved, how many of them came since its serving run
+/// began, how many its handler and its thread met, and whether it is quiet.
 #[tactic(auto, using(crate::proofs::AsksFollow::asks_more))]
 pub fn asks_follow()
     ensures law { (def : LineDef) (e : Entry) (past : List Entry) → IsValid def
-        → asks_of def (e ∷ past) ≡ asks_after (kinds_of def) e (asks_of def past) }
+        → asks_of def (e ∷ past) ≡ asks_after (all_facts def) e (asks_of def past) }
 {}
 
-/// A device's kind is the kind that the table has for it.
-#[tactic(auto, using(crate::proofs::KindsFixed::kind_is))]
-pub fn kinds_stand()
-    ensures law { (def : LineDef) (d : DevNo) → kind_at (kinds_of def) d ≡ kind_of def d }
+/// A device's kind, the part that serves and its options are those that the table has for it.
+#[tactic(auto, using(crate::proofs::FactsFixed::facts_are))]
+pub fn facts_stand()
+    ensures law { (def : LineDef) (d : DevNo) → facts_at (all_facts def) d ≡ facts_of def d }
+{}
+
+/// How far the runs are with their calls, and which answers told devices have.
+#[tactic(auto, using(crate::proofs::PlacesFollow::places_more))]
+pub fn runs_follow()
+    ensures law { (def : LineDef) (e : Entry) (past : List Entry) → IsValid def
+        → IsLegalPast def (e ∷ past)
+        → places_of def (e ∷ past) ≡ places_after def (at_work past) e (places_of def past) }
 {}
 
 /// The affinity: the mask in force, and a mask that waits.
@@ -115,6 +124,15 @@ pub fn up_is()
         → is_up past ≡ up_by (is_none_linked past) (freeing past) }
 {}
 
+/// A line that isn't disabled is active: something is linked, and what is linked was activated.
+#[tactic(auto, using(crate::proofs::UpFollow::enabled_is_up, crate::proofs::UpFollow::linked_is_up))]
+pub fn enabled_is_active()
+    ensures law { (def : LineDef) (past : List Entry) → IsValid def → IsLegalPast def past
+        → depth past ≡ 0 → is_up past ≡ true }
+    ensures linked { (def : LineDef) (past : List Entry) → IsValid def → IsLegalPast def past
+        → is_none_linked past ≡ false → is_up past ≡ true }
+{}
+
 /// The round: the handler at work, whether some handler woke a thread or handled, and the greatest
 /// moment.
 #[tactic(auto, using(crate::proofs::RoundsFollow::round_more))]
@@ -130,7 +148,7 @@ pub fn tally_follows()
         → tally_of def (e ∷ past) ≡ tally_after e (round_of def past) (tally_of def past) }
 {}
 
-/// The free under way: its driver and its device.
+/// The free under way: its maker and its device.
 #[tactic(auto, using(crate::proofs::FreeingFollows::freeing_more))]
 pub fn freeing_follows()
     ensures law { (e : Entry) (past : List Entry)

@@ -10,12 +10,12 @@ ghost use Rattle.irq_model.specs.Signal.{signals};
 ghost use Rattle.irq_model.specs.Spurious.{counts_of};
 ghost use Rattle.irq_model.specs.Valid.{IsValid};
 ghost use Rattle.irq_laws.specs.Driven.{cell_after, cell_of, driven};
+ghost use Rattle.ask_counts.specs.Facts.{all_facts};
 ghost use Rattle.line_marks.specs.Asks.{asks_of, asks_after};
 ghost use Rattle.line_marks.specs.Below.{IsBelow};
 ghost use Rattle.line_marks.specs.Bounded.{IsFew, HasSpace};
 ghost use Rattle.line_marks.specs.Desc.{desc_of};
 ghost use Rattle.line_marks.specs.Expected.{IsOpen};
-ghost use Rattle.line_marks.specs.Kinds.{kinds_of};
 ghost use Rattle.line_marks.specs.State.{IsOf, first_state, state_of, state_after, high_in};
 ghost use Rattle.line_marks.specs.State.{driven_by};
 
@@ -39,7 +39,7 @@ pub fn cell_follows()
     ensures law { (def : LineDef) (e : Entry) (past : List Entry) (c : Cell) → IsValid def
         → driven def e past c
         ≡ driven_by def e (desc_of def past)
-        (high_in (asks_after (kinds_of def) e (asks_of def past))) c }
+        (high_in (asks_after (all_facts def) e (asks_of def past))) c }
 {}
 
 /// The cell's marks are as they are read off the entries, and the cell presents what the line
@@ -67,7 +67,8 @@ pub fn cell_is_open()
         → IsOpen def (state_of def past) }
 {}
 
-/// The level of a level line is high exactly while some device has an unserved ask.
+/// The level of a level line is high exactly while some device that isn't quiet has an unserved
+/// ask.
 #[tactic(auto, using(crate::proofs::CellFollows::high_is))]
 pub fn levels_are_told()
     ensures law { (def : LineDef) (past : List Entry)

@@ -10,7 +10,6 @@ use Rattle.irq_base.specs.declared.entries.Entry.{Entry}
 use Rattle.irq_base.specs.declared.lines.LineDef.{LineDef}
 use Rattle.irq_base.specs.declared.numbers.CpuNo.{CpuNo}
 use Rattle.irq_base.specs.declared.numbers.DevNo.{DevNo}
-use Rattle.irq_base.specs.declared.numbers.DriverNo.{DriverNo}
 use Rattle.irq_base.specs.declared.waiting.WaitFor.{WaitFor}
 use Rattle.irq_base.specs.declared.waiting.WaitFor.TheVariants as waits
 use Rattle.irq_model.specs.Due.{due_call}
@@ -47,9 +46,9 @@ abbrev pub flow_in_way : LineDef → List Entry → Option Obstacle
 flow_in_way def past = option_map obstacles.Flow (flow def past)
 
 -- the thread of the device that is being freed
-abbrev pub freed_in_way : List Entry → Option (DriverNo × DevNo) → Option Obstacle
+abbrev pub freed_in_way : List Entry → Option (Actor × DevNo) → Option Obstacle
 freed_in_way past None = None
-freed_in_way past (Some (driver, d)) =
+freed_in_way past (Some (maker, d)) =
     if is_at_work past d then Some (obstacles.Thread d) else None
 
 -- who stands in the way of a call that waits for this: of a sync the lowest thread at work
@@ -66,7 +65,7 @@ abbrev pub in_way_of_call : LineDef → List Entry → Option (Call × ℕ) → 
 in_way_of_call def past None = None
 in_way_of_call def past (Some (call, made)) = waited_for def past (block_of call made)
 
--- a run that is over can't be finished within a flow
+-- a run that is over can't be finished within a flow; no run makes a call that waits
 abbrev pub in_way_of_thread : LineDef → List Entry → DevNo → Option Obstacle
 in_way_of_thread def past d =
     if has_device def d && is_running past d

@@ -2,7 +2,7 @@
 ghost use Rattle.std.specs.Prelude.{◌≡◌};
 ghost use Rattle.line_obstacles.specs.Obstacles.{obstacle_of};
 
-use irq_base::{Actor, CpuNo, DevNo, DriverNo};
+use irq_base::{Actor, CpuNo, DevNo};
 use irq_line::IrqLine;
 
 /// What stands in an actor's way.
@@ -15,8 +15,8 @@ pub enum Obstacle {
     /// The thread of this device, which is woken or in a run: a sync waits for it
     /// (`synchronize_irq`, `kernel/irq/manage.c`), and so does the end of the device's free.
     Thread(DevNo),
-    /// The request mutex, which this driver holds (`request_mutex` of `struct irq_desc`).
-    Mutex(DriverNo),
+    /// The request mutex, which this actor holds (`request_mutex` of `struct irq_desc`).
+    Mutex(Actor),
     /// The mask of the line: the chip keeps what comes to itself (`irqd_irq_masked`,
     /// `include/linux/irq.h`).
     Masked,

@@ -6,7 +6,7 @@ use Rattle.irq_base.specs.declared.entries.Entry.{Entry}
 use Rattle.irq_base.specs.declared.entries.CallEntry.{CallEntry}
 use Rattle.irq_base.specs.declared.entries.CallEntry.TheVariants as called
 use Rattle.irq_base.specs.declared.entries.UnlinkAnswer.TheVariants as unlinks
-use Rattle.irq_model.specs.Kinds.{is_call, is_synced}
+use Rattle.irq_model.specs.Kinds.{is_call, is_hard_clear, is_synced}
 
 -- a free ends with its last step, or at once if there was nothing to free
 abbrev pub finishes_free : CallEntry → Bool
@@ -21,5 +21,6 @@ ends_free e = is_call finishes_free e
 abbrev pub completes : Call → Entry → Bool
 completes calls.Disable e = is_synced e
 completes calls.Sync e = is_synced e
+completes calls.DisableHard e = is_hard_clear e
 completes (calls.Free dev) e = ends_free e
 completes _ e = true

@@ -1,25 +1,43 @@
 //! Which entry of a call is its last.
 ghost use Rattle.std.specs.Prelude.{◌≡◌};
-ghost use Rattle.irq_model.specs.Kinds.{is_synced};
+ghost use Rattle.irq_model.specs.Kinds.{is_hard_clear, is_synced};
 ghost use Rattle.line_scripts.specs.Endings.{completes, ends_free, finishes_free};
 
 use irq_base::{Call, CallEntry, Entry, UnlinkAnswer};
 
 /// Whether this entry, one of the call's, completes the call. A disable or a synchronisation ends
-/// with `Synced`, a free with `Freed` or with an unlink that found nothing; any other call makes
-/// one entry.
+/// with `Synced`, `disable_hardirq` with `HardClear`, a free with `Freed` or with an unlink that
+/// found nothing; any other call makes one entry.
 pub fn completes(call: Call, entry: &Entry) -> bool
     ensures { result ≡ completes call entry.now }
 {
     match call {
         Call::Disable | Call::Sync => is_synced(entry),
+        Call::DisableHard => is_hard_clear(entry),
         Call::Free { .. } => ends_free(entry),
         Call::Ask { .. }
         | Call::Request { .. }
         | Call::DisableNosync
         | Call::Enable
         | Call::Affinity { .. }
-        | Call::Moment { .. } => true,
+        | Call::Moment { .. }
+        | Call::SyncHard
+        | Call::Wake { .. }
+        | Call::Quiet { .. }
+        | Call::Arm { .. }
+        | Call::Serve { .. } => true,
+    }
+}
+
+/// Whether the entry is a hard clear.
+fn is_hard_clear(entry: &Entry) -> bool
+    ensures { result ≡ is_hard_clear entry.now }
+{
+    match *entry {
+        Entry::CpuCall(_, call) | Entry::ThreadCall(_, call) | Entry::DriverCall(_, call) => {
+            matches!(call, CallEntry::HardClear)
+        }
+        Entry::Cpu(_, _) | Entry::Thread(_, _) | Entry::Driver(_, _) => false,
     }
 }
 

@@ -11,15 +11,21 @@ pub fn wait_of(call: Call, made: u32) -> WaitFor
     match (call, made) {
         (Call::Request { .. }, _) | (Call::Free { .. }, 0) => WaitFor::Mutex,
         (Call::Free { .. } | Call::Disable, 1) | (Call::Sync, 0) => WaitFor::Flow,
+        (Call::SyncHard, _) | (Call::DisableHard, 1..) => WaitFor::Flow,
         (Call::Disable, 2..) | (Call::Sync, _) => WaitFor::Threads,
         (Call::Free { .. }, _) => WaitFor::Freed,
         (
             Call::Disable
+            | Call::DisableHard
             | Call::Ask { .. }
             | Call::DisableNosync
             | Call::Enable
             | Call::Affinity { .. }
-            | Call::Moment { .. },
+            | Call::Moment { .. }
+            | Call::Wake { .. }
+            | Call::Quiet { .. }
+            | Call::Arm { .. }
+            | Call::Serve { .. },
             _,
         ) => WaitFor::Nothing,
     }

@@ -64,8 +64,10 @@ first =
       window = 100000;
       limit = 99900;
       log = 10000;
-      devices = record { dev = dev; line = line; kind = kinds.Direct } ∷ [];
+      devices = record { dev = dev; line = line; kind = kinds.Direct; held = false; forgets = false } ∷ [];
       calls = (driver, calls.Request dev no_flags) ∷ (driver, calls.Ask dev) ∷ (driver, calls.Free dev) ∷ [];
+      runs = [];
+      told = [];
     }
 
 -- ---- the entries

@@ -1,9 +1,10 @@
 -- After legal pasts the numbers are equal exactly if the pasts are alike.
-use Rattle.std.proofs.Common.{◌≡◌, ℕ, Bool, true, false, ◌||◌, ◌&&◌, cond, is_some, Option, List, [], ◌∷◌, length, refl, sym, ap, ◌∙◌}
+use Rattle.std.proofs.Common.{◌≡◌, ℕ, Bool, true, false, ◌||◌, ◌&&◌, cond, is_some, Option, List, [], ◌∷◌, length, refl, sym, ap, subst, ◌∙◌}
 use Rattle.std.specs.List.{list_any}
 use Rattle.irq_base.specs.Cell.{Cell}
 use Rattle.irq_base.specs.declared.calls.Call.{Call}
 use Rattle.irq_base.specs.declared.devices.DeviceDef.{DeviceDef}
+use Rattle.irq_base.specs.declared.entries.Actor.{Actor}
 use Rattle.irq_base.specs.declared.entries.Entry.{Entry}
 use Rattle.irq_base.specs.declared.lines.LineDef.{LineDef}
 use Rattle.irq_base.specs.declared.numbers.DevNo.{DevNo}
@@ -24,22 +25,25 @@ use Rattle.act_list.specs.Lists.{ListSeen, flags_of, cleared}
 use Rattle.act_thread.specs.declared.rows.ThreadRow.{ThreadRow}
 use Rattle.ask_counts.specs.declared.rows.AskRow.{AskRow}
 use Rattle.desc_state.specs.Desc.{DescSeen}
+use Rattle.run_scripts.specs.Places.{PlacesSeen}
+use Rattle.run_scripts.specs.declared.rows.RunRow.{RunRow}
 use Rattle.line_marks.proofs.CellFollows.{cell_is}
 use Rattle.line_marks.specs.Actions.{actions_of}
-use Rattle.line_marks.specs.Asks.{ask_row, asks_of}
 use Rattle.line_marks.specs.Rounds.{RoundSeen}
 use Rattle.line_marks.specs.State.{StateSeen, state_of}
 use Rattle.line_marks.specs.Threads.{thread_of, threads_of}
 use Rattle.line_futures.proofs.Actions.{flags_same}
-use Rattle.line_futures.specs.Canon.{without_bits, is_working, is_thread_working, serves_at, canon_asks, canon}
+use Rattle.line_futures.specs.Canon.{without_bits, canon}
 use Rattle.line_futures.specs.Futures.{AreAlike}
 use Rattle.line_futures.specs.Places.{place_by, within_by, count_in, SamePlaces}
 use Rattle.line_words.proofs.Placing.{none_called}
-use Rattle.line_words.proofs.Told.{one_told, cpu_told, dev_told, mask_told, freeing_told, begun_told, thread_told, ask_told, keys_of, table_told, linked_told}
+use Rattle.line_words.proofs.Past.{asks_of_dev, runs_of_dev, shaped}
+use Rattle.line_words.proofs.Told.{one_told, cpu_told, dev_told, mask_told, freeing_told, begun_told, thread_told, keys_of, table_told, linked_told}
+use Rattle.line_words.proofs.Told.{Counted, AreLoud, asks_told, quiet_told, loud_told, place_told, run_told}
 use Rattle.line_words.specs.Node.{drivers_in, places_words, node}
 use Rattle.line_marks.specs.Aim.{number_of}
-use Rattle.line_words.specs.Words.{dev_number, mask_number, begun_words, thread_words, ask_words, table_words}
-use Rattle.line_words.specs.Words.{linked_words, freeing_words, desc_words, round_words}
+use Rattle.line_words.specs.Words.{has_more, dev_number, mask_number, begun_words, thread_words, ask_words, run_words, table_words}
+use Rattle.line_words.specs.Words.{linked_words, freeing_words, desc_words, round_words, more_words, state_words}
 
 -- ---- the descriptor's words, and the round's
 
@@ -128,9 +132,10 @@ keys_begun : (b : Bool) (t : List (DevNo × Bool)) → keys_of (cond b t (cleare
 keys_begun true t = refl
 keys_begun false t = keys_cleared t
 
-keys_canon : (v h t : DevNo → Bool) (a : List (DevNo × AskRow)) → keys_of (canon_asks v h t a) ≡ keys_of a
-keys_canon v h t [] = refl
-keys_canon v h t (e ∷ es) = ap (λ (k : List DevNo). e.0 ∷ k) (keys_canon v h t es)
+-- no device is quiet
+loud_table : (f : DevNo → AskRow) → ((d : DevNo) → (f d).quiet ≡ false) → (xs : List DeviceDef) → AreLoud (table_by f xs)
+loud_table f none [] = tt
+loud_table f none (x ∷ xs) = (none x.dev, loud_table f none xs)
 
 -- ---- places
 
@@ -218,14 +223,42 @@ module _ (def : LineDef) (valid : IsValid def) (g h : List Entry) (legal : IsLeg
 
   ask_keys : keys_of (canon (state_of def g)).asks ≡ keys_of (canon (state_of def h)).asks
   ask_keys =
-      keys_canon (serves_at (state_of def g)) (is_working (state_of def g).round.working) (is_thread_working (state_of def g).threads) (asks_of def g)
-      ∙ (keys_table (ask_row def g) def.devices
-      ∙ sym (keys_canon (serves_at (state_of def h)) (is_working (state_of def h).round.working)
-      (is_thread_working (state_of def h).threads) (asks_of def h) ∙ keys_table (ask_row def h) def.devices))
+      ap (λ (x : List (DevNo × AskRow)). keys_of x) (shaped def g valid legal).asks ∙ (keys_table (asks_of_dev def g) def.devices
+      ∙ sym (ap (λ (x : List (DevNo × AskRow)). keys_of x) (shaped def h valid other).asks ∙ keys_table (asks_of_dev def h) def.devices))
 
-  abbrev made_of : DescSeen → Cell → ℕ → Option ℕ → ListSeen → List (DevNo × ThreadRow) → List (DevNo × AskRow)
-      → RoundSeen → Counts → Option (DriverNo × DevNo) → StateSeen
-  made_of d c m w l r a n k f = record {
+  run_keys : keys_of (canon (state_of def g)).places.rows ≡ keys_of (canon (state_of def h)).places.rows
+  run_keys =
+      ap (λ (x : List (DevNo × RunRow)). keys_of x) (shaped def g valid legal).runs ∙ (keys_table (runs_of_dev def g) def.devices
+      ∙ sym (ap (λ (x : List (DevNo × RunRow)). keys_of x) (shaped def h valid other).runs ∙ keys_table (runs_of_dev def h) def.devices))
+
+  loud : has_more def ≡ false → AreLoud (canon (state_of def g)).asks × AreLoud (canon (state_of def h)).asks
+  loud plain =
+      let P : List (DevNo × AskRow) → Type 0 = λ x. AreLoud x in (
+        subst P (sym (shaped def g valid legal).asks) (loud_table (asks_of_dev def g) ((shaped def g valid legal).loud plain) def.devices),
+        subst P (sym (shaped def h valid other).asks) (loud_table (asks_of_dev def h) ((shaped def h valid other).loud plain) def.devices),
+      )
+
+  places_by : (p q : PlacesSeen) → p.work ≡ q.work → p.rows ≡ q.rows → p ≡ q
+  places_by p q i j = (let x : ◌≡◌ {A = PlacesSeen} (record { work = p.work; rows = p.rows }) q = rw (i, j) refl in x)
+
+  -- which devices are quiet, and how far the runs are
+  more_tells : (more : Bool) → has_more def ≡ more → (x y : List ℕ) → Counted (canon (state_of def g)).asks (canon (state_of def h)).asks
+      → more_words more (canon (state_of def g)) x ≡ more_words more (canon (state_of def h)) y
+      → ((canon (state_of def g)).asks ≡ (canon (state_of def h)).asks) × ((canon (state_of def g)).places ≡ (canon (state_of def h)).places) × (x ≡ y)
+  more_tells false plain x y same told = (
+    loud_told _ _ same (loud plain).0 (loud plain).1,
+    (shaped def g valid legal).unbegun plain ∙ sym ((shaped def h valid other).unbegun plain),
+    told,
+  )
+  more_tells true is x y same told =
+      let w = place_told _ _ _ _ told in
+      let q = quiet_told _ _ _ _ same w.1 in
+      let r = table_told run_words run_told _ _ x y run_keys q.1 in
+      (q.0, places_by _ _ w.0 r.0, r.1)
+
+  abbrev made_of : DescSeen → Cell → ℕ → Option ℕ → ListSeen → List (DevNo × ThreadRow) → List (DevNo × AskRow) → PlacesSeen
+      → RoundSeen → Counts → Option (Actor × DevNo) → StateSeen
+  made_of d c m w l r a p n k f = record {
     desc = d;
     cell = c;
     active = false;
@@ -235,8 +268,9 @@ module _ (def : LineDef) (valid : IsValid def) (g h : List Entry) (legal : IsLeg
     list = l;
     threads = r;
     asks = a;
-    kinds
-        = s.kinds;
+    facts
+        = s.facts;
+    places = p;
     round = n;
     counts = record { window = def.window; limit = def.limit; counts = k };
     freeing = f;
@@ -271,8 +305,9 @@ module _ (def : LineDef) (valid : IsValid def) (g h : List Entry) (legal : IsLeg
       let f = freeing_told s.freeing t.freeing _ _ r.1 in
       let b = table_told begun_words begun_told s.list.begun t.list.begun _ _ begun_keys f.1 in
       let w = table_told thread_words thread_told s.threads t.threads _ _ thread_keys b.1 in
-      let a = table_told ask_words ask_told s.asks t.asks _ _ ask_keys w.1 in
-      let p = places_told def g h (drivers_in def.calls) _ _ a.1 in
+      let a = asks_told s.asks t.asks _ _ ask_keys w.1 in
+      let m = more_tells (has_more def) refl _ _ a.0 a.1 in
+      let p = places_told def g h (drivers_in def.calls) _ _ m.2 in
       let flags : flags_of (actions_of g) ≡ flags_of (actions_of h) =
       sym (flags_same (actions_of g)) ∙ (linked_told (flags_of s.list.actions) (flags_of t.list.actions) p.1 ∙ flags_same (actions_of h)) in
       let desc : s.desc ≡ t.desc = desc_by s.desc t.desc refl d.0.depth d.0.started d.0.masked d.0.pending d.0.oneshot d.0.spurious d.0.soft d.0.flow in
@@ -282,16 +317,19 @@ module _ (def : LineDef) (valid : IsValid def) (g h : List Entry) (legal : IsLeg
       r.0.unhandled r.0.handled r.0.deferred refl r.0.last in
       record {
         state =
-            ap (λ (x : DescSeen). made_of x s.cell s.aim.mask s.aim.waiting s.list s.threads s.asks s.round s.counts.counts s.freeing) desc
-            ∙ (ap (λ (x : Cell). made_of t.desc x s.aim.mask s.aim.waiting s.list s.threads s.asks s.round s.counts.counts s.freeing) (cell_same d.0)
-            ∙ (ap (λ x. made_of t.desc t.cell x s.aim.waiting s.list s.threads s.asks s.round s.counts.counts s.freeing) r.0.mask
-            ∙ (ap (λ (x : Option ℕ). made_of t.desc t.cell t.aim.mask x s.list s.threads s.asks s.round s.counts.counts s.freeing) r.0.waiting
-            ∙ (ap (λ (x : ListSeen). made_of t.desc t.cell t.aim.mask t.aim.waiting x s.threads s.asks s.round s.counts.counts s.freeing) list
-            ∙ (ap (λ (x : List (DevNo × ThreadRow)). made_of t.desc t.cell t.aim.mask t.aim.waiting t.list x s.asks s.round s.counts.counts s.freeing) w.0
-            ∙ (ap (λ (x : List (DevNo × AskRow)). made_of t.desc t.cell t.aim.mask t.aim.waiting t.list t.threads x s.round s.counts.counts s.freeing) a.0
-            ∙ (ap (λ (x : RoundSeen). made_of t.desc t.cell t.aim.mask t.aim.waiting t.list t.threads t.asks x s.counts.counts s.freeing) round
-            ∙ (ap (λ (x : Counts). made_of t.desc t.cell t.aim.mask t.aim.waiting t.list t.threads t.asks t.round x s.freeing) counts
-            ∙ ap (made_of t.desc t.cell t.aim.mask t.aim.waiting t.list t.threads t.asks t.round t.counts.counts) f.0))))))));
+            ap (λ (x : DescSeen). made_of x s.cell s.aim.mask s.aim.waiting s.list s.threads s.asks s.places s.round s.counts.counts s.freeing) desc
+            ∙ (ap (λ (x : Cell). made_of t.desc x s.aim.mask s.aim.waiting s.list s.threads s.asks s.places s.round s.counts.counts s.freeing) (cell_same d.0)
+            ∙ (ap (λ x. made_of t.desc t.cell x s.aim.waiting s.list s.threads s.asks s.places s.round s.counts.counts s.freeing) r.0.mask
+            ∙ (ap (λ (x : Option ℕ). made_of t.desc t.cell t.aim.mask x s.list s.threads s.asks s.places s.round s.counts.counts s.freeing) r.0.waiting
+            ∙ (ap (λ (x : ListSeen). made_of t.desc t.cell t.aim.mask t.aim.waiting x s.threads s.asks s.places s.round s.counts.counts s.freeing) list
+            ∙ (ap (λ (x : List (DevNo × ThreadRow)). made_of t.desc t.cell t.aim.mask t.aim.waiting t.list x s.asks
+            s.places s.round s.counts.counts s.freeing) w.0
+            ∙ (ap (λ (x : List (DevNo × AskRow)). made_of t.desc t.cell t.aim.mask t.aim.waiting t.list t.threads x
+            s.places s.round s.counts.counts s.freeing) m.0
+            ∙ (ap (λ (x : PlacesSeen). made_of t.desc t.cell t.aim.mask t.aim.waiting t.list t.threads t.asks x s.round s.counts.counts s.freeing) m.1
+            ∙ (ap (λ (x : RoundSeen). made_of t.desc t.cell t.aim.mask t.aim.waiting t.list t.threads t.asks t.places x s.counts.counts s.freeing) round
+            ∙ (ap (λ (x : Counts). made_of t.desc t.cell t.aim.mask t.aim.waiting t.list t.threads t.asks t.places t.round x s.freeing) counts
+            ∙ ap (made_of t.desc t.cell t.aim.mask t.aim.waiting t.list t.threads t.asks t.places t.round t.counts.counts) f.0)))))))));
         places = λ r. by_called r (list_any (same_driver r) (drivers_in def.calls)) refl p.0;
       }
     where
@@ -307,11 +345,8 @@ module _ (def : LineDef) (valid : IsValid def) (g h : List Entry) (legal : IsLeg
 
   pub node_same : AreAlike def g h → node def g ≡ node def h
   node_same like =
-      ap (λ (x : StateSeen). desc_words x (round_words x
-      (freeing_words x.freeing (table_words begun_words x.list.begun
-      (table_words thread_words x.threads (table_words ask_words x.asks
-      (places_words def g (drivers_in def.calls) (linked_words (flags_of x.list.actions))))))))) like.state
+      ap (λ (x : StateSeen). state_words (has_more def) x (places_words def g (drivers_in def.calls))) like.state
       ∙ ap (λ (x : List ℕ). desc_words t (round_words t
       (freeing_words t.freeing (table_words begun_words t.list.begun
-      (table_words thread_words t.threads (table_words ask_words t.asks x))))))
+      (table_words thread_words t.threads (table_words ask_words t.asks (more_words (has_more def) t x)))))))
       (places_same def g h like.places (drivers_in def.calls) (linked_words (flags_of t.list.actions)))

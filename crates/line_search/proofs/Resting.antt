@@ -1,4 +1,4 @@
--- Each legal history goes on until the line is settled.
+-- Each legal history of a line that has a bound goes on until the line is at rest.
 use Rattle.std.proofs.Common.{◌≡◌, ◌≤◌, ℕ, zero, suc, ◌+◌, Option, None, Some, List, [], ◌∷◌, ◌++◌, length, reverse}
 use Rattle.std.proofs.Common.{refl, sym, ap, subst, ◌∙◌, ◌⊎◌, inl, inr, arith}
 use Rattle.std.proofs.lemmas.List.{append_assoc, length-reverse, reverse-reverse}
@@ -6,17 +6,18 @@ use Rattle.irq_base.specs.declared.entries.Actor.{Actor}
 use Rattle.irq_base.specs.declared.entries.Entry.{Entry}
 use Rattle.irq_base.specs.declared.lines.LineDef.{LineDef}
 use Rattle.irq_laws.proofs.OwnLaws.{due_is_own_past}
-use Rattle.irq_model.specs.Bounds.{bound}
 use Rattle.irq_model.specs.Legal.{IsLegal, IsLegalPast}
 use Rattle.irq_model.specs.Next.{next_past}
-use Rattle.irq_model.specs.Settled.{IsSettled}
 use Rattle.irq_model.specs.Valid.{IsValid}
+use Rattle.irq_model.specs.ValidRuns.{HasValidRuns, NeverWaits}
+use Rattle.irq_model.specs.Waits.{IsAtRest}
 use Rattle.irq_storms.proofs.Laws.{within_bound}
+use Rattle.irq_storms.specs.Lengths.{IsBounded, history_bound}
 use Rattle.line_search.specs.Found.{ComesToRest}
-use Rattle.play_laws.proofs.Rest.{rest_is_settled}
+use Rattle.play_laws.proofs.Rest.{unwaiting_rests}
 use Rattle.play_laws.specs.Actors.{actors_of, IsOneOf}
 
-module _ (def : LineDef) (valid : IsValid def) where
+module _ (def : LineDef) (valid : IsValid def) (runs : HasValidRuns def) (waits : NeverWaits def) where
   record Mover (g : List Entry) : Type 0 where
     actor : Actor
     entry : Entry
@@ -45,12 +46,9 @@ module _ (def : LineDef) (valid : IsValid def) where
   as_legal : (g : List Entry) → IsLegalPast def g → IsLegal def (reverse g)
   as_legal g legal = subst (λ (x : List Entry). IsLegalPast def x) (sym (reverse-reverse g)) legal
 
-  within : (g : List Entry) → IsLegalPast def g → length g ≤ bound def
-  within g legal = let n = within_bound def (reverse g) valid (as_legal g legal) in omega (arith, n, length-reverse g)
-
-  settled : (g : List Entry) → IsLegalPast def g → AllRest g (actors_of def) → IsSettled def (reverse g)
-  settled g legal rest =
-      rest_is_settled def (reverse g) valid (as_legal g legal)
+  at_rest : (g : List Entry) → IsLegalPast def g → AllRest g (actors_of def) → IsAtRest def (reverse g)
+  at_rest g legal rest =
+      unwaiting_rests def (reverse g) valid runs waits (as_legal g legal)
       (λ a one. ap (λ (x : List Entry). next_past def x a) (reverse-reverse g) ∙ rest a one)
 
   one_more : (g : List Entry) (e : Entry) → ComesToRest def (e ∷ g) → ComesToRest def g
@@ -59,7 +57,7 @@ module _ (def : LineDef) (valid : IsValid def) where
         later.0 ++ e ∷ [],
         subst (λ (x : List Entry). IsLegalPast def x) (sym same) later.1,
         subst
-            (λ (x : List Entry). IsSettled def (reverse x)) (sym same) later.2,
+            (λ (x : List Entry). IsAtRest def (reverse x)) (sym same) later.2,
       )
 
   step : (g : List Entry) → IsLegalPast def g → ((e : Entry) → IsLegalPast def (e ∷ g) → ComesToRest def (e ∷ g)) → ComesToRest def g
@@ -67,12 +65,20 @@ module _ (def : LineDef) (valid : IsValid def) where
     where
       by_mover : Mover g ⊎ AllRest g (actors_of def) → ComesToRest def g
       by_mover (inl m) = one_more g m.entry (on m.entry (ap (next_past def g) (due_is_own_past def g m.actor m.entry m.due) ∙ m.due, legal))
-      by_mover (inr rest) = ([], legal, settled g legal rest)
+      by_mover (inr rest) = ([], legal, at_rest g legal rest)
 
   -- no history is longer than the bound
-  go : (n : ℕ) (g : List Entry) → IsLegalPast def g → bound def ≤ length g + n → ComesToRest def g
-  go zero g legal few = step g legal (λ e more. absurd (omega (arith, within (e ∷ g) more, few)))
-  go (suc n) g legal few = step g legal (λ e more. go n (e ∷ g) more (omega (arith, few)))
+  module _ (bound : ℕ) (within : (g : List Entry) → IsLegalPast def g → length g ≤ bound) where
+    go : (n : ℕ) (g : List Entry) → IsLegalPast def g → bound ≤ length g + n → ComesToRest def g
+    go zero g legal few = step g legal (λ e more. absurd (omega (arith, within (e ∷ g) more, few)))
+    go (suc n) g legal few = step g legal (λ e more. go n (e ∷ g) more (omega (arith, few)))
 
-  pub comes_to_rest : (g : List Entry) → IsLegalPast def g → ComesToRest def g
-  comes_to_rest g legal = go (bound def) g legal (omega arith)
+    by_bound : (g : List Entry) → IsLegalPast def g → ComesToRest def g
+    by_bound g legal = go bound g legal (omega arith)
+
+  pub comes_to_rest : IsBounded def → (g : List Entry) → IsLegalPast def g → ComesToRest def g
+  comes_to_rest bounded = by_bound (history_bound def) within
+    where
+      within : (g : List Entry) → IsLegalPast def g → length g ≤ history_bound def
+      within g legal =
+          subst (λ n. n ≤ history_bound def) (length-reverse g) (within_bound def (reverse g) valid runs bounded (as_legal g legal))

@@ -3,7 +3,7 @@ use Rattle.std.specs.Prelude.{◌≤◌, ◌<◌, ℕ, List, ◌∷◌, ◌++◌
 use Rattle.irq_base.specs.declared.entries.Entry.{Entry}
 use Rattle.irq_base.specs.declared.lines.LineDef.{LineDef}
 use Rattle.irq_model.specs.Legal.{IsLegalPast}
-use Rattle.irq_model.specs.Settled.{IsSettled}
+use Rattle.irq_model.specs.Waits.{IsAtRest}
 
 -- the past is legal, ends with the entry, and no legal past that ends with it is shorter
 pub record IsShortest (def : LineDef) (e : Entry) (past : List Entry) : Type 0 where
@@ -18,7 +18,7 @@ IsNever def e = (h : List Entry) → IsLegalPast def (e ∷ h) → ⊥
 abbrev pub IsNotWithin : LineDef → Entry → ℕ → Type 0
 IsNotWithin def e n = (h : List Entry) → IsLegalPast def (e ∷ h) → n < length (e ∷ h)
 
--- after the past a legal history goes on until the line is settled
+-- after the past a legal history goes on until the line is at rest
 abbrev pub ComesToRest : LineDef → List Entry → Type 0
 ComesToRest def past = (k : List Entry) × IsLegalPast def (k ++ past)
-    × IsSettled def (reverse (k ++ past))
+    × IsAtRest def (reverse (k ++ past))

@@ -9,6 +9,8 @@ ghost use Rattle.irq_base.specs.declared.entries.Entry.{Entry};
 ghost use Rattle.irq_base.specs.declared.lines.LineDef.{LineDef};
 ghost use Rattle.irq_model.specs.Legal.{IsDue, IsLegalPast};
 ghost use Rattle.irq_model.specs.Valid.{IsValid};
+ghost use Rattle.irq_model.specs.ValidRuns.{HasValidRuns, NeverWaits};
+ghost use Rattle.irq_storms.specs.Lengths.{IsBounded};
 ghost use Rattle.line_futures.specs.Futures.{AreAlike};
 ghost use Rattle.line_search.specs.Found.{IsShortest, IsNever, IsNotWithin, ComesToRest};
 ghost use Rattle.line_words.specs.Node.{node};
@@ -81,10 +83,10 @@ pub fn search_tells_of_entries()
         → (e : Entry) (n : ℕ) → cut ≡ Some n → (IsNoted eq firsts e → ⊥) → IsNotWithin def e n }
 {}
 
-/// Each legal history goes on until the line is settled, since none is longer than the line's
-/// bound: nothing can be waited for without end.
+/// Each legal history of a line that has a bound goes on until the line is at rest, since none is
+/// longer: nothing can be waited for without end. For now no run waits for itself.
 #[tactic(auto, using(crate::proofs::Resting::comes_to_rest))]
 pub fn histories_come_to_rest()
-    ensures law { (def : LineDef) → IsValid def → (past : List Entry) → IsLegalPast def past
-        → ComesToRest def past }
+    ensures law { (def : LineDef) → IsValid def → HasValidRuns def → NeverWaits def
+        → IsBounded def → (past : List Entry) → IsLegalPast def past → ComesToRest def past }
 {}

@@ -1,6 +1,6 @@
 -- What a first pass knows of the actors that it met.
 use Rattle.std.proofs.Common.{◌≡◌, ℕ, suc, ◌+◌, Bool, true, false, cond, IfSome, Option, Some, List, [], ◌∷◌, All}
-use Rattle.std.proofs.Common.{Contains, length, nat_lt, slice_get, refl, sym, ap, subst, ◌∙◌, inl, inr, arith}
+use Rattle.std.proofs.Common.{Contains, length, nat_lt, slice_get, refl, sym, ap, subst, ◌∙◌, inl, inr, arith, ◌++◌, append-nil, length-append}
 use Rattle.std.proofs.lemmas.Bool.{false≢true}
 use Rattle.std.proofs.lemmas.List.Elements.{All-nil, All-cons, All-weaker, All-contains}
 use Rattle.std.proofs.lemmas.Option.{same_Some}
@@ -9,7 +9,7 @@ use Rattle.irq_base.specs.declared.lines.LineDef.{LineDef}
 use Rattle.irq_model.specs.Legal.{IsLegal}
 use Rattle.irq_base.specs.declared.entries.Actor.{Actor}
 use Rattle.irq_base.specs.declared.entries.Entry.{Entry}
-use Rattle.line_lock.specs.Knows.{is_among, without_of, forked, Meets, IsKnown}
+use Rattle.line_lock.specs.Knows.{is_among, without_of, forked, IsCount, Meets, IsKnown}
 use Rattle.irq_model.specs.Kinds.{same_actor, is_by}
 use Rattle.irq_steps.proofs.Same.{same_self_actor, actor_from_same}
 use Rattle.line_lock.specs.Placed.{placed, placed_from, placed_of}
@@ -126,3 +126,16 @@ places_apart k first second a b x y m n apart in_first in_second same =
     (subst (λ (ps : List Placed). Contains ps y) (sym n.own) in_second) in
     let entries : x.entry ≡ y.entry = same_Some x.entry y.entry (sym p.there ∙ (ap (slice_get k.seen) same ∙ q.there)) in
     apart (sym p.by ∙ (ap (actor_of) entries ∙ q.by))
+
+-- ---- a look at the count
+
+pub all_is_seen : (k : Known) (found : ℕ) (c : IsCount k found) → found ≡ length k.seen → c.history ≡ k.seen
+all_is_seen k found c as_many = c.begins.1 ∙ (ap (λ (es : List Entry). k.seen ++ es) (none c.begins.0 more) ∙ append-nil k.seen)
+  where
+    none : (rest : List Entry) → length rest ≡ 0 → rest ≡ []
+    none [] is = refl
+    none (e ∷ es) is = absurd (omega (arith, is))
+
+    more : length c.begins.0 ≡ 0
+    more = let l = length-append k.seen c.begins.0 in let e = ap (λ (es : List Entry). length es) c.begins.1 in let i = c.is in
+        omega (arith, l, e, i, as_many)

@@ -1,6 +1,6 @@
 //! What the holder of a pass may conclude. Each law is the clause of a function that does nothing.
-ghost use Rattle.std.specs.Prelude.{◌≡◌, false, true, Some, List, ◌∷◌, ◌++◌, All, Contains};
-ghost use Rattle.std.specs.Prelude.{reverse};
+ghost use Rattle.std.specs.Prelude.{◌≡◌, ℕ, false, true, Some, List, ◌∷◌, ◌++◌, All, Contains};
+ghost use Rattle.std.specs.Prelude.{length, reverse};
 ghost use Rattle.std.specs.List.{list_any};
 ghost use Rattle.irq_base.specs.declared.entries.Actor.{Actor};
 ghost use Rattle.irq_base.specs.declared.entries.Entry.{Entry};
@@ -11,7 +11,7 @@ ghost use Rattle.irq_model.specs.Laws.{is_run_of};
 ghost use Rattle.irq_model.specs.Legal.{IsLegal};
 ghost use Rattle.irq_model.specs.Places.{stands};
 ghost use Rattle.irq_model.specs.Valid.{IsValid};
-ghost use Rattle.line_lock.specs.Knows.{is_among, forked, Meets, IsKnown};
+ghost use Rattle.line_lock.specs.Knows.{is_among, forked, IsCount, Meets, IsKnown};
 ghost use Rattle.line_lock.specs.Placed.{placed};
 ghost use Rattle.line_lock.specs.declared.view.Known.{Known};
 ghost use Rattle.line_lock.specs.declared.view.Placed.{Placed};
@@ -53,6 +53,13 @@ pub fn places_are_apart()
     ensures law { (k first second : Known) (a b : Actor) (x y : Placed)
         → HasMet k a first → HasMet k b second → (a ≡ b → ⊥) → Contains first.mine x
         → Contains second.mine y → x.place ≡ y.place → ⊥ }
+{}
+
+/// A look that finds as many entries as the pass has seen tells that these are the line's history.
+#[tactic(auto, using(crate::proofs::MetLaws::all_is_seen))]
+pub fn counted_is_seen()
+    ensures law { (k : Known) (found : ℕ) (c : IsCount k found) → found ≡ length k.seen
+        → c.history ≡ k.seen }
 {}
 
 /// A pass that has seen a free of a device sees no later run of the device, unless a request linked

@@ -4,6 +4,7 @@ ghost use Rattle.std.specs.Prelude.{length};
 ghost use Rattle.irq_base.specs.declared.entries.Actor.{Actor};
 ghost use Rattle.callbacks.specs.Heard.{Heard};
 ghost use Rattle.line_lock.specs.Knows.{nothing_known, is_among, forked, newcomer, Meets};
+ghost use Rattle.line_lock.specs.Knows.{glanced, IsCount};
 ghost use Rattle.irq_line.specs.Answers.{Answers};
 ghost use Rattle.irq_line.specs.Hearing.{Lacks, runs_by};
 ghost use Rattle.irq_line.specs.Memory.{WantsMemory};
@@ -140,10 +141,18 @@ impl<L: IrqLine> SharedLine<L> {
         Box::into_inner(lock.finish(pass).line)
     }
 
-    /// About how many entries there are now, without a wait. Contracts claim nothing of it: it is
-    /// good for seeing whether a step is worth while.
-    pub fn count(&self) -> u64 {
-        self.lock.count()
+    /// How many entries the line has now, seen without a wait: good for telling whether a step is
+    /// worth while. If there are as many as the pass has seen, nothing has happened since.
+    pub fn look(&self, pass: &mut Pass<L>) -> u64
+        requires pass { IsPassOf self.now pass.old }
+        requires idle { pass.old.turn ≡ false }
+        requires actor { IsSome pass.old.knows.actor }
+        ensures pass { IsPassOf self.now pass.new }
+        ensures idle { pass.new.turn ≡ false }
+        ensures knows { pass.new.knows ≡ glanced pass.old.knows result }
+        ensures count { IsCount pass.old.knows result }
+    {
+        self.lock.look(pass)
     }
 }
 

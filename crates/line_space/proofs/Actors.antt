@@ -21,10 +21,11 @@ use Rattle.irq_model.specs.Due.{entries_by, due_of}
 use Rattle.irq_model.specs.Kinds.{same_dev, same_driver}
 use Rattle.irq_model.specs.Legal.{IsLegalPast}
 use Rattle.irq_model.specs.Lines.{is_device}
-use Rattle.irq_model.specs.Next.{next_past, next_of_call}
+use Rattle.irq_model.specs.Next.{next_past, next_of_driver}
 use Rattle.irq_model.specs.Rounds.{is_cpu}
 use Rattle.irq_model.specs.Signal.{lowest_in}
 use Rattle.irq_model.specs.Valid.{IsValid}
+use Rattle.irq_model.specs.ValidRuns.{HasValidRuns, NeverWaits}
 use Rattle.irq_steps.proofs.Same.{dev_from_same, driver_from_same, cpu_from_same}
 use Rattle.irq_line.specs.Queries.{is_some_take}
 use Rattle.act_thread.specs.declared.rows.ThreadRow.{ThreadRow}
@@ -95,7 +96,7 @@ takes s c e true false true h = ap is_some_take (sym h)
 takes s c e true false false h = cc
 takes s c e false line soft h = cc
 
-module _ (def : LineDef) (valid : IsValid def) (g : List Entry) (legal : IsLegalPast def g)
+module _ (def : LineDef) (valid : IsValid def) (runs : HasValidRuns def) (waits : NeverWaits def) (g : List Entry) (legal : IsLegalPast def g)
     (scripts : List (DriverNo × RowSeen)) (are : AreScripts def scripts)
     (at_places : (r : DriverNo) → IsAt def g r (place_of scripts r) (within_of scripts r)) where
   abbrev s : StateSeen
@@ -111,7 +112,7 @@ module _ (def : LineDef) (valid : IsValid def) (g : List Entry) (legal : IsLegal
   thread_asked d e due =
       by_there (list_any (is_device d) def.devices) refl (sym (due_is def g scripts are.calls at_places (actors.Thread d) valid legal) ∙ due)
     where
-      by_there : (b : Bool) → list_any (is_device d) def.devices ≡ b → thread_due (state_of def g) d ≡ Some e → Asked (actors.Thread d)
+      by_there : (b : Bool) → list_any (is_device d) def.devices ≡ b → thread_due def (state_of def g) d ≡ Some e → Asked (actors.Thread d)
       by_there true there h =
           Contains-append_left (threads_in def.devices)
           (cpus_in (state_of def g).desc.flow ++ (cpus_in (taker_of (state_of def g))
@@ -119,7 +120,7 @@ module _ (def : LineDef) (valid : IsValid def) (g : List Entry) (legal : IsLegal
           (actors.Thread d) (thread_there def.devices d there)
       by_there false none h =
           absurd (let i : ◌≡◌ {A = Option Entry} None (Some e)
-          = sym (ap (λ (o : Option ThreadRow). due_of_row (state_of def g) d o)
+          = sym (ap (λ (o : Option ThreadRow). due_of_row def (state_of def g) d o)
           (at_none (thread_of g) def.devices d none)) ∙ h in
           let x : ⊥ = cc i in x)
 
@@ -137,7 +138,7 @@ module _ (def : LineDef) (valid : IsValid def) (g : List Entry) (legal : IsLegal
   cpu_asked c e due = by_flow (is_cpu c (state_of def g).desc.flow) refl (sym (cpu_due_is def g c valid legal) ∙ due)
     where
       by_flow : (b : Bool) → is_cpu c (state_of def g).desc.flow ≡ b
-          → cond b (Some (in_flow_by def (state_of def g) c (state_of def g).round.working)) (next_take_by (state_of def g) c) ≡ Some e → Asked (actors.Cpu c)
+          → cond b (in_flow_by def (state_of def g) c (state_of def g).round.working) (next_take_by (state_of def g) c) ≡ Some e → Asked (actors.Cpu c)
       by_flow true busy h =
           behind_threads (actors.Cpu c) (Contains-append_left (cpus_in (state_of def g).desc.flow)
           (cpus_in (taker_of (state_of def g)) ++ drivers_of (drivers_in def.calls))
@@ -147,7 +148,7 @@ module _ (def : LineDef) (valid : IsValid def) (g : List Entry) (legal : IsLegal
           ∙ takes (state_of def g) c e (is_cpu c (lowest_in (state_of def g).aim.cpus (state_of def g).aim.mask))
           (signals (state_of def g).cell) (state_of def g).desc.soft h in
           behind_flow (actors.Cpu c) (Contains-append_left (cpus_in (taker_of (state_of def g))) (drivers_of (drivers_in def.calls)) (actors.Cpu c)
-          (cpu_there (taker_of (state_of def g)) c ((is_taker def g valid legal c).1 take)))
+          (cpu_there (taker_of (state_of def g)) c ((is_taker def g valid runs waits legal c).1 take)))
 
   driver_asked : (r : DriverNo) (e : Entry) → next_past def g (actors.Driver r) ≡ Some e → Asked (actors.Driver r)
   driver_asked r e due = by_there (list_any (same_driver r) (drivers_in def.calls)) refl
@@ -158,7 +159,7 @@ module _ (def : LineDef) (valid : IsValid def) (g : List Entry) (legal : IsLegal
           (driver_there (drivers_in def.calls) r there))
       by_there false none =
           absurd (let i : ◌≡◌ {A = Option Entry} None (Some e)
-          = sym (ap (λ (cs : List Call). next_of_call def r g (due_of cs (entries_by r g))) (none_called r def.calls none)) ∙ due in
+          = sym (ap (λ (cs : List Call). next_of_driver def r g (due_of cs (entries_by r g))) (none_called r def.calls none)) ∙ due in
           let x : ⊥ = cc i in x)
 
   pub asked : (a : Actor) (e : Entry) → next_past def g a ≡ Some e → Asked a

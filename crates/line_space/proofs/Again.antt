@@ -21,6 +21,7 @@ use Rattle.device_table.specs.Sums.{one_if}
 use Rattle.act_list.specs.Actions.{has, answer_by}
 use Rattle.ask_counts.specs.Rows.{HasRoom}
 use Rattle.ask_counts.specs.declared.rows.AskRow.{AskRow}
+use Rattle.run_scripts.specs.declared.rows.RunRow.{RunRow}
 use Rattle.line_scripts.specs.Rows.{RowSeen}
 use Rattle.line_marks.proofs.Bounds.{has_space}
 use Rattle.line_marks.proofs.CellFollows.{is_of, is_open}
@@ -30,15 +31,17 @@ use Rattle.line_marks.proofs.StateFollows.{state_follows}
 use Rattle.line_marks.specs.Bounded.{HasSpace}
 use Rattle.line_marks.specs.DriversDue.{request_to}
 use Rattle.line_marks.specs.Expected.{IsExpected, IsOpen}
-use Rattle.line_marks.specs.Kinds.{kind_at}
+use Rattle.line_marks.specs.Facts.{kind_at}
 use Rattle.line_marks.specs.Next.{due_by}
 use Rattle.line_marks.specs.State.{StateSeen, IsOf, state_of, state_after}
-use Rattle.line_state.specs.Entries.{entry_by, call_entry, CanMake, CanMakeOfCpu, CanMakeOfThread, CanMakeOfCall}
-use Rattle.line_state.specs.Seen.{IsAimOf, taker_of}
+use Rattle.line_state.specs.Entries.{entry_by, driver_entry, CanCall, CanMake, CanMakeOfCpu, CanMakeOfThread, CanMakeOfDriver}
+use Rattle.line_state.specs.Seen.{LineStateSeen, IsAimOf, taker_of}
 use Rattle.line_state.specs.declared.due.CallStep.{CallStep}
 use Rattle.line_state.specs.declared.due.CallStep.TheVariants as call_steps
 use Rattle.line_state.specs.declared.due.CpuStep.{CpuStep}
 use Rattle.line_state.specs.declared.due.CpuStep.TheVariants as cpu_steps
+use Rattle.line_state.specs.declared.due.DriverStep.{DriverStep}
+use Rattle.line_state.specs.declared.due.DriverStep.TheVariants as driver_steps
 use Rattle.line_state.specs.declared.due.DueStep.{DueStep}
 use Rattle.line_state.specs.declared.due.DueStep.TheVariants as steps
 use Rattle.line_state.specs.declared.due.ThreadStep.{ThreadStep}
@@ -49,7 +52,7 @@ use Rattle.line_futures.proofs.CanonSteps.{canon_after}
 use Rattle.line_futures.proofs.MadeIs.{may_follow}
 use Rattle.line_futures.specs.Canon.{canon, canon_row, kept_if, without_bits, serves_at, is_working, is_thread_working}
 use Rattle.line_futures.specs.Made.{IsMade, MayFollow}
-use Rattle.line_words.proofs.Looking.{asks_at}
+use Rattle.line_futures.proofs.AsksAfter.{asks_at}
 use Rattle.line_words.proofs.Past.{longer, shaped}
 use Rattle.line_words.specs.Again.{unbitted}
 use Rattle.line_space.proofs.ReadAt.{ReadAt}
@@ -106,20 +109,20 @@ module _ (def : LineDef) (g : List Entry) (t : StateSeen) (again : unbitted t �
   pub taker_same : taker_of t ≡ taker_of (state_of def g)
   taker_same = ap taker_of again
 
-module _ {def : LineDef} {g : List Entry} {t : StateSeen} {scripts : List (DriverNo × RowSeen)} (read : ReadAt def g t scripts) where
+module _ {def : LineDef} {g : List Entry} {l : LineStateSeen} {scripts : List (DriverNo × RowSeen)} (read : ReadAt def g l scripts) where
   -- ---- what is due
 
-  pub due_again : (a : Actor) → due_by def t scripts a ≡ next_past def g a
+  pub due_again : (a : Actor) → due_by def l.state scripts a ≡ next_past def g a
   due_again a =
-      sym (due_same def t scripts a)
-      ∙ (ap (λ (x : StateSeen). due_by def x scripts a) (canon_again def g t read.again)
+      sym (due_same def l.state scripts a)
+      ∙ (ap (λ (x : StateSeen). due_by def x scripts a) (canon_again def g l.state read.again)
       ∙ (due_same def (canon (state_of def g)) scripts a
       ∙ (due_same def (state_of def g) scripts a
       ∙ sym (due_is def g scripts read.are.calls read.places a read.valid read.legal))))
 
   -- ---- what the functions of the state ask for
 
-  pub is_of_again : IsOf def t
+  pub is_of_again : IsOf def l.state
   is_of_again =
       let o = is_of def g read.valid read.legal in
       record {
@@ -127,7 +130,7 @@ module _ {def : LineDef} {g : List Entry} {t : StateSeen} {scripts : List (Drive
         retriggers = ap (λ (x : StateSeen). x.cell.retriggers) read.again ∙ o.retriggers;
       }
 
-  pub aim_again : IsAimOf def t.aim
+  pub aim_again : IsAimOf def l.state.aim
   aim_again = record { cpus = ap (λ (x : StateSeen). x.aim.cpus) read.again; later = ap (λ (x : StateSeen). x.aim.later) read.again }
 
   short : length g ≤ 100000000
@@ -136,7 +139,7 @@ module _ {def : LineDef} {g : List Entry} {t : StateSeen} {scripts : List (Drive
   space : HasSpace (state_of def g)
   space = has_space (with_log def 100000000) g (longer def read.valid) short
 
-  room_again : (d : DevNo) → HasRoom (at t.asks d)
+  room_again : (d : DevNo) → HasRoom (at l.state.asks d)
   room_again d =
       let P : Option AskRow → Type 0 = λ o. HasRoom o in
       subst P (sym (ap (λ (x : StateSeen). at x.asks d) read.again
@@ -145,50 +148,56 @@ module _ {def : LineDef} {g : List Entry} {t : StateSeen} {scripts : List (Drive
       (room_canon (serves_at (state_of def g) d) (is_working (state_of def g).round.working d) (is_thread_working (state_of def g).threads d)
       (at (state_of def g).asks d) (space.asks d))
 
-  depth_again : t.desc.depth < 2 ^ 32 - 1
+  depth_again : l.state.desc.depth < 2 ^ 32 - 1
   depth_again = let P : ℕ → Type 0 = λ n. n < 2 ^ 32 - 1 in subst P (sym (ap (λ (x : StateSeen). x.desc.depth) read.again)) space.depth
 
-  rounds_again : t.list.rounds < 2 ^ 32 - 2
+  rounds_again : l.state.list.rounds < 2 ^ 32 - 2
   rounds_again = let P : ℕ → Type 0 = λ n. n < 2 ^ 32 - 2 in subst P (sym (ap (λ (x : StateSeen). x.list.rounds) read.again)) (omega arith)
 
-  handled_again : t.counts.counts.threads_handled < 2 ^ 32 - 1
+  handled_again : l.state.counts.counts.threads_handled < 2 ^ 32 - 1
   handled_again =
       let P : ℕ → Type 0 = λ n. n < 2 ^ 32 - 1 in
       subst P (sym (ap (λ (x : StateSeen). x.counts.counts.threads_handled) read.again))
       (one_few (not ((state_of def g).counts.counts.threads_handled == (state_of def g).counts.counts.last)))
 
-  open_again : IsOpen def t
+  open_again : IsOpen def l.state
   open_again edge eoi zero =
       ap (λ (x : StateSeen). x.cell.masked) read.again
       ∙ is_open def g read.valid read.legal edge eoi (sym (ap (λ (x : StateSeen). x.desc.depth) read.again) ∙ zero)
 
-  absent_again : (d : DevNo) → has d (state_of def g).list.actions ≡ false → has d t.list.actions ≡ false
+  absent_again : (d : DevNo) → has d (state_of def g).list.actions ≡ false → has d l.state.list.actions ≡ false
   absent_again d h =
-      sym (has_same d t.list.actions) ∙ (ap (λ (x : StateSeen). has d x.list.actions) read.again ∙ (has_same d (state_of def g).list.actions ∙ h))
+      sym (has_same d l.state.list.actions) ∙ (ap (λ (x : StateSeen). has d x.list.actions) read.again ∙ (has_same d (state_of def g).list.actions ∙ h))
 
-  of_cpu_again : (step : CpuStep) → CanMakeOfCpu def step t
+  calls_again : (step : CallStep) → CanCall step l.state
+  calls_again call_steps.Disable = depth_again
+  calls_again _ = tt
+
+  of_cpu_again : (step : CpuStep) → CanMakeOfCpu def step l.state
   of_cpu_again (cpu_steps.Take way) = rounds_again
+  of_cpu_again (cpu_steps.Call dev step) = calls_again step
   of_cpu_again cpu_steps.End = (rounds_again, depth_again, open_again)
   of_cpu_again _ = tt
 
-  of_thread_again : (step : ThreadStep) → CanMakeOfThread step t
+  of_thread_again : (step : ThreadStep) → CanMakeOfThread step l.state
+  of_thread_again (thread_steps.Call step) = calls_again step
   of_thread_again thread_steps.Return = handled_again
   of_thread_again _ = tt
 
-  of_call_again : (r : DriverNo) (step : CallStep) → IsExpected def (call_entry def t r step) (state_of def g) → CanMakeOfCall step t
-  of_call_again r (call_steps.Ask dev) x = room_again dev
-  of_call_again r call_steps.Disable x = depth_again
-  of_call_again r (call_steps.Request dev flags) x =
-      absent_again dev (requested def t (state_of def g) r dev flags (answer_by (kind_at t.kinds dev) flags t.list.actions) x)
-  of_call_again r _ x = tt
+  of_driver_again : (r : DriverNo) (step : DriverStep) → IsExpected def (driver_entry def l.state r step) (state_of def g) → CanMakeOfDriver step l.state
+  of_driver_again r (driver_steps.Ask dev) x = room_again dev
+  of_driver_again r (driver_steps.Request dev flags) x =
+      absent_again dev (requested def l.state (state_of def g) r dev flags (answer_by (kind_at l.state.facts dev) flags l.state.list.actions) x)
+  of_driver_again r (driver_steps.Call step) x = calls_again step
+  of_driver_again r _ x = tt
 
-  can_again : (step : DueStep) → IsExpected def (entry_by def t step) (state_of def g) → CanMake def step t
+  can_again : (step : DueStep) → IsExpected def (entry_by def l.state step) (state_of def g) → CanMake def step l.state
   can_again (steps.Cpu cpu step) x = of_cpu_again step
   can_again (steps.Thread dev step) x = of_thread_again step
-  can_again (steps.Call driver step) x = of_call_again driver step x
+  can_again (steps.Driver driver step) x = of_driver_again driver step x
 
-  pub can_due : (step : DueStep) → IsDue def (entry_by def t step) g → CanMake def step t
-  can_due step due = can_again step (expected (with_log def 100000000) g (longer def read.valid) read.legal short (entry_by def t step) due)
+  pub can_due : (step : DueStep) → IsDue def (entry_by def l.state step) g → CanMake def step l.state
+  can_due step due = can_again step (expected (with_log def 100000000) g (longer def read.valid) read.legal short (entry_by def l.state step) due)
 
   -- ---- what an entry makes of it
 
@@ -202,17 +211,19 @@ module _ {def : LineDef} {g : List Entry} {t : StateSeen} {scripts : List (Drive
       served = omega arith;
       own = let P : List (DevNo × AskRow) → Type 0 = λ a. HasOwnKeys a in
           subst P (sym (shaped def g read.valid read.legal).asks) (own_by _ def.devices read.valid.distinct);
+      own_runs = let P : List (DevNo × RunRow) → Type 0 = λ a. HasOwnKeys a in
+          subst P (sym (shaped def g read.valid read.legal).runs) (own_by _ def.devices read.valid.distinct);
     }
 
-    again_follows : MayFollow e t
+    again_follows : MayFollow e l.state
     again_follows =
-        let f = told def g t read.again (λ (x : StateSeen). MayFollow e x) canon_follows in
-        record { made = made_bits e t f.made; served = f.served; own = f.own }
+        let f = told def g l.state read.again (λ (x : StateSeen). MayFollow e x) canon_follows in
+        record { made = made_bits e l.state f.made; served = f.served; own = f.own; own_runs = f.own_runs }
 
-    pub after_again : canon (state_after def e t) ≡ canon (state_of def (e ∷ g))
+    pub after_again : canon (state_after def e l.state) ≡ canon (state_of def (e ∷ g))
     after_again =
-        sym (canon_after def t e again_follows)
-        ∙ (ap (λ (x : StateSeen). canon (state_after def e x)) (canon_again def g t read.again)
+        sym (canon_after def l.state e again_follows)
+        ∙ (ap (λ (x : StateSeen). canon (state_after def e x)) (canon_again def g l.state read.again)
         ∙ (canon_after def (canon (state_of def g)) e canon_follows
         ∙ (canon_after def (state_of def g) e follows
         ∙ ap canon (sym (state_follows def e g read.valid (due, read.legal))))))

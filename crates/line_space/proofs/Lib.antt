@@ -1,5 +1,6 @@
 pub mod Once
 pub mod ReadAt
+pub mod Beside
 pub mod Again
 pub mod Stepped
 pub mod Actors

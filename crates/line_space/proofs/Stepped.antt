@@ -1,6 +1,6 @@
 -- One more entry: the drivers' places after it.
 use Rattle.std.proofs.Common.{◌≡◌, ℕ, zero, suc, ◌<◌, ◌≤◌, ◌^◌, Bool, true, false, cond, Some, List, [], ◌∷◌, ◌++◌}
-use Rattle.std.proofs.Common.{length, drop, reverse, refl, sym, ap, subst, ◌∙◌, arith}
+use Rattle.std.proofs.Common.{length, drop, reverse, refl, ap, subst, ◌∙◌, arith}
 use Rattle.std.proofs.lemmas.List.{reverse-reverse, length-reverse}
 use Rattle.irq_base.specs.declared.calls.Call.{Call}
 use Rattle.irq_base.specs.declared.entries.Actor.{Actor}
@@ -9,7 +9,7 @@ use Rattle.irq_base.specs.declared.lines.LineDef.{LineDef}
 use Rattle.irq_base.specs.declared.numbers.DriverNo.{DriverNo}
 use Rattle.irq_model.specs.Due.{calls_by, entries_by, entries_of_call}
 use Rattle.irq_model.specs.Kinds.{same_driver}
-use Rattle.irq_model.specs.Legal.{IsDue, IsLegalPast}
+use Rattle.irq_model.specs.Legal.{IsDue}
 use Rattle.irq_model.specs.Next.{next, next_past}
 use Rattle.irq_model.specs.Valid.{IsValid}
 use Rattle.irq_steps.specs.Laid.{Laid}
@@ -19,11 +19,13 @@ use Rattle.irq_laws.specs.LogLimit.{with_log}
 use Rattle.line_scripts.specs.Rows.{RowSeen, place_of, within_of}
 use Rattle.line_marks.specs.Line.{IsLine}
 use Rattle.line_marks.specs.Scripts.{IsAt}
-use Rattle.line_marks.specs.State.{StateSeen, state_of, state_after}
+use Rattle.line_marks.specs.State.{state_of, state_after}
+use Rattle.line_state.specs.Seen.{LineStateSeen, runs_seen}
+use Rattle.run_scripts.specs.Runs.{RunsSeen}
 use Rattle.line_core.proofs.More.{newest, can_move, line_more}
 use Rattle.line_core.specs.Moves.{Moves, CanMove}
-use Rattle.line_words.proofs.Past.{longer}
 use Rattle.line_words.specs.Scripts.{AreScripts}
+use Rattle.line_space.proofs.Beside.{seen, line}
 use Rattle.line_space.proofs.ReadAt.{ReadAt}
 
 none_laid : (cs : List Call) (es : List Entry) (p k : ℕ) → cs ≡ [] → Laid cs es p k → (p ≡ 0) × (k ≡ 0)
@@ -54,37 +56,31 @@ module _ (def : LineDef) (valid : IsValid def) (g : List Entry) where
       omega (arith, few, own, all)
 
 -- an entry that is next of an actor there
-module _ {def : LineDef} {g : List Entry} {t : StateSeen} {scripts : List (DriverNo × RowSeen)} (read : ReadAt def g t scripts)
+module _ {def : LineDef} {g : List Entry} {l : LineStateSeen} {scripts : List (DriverNo × RowSeen)} (read : ReadAt def g l scripts)
     (a : Actor) {e : Entry} (due : next_past def g a ≡ Some e) where
   pub is_due : IsDue def e g
   is_due = ap (next_past def g) (due_is_own_past def g a e due) ∙ due
-
-  line : IsLine (with_log def 100000000) (reverse g) (state_of def g) scripts
-  line =
-      let back = reverse-reverse g in
-      let long = length-reverse g in
-      let few = read.few in
-      record {
-        valid = longer def read.valid;
-        legal = subst (λ (x : List Entry). IsLegalPast def x) (sym back) read.legal;
-        state = ap (state_of def) (sym back);
-        calls = read.are.calls;
-        at = λ r. subst (λ (x : List Entry). IsAt def x r (place_of scripts r) (within_of scripts r)) (sym back) (read.places r);
-        room = omega (arith, long, few);
-      }
 
   due_there : next (with_log def 100000000) (reverse g) a ≡ Some e
   due_there = log_is_no_rule def 100000000 (reverse g) a ∙ (ap (λ (x : List Entry). next_past def x a) (reverse-reverse g) ∙ due)
 
   pub may_move : CanMove a scripts
-  may_move = can_move (with_log def 100000000) (reverse g) (state_of def g) scripts scripts e line a due_there
+  may_move = can_move (with_log def 100000000) (reverse g) (state_of def g) scripts scripts (runs_seen (seen read)) e (line read) a due_there
 
   module _ (after : List (DriverNo × RowSeen)) (moves : Moves a e scripts after) where
-    more : IsLine (with_log def 100000000) (reverse g ++ e ∷ []) (state_after (with_log def 100000000) e (state_of def g)) after
+    abbrev runs_after : RunsSeen
+    runs_after = record {
+      calls = l.fixed.calls;
+      answers = l.fixed.answers;
+      places = (state_after (with_log def 100000000) e (state_of def g)).places;
+    }
+
+    more : IsLine (with_log def 100000000) (reverse g ++ e ∷ []) (state_after (with_log def 100000000) e (state_of def g)) after runs_after
     more =
         let long = length-reverse g in
         let few = read.few in
-        line_more (with_log def 100000000) (reverse g) (state_of def g) scripts after e line a due_there (omega (arith, long, few)) moves
+        line_more (with_log def 100000000) (reverse g) (state_of def g) scripts after (runs_seen (seen read)) e (line read) a runs_after due_there
+        (omega (arith, long, few)) moves (record { calls = read.runs.calls; answers = read.runs.answers }) refl
 
     back_more : reverse (reverse g ++ e ∷ []) ≡ e ∷ g
     back_more = newest (reverse g) e ∙ ap (λ (x : List Entry). e ∷ x) (reverse-reverse g)

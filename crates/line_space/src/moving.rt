@@ -4,11 +4,13 @@ ghost use Rattle.std.specs.List.{filter};
 ghost use Rattle.irq_base.specs.declared.entries.Entry.{Entry};
 ghost use Rattle.irq_model.specs.Legal.{IsLegalPast};
 ghost use Rattle.irq_model.specs.Valid.{IsValid};
+ghost use Rattle.irq_model.specs.ValidRuns.{HasValidRuns, NeverWaits};
 ghost use Rattle.line_space.specs.Reading.{IsKept, IsRead};
 ghost use Rattle.line_space.specs.Stepping.{IsReached, steps_of, all_steps, actors_by, is_due_in};
 ghost use Rattle.line_space.specs.Stepping.{threads_in, cpus_in, drivers_of};
-ghost use Rattle.line_state.specs.Seen.{taker_of};
+ghost use Rattle.line_state.specs.Seen.{IsScripted, taker_of};
 ghost use Rattle.line_words.specs.Node.{node, drivers_in};
+ghost use Rattle.line_words.specs.Words.{has_more};
 
 use crate::scratch::Scratch;
 use irq_base::{Actor, CpuNo, DriverNo, Entry, LineDef, NoMemory};
@@ -22,12 +24,16 @@ use state_search::Found;
 pub(crate) fn add_due(
     scratch: &mut Scratch,
     def: &LineDef,
+    more: bool,
     drivers: &[DriverNo],
     words: &[u32],
     actor: Actor,
     found: &mut Found<Entry>,
 ) -> Result<(), NoMemory>
     requires valid { IsValid def.now }
+    requires runs { HasValidRuns def.now }
+    requires waits { NeverWaits def.now }
+    requires more { more ≡ has_more def.now }
     requires drivers { drivers.now ≡ drivers_in def.now.calls }
     requires reached { IsReached def.now words.now }
     requires read { IsRead def.now words.now scratch.old }
@@ -42,7 +48,7 @@ pub(crate) fn add_due(
     };
     let entry = scratch.state.make(def, step);
     advance(&mut scratch.scripts, actor, &entry);
-    scratch.add(def, drivers, entry, found)
+    scratch.add(def, more, drivers, entry, found)
 }
 
 /// Adds the entries that are due of these actors in the state with these numbers, which were read.
@@ -50,12 +56,16 @@ pub(crate) fn add_due(
 pub(crate) fn add_all(
     scratch: &mut Scratch,
     def: &LineDef,
+    more: bool,
     drivers: &[DriverNo],
     words: &[u32],
     actors: &[Actor],
     found: &mut Found<Entry>,
 ) -> Result<(), NoMemory>
     requires valid { IsValid def.now }
+    requires runs { HasValidRuns def.now }
+    requires waits { NeverWaits def.now }
+    requires more { more ≡ has_more def.now }
     requires drivers { drivers.now ≡ drivers_in def.now.calls }
     requires reached { IsReached def.now words.now }
     requires read { IsRead def.now words.now scratch.old }
@@ -68,10 +78,10 @@ pub(crate) fn add_all(
     let [first, others @ ..] = actors else {
         return Ok(());
     };
-    add_due(scratch, def, drivers, words, *first, found)?;
+    add_due(scratch, def, more, drivers, words, *first, found)?;
     for actor in others {
-        scratch.read(def, drivers, words)?;
-        add_due(scratch, def, drivers, words, *actor, found)?;
+        scratch.read(def, more, drivers, words)?;
+        add_due(scratch, def, more, drivers, words, *actor, found)?;
     }
     Ok(())
 }
@@ -84,7 +94,8 @@ pub(crate) fn push_due(
     scratch: &Scratch,
     asked: &[Actor],
 ) -> Result<(), NoMemory>
-    requires { due.old.items ≡ [] }
+    requires empty { due.old.items ≡ [] }
+    requires scripted { IsScripted def.now scratch.now.state }
     ensures { OnOk result (due.new.items
         ≡ filter (is_due_in def.now scratch.now.state.state scratch.now.scripts) asked.now) }
 {

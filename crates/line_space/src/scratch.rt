@@ -2,12 +2,14 @@
 ghost use Rattle.std.specs.Prelude.{◌≡◌, ◌++◌, ◌∷◌, [], ◌<◌, ◌≤◌, ◌^◌, IfOk, OnOk};
 ghost use Rattle.irq_base.specs.declared.numbers.DriverNo.{DriverNo};
 ghost use Rattle.irq_model.specs.Valid.{IsValid};
+ghost use Rattle.irq_model.specs.ValidRuns.{HasValidRuns};
 ghost use Rattle.line_futures.specs.Canon.{canon};
 ghost use Rattle.line_scripts.specs.Rows.{place_of};
 ghost use Rattle.line_space.specs.Reading.{IsKept, IsRead};
 ghost use Rattle.line_space.specs.Stepping.{IsReached};
 ghost use Rattle.line_words.specs.Node.{drivers_in};
 ghost use Rattle.line_words.specs.Told.{places_told, state_told};
+ghost use Rattle.line_words.specs.Words.{has_more};
 
 use irq_base::{DriverNo, Entry, LineDef, NoMemory};
 use line_cell::Cell;
@@ -29,7 +31,8 @@ pub(crate) struct Scratch {
 impl Scratch {
     /// Nothing was read yet. The only error is `NoMemory`.
     pub(crate) fn new(alloc: Global, def: &LineDef) -> Result<Scratch, NoMemory>
-        requires { IsValid def.now }
+        requires valid { IsValid def.now }
+        requires runs { HasValidRuns def.now }
         ensures { IfOk result (IsKept def.now) }
     {
         Ok(Scratch {
@@ -43,10 +46,12 @@ impl Scratch {
     pub(crate) fn read(
         &mut self,
         def: &LineDef,
+        more: bool,
         drivers: &[DriverNo],
         words: &[u32],
     ) -> Result<(), NoMemory>
         requires valid { IsValid def.now }
+        requires more { more ≡ has_more def.now }
         requires drivers { drivers.now ≡ drivers_in def.now.calls }
         requires reached { IsReached def.now words.now }
         requires kept { IsKept def.now self.old }
@@ -54,7 +59,14 @@ impl Scratch {
         ensures read { OnOk result (IsRead def.now words.now self.new) }
         ensures room { OnOk result (1 ≤ self.new.state.spare) }
     {
-        read_into(&mut self.state, def, drivers, &mut self.scripts, words)?;
+        read_into(
+            &mut self.state,
+            def,
+            more,
+            drivers,
+            &mut self.scripts,
+            words,
+        )?;
         self.state.reserve()
     }
 
@@ -62,6 +74,7 @@ impl Scratch {
     pub(crate) fn add(
         &mut self,
         def: &LineDef,
+        more: bool,
         drivers: &[DriverNo],
         entry: Entry,
         found: &mut Found<Entry>,
@@ -71,12 +84,19 @@ impl Scratch {
         ensures scripts { self.new.scripts ≡ self.old.scripts }
         ensures found { OnOk result (found.new ≡ found.old ++ (
           entry,
-          state_told def.now (canon self.old.state.state)
+          state_told more def.now (canon self.old.state.state)
               (places_told self.old.scripts drivers.now),
         ) ∷ []) }
     {
         self.after.clear();
-        write(def, drivers, &self.state, &self.scripts, &mut self.after)?;
+        write(
+            def,
+            more,
+            drivers,
+            &self.state,
+            &self.scripts,
+            &mut self.after,
+        )?;
         found.push(entry, self.after.as_slice())
     }
 }

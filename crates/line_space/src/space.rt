@@ -3,6 +3,7 @@ ghost use Rattle.std.specs.Prelude.{◌≡◌, IfOk};
 ghost use Rattle.irq_base.specs.declared.numbers.DriverNo.{DriverNo};
 ghost use Rattle.irq_model.specs.Legal.{IsDue};
 ghost use Rattle.irq_model.specs.Valid.{IsValid};
+ghost use Rattle.irq_model.specs.ValidRuns.{HasValidRuns, NeverWaits};
 ghost use Rattle.line_scripts.specs.Rows.{place_of, within_of};
 ghost use Rattle.line_words.specs.Node.{node};
 ghost use Rattle.line_words.specs.Scripts.{AreScripts};
@@ -12,7 +13,7 @@ use crate::moving::{add_all, push_actors, push_due};
 use crate::scratch::Scratch;
 use irq_base::{Actor, DriverNo, Entry, LineDef, NoMemory};
 use line_scripts::Scripts;
-use line_words::{fresh, write};
+use line_words::{fresh, has_more, write};
 use state_search::{Found, Space};
 use std::alloc::Global;
 use std::marker::Model;
@@ -23,6 +24,7 @@ use std::marker::Model;
 pub struct LineSpace {
     alloc: Global,
     def: LineDef,
+    more: bool,
     drivers: Vec<DriverNo>,
     scratch: Scratch,
     asked: Vec<Actor>,
@@ -50,15 +52,19 @@ impl LineSpace {
 
     /// The space of a line of that definition. The only error is `NoMemory`.
     pub fn new(alloc: Global, def: &LineDef) -> Result<LineSpace, NoMemory>
-        requires { IsValid def.now }
+        requires valid { IsValid def.now }
+        requires runs { HasValidRuns def.now }
+        requires waits { NeverWaits def.now }
         ensures { IfOk result (λ space. space ≡ def.now) }
     {
+        let more = has_more(def);
         let drivers = drivers_of(alloc, &def.calls)?;
         let scratch = Scratch::new(alloc, def)?;
         let def = def.try_clone(alloc)?;
         Ok(LineSpace {
             alloc,
             def,
+            more,
             drivers,
             scratch,
             asked: Vec::new(alloc),
@@ -86,19 +92,29 @@ impl Space<Entry> for LineSpace {
     fn first(&mut self, words: &mut Vec<u32>) -> Result<(), NoMemory> {
         let scripts = fresh_scripts(self.alloc, &self.def)?;
         let state = fresh(self.alloc, &self.def)?;
-        write(&self.def, self.drivers.as_slice(), &state, &scripts, words)
+        let drivers = self.drivers.as_slice();
+        write(&self.def, self.more, drivers, &state, &scripts, words)
     }
 
     fn steps(&mut self, words: &[u32], found: &mut Found<Entry>) -> Result<(), NoMemory> {
         let drivers = self.drivers.as_slice();
-        self.scratch.read(&self.def, drivers, words)?;
+        self.scratch.read(&self.def, self.more, drivers, words)?;
         self.asked.clear();
         push_actors(&mut self.asked, &self.def, drivers, &self.scratch.state)?;
         self.due.clear();
         let asked = self.asked.as_slice();
         push_due(&mut self.due, &self.def, &self.scratch, asked)?;
         let due = self.due.as_slice();
-        add_all(&mut self.scratch, &self.def, drivers, words, due, found)
+        let more = self.more;
+        add_all(
+            &mut self.scratch,
+            &self.def,
+            more,
+            drivers,
+            words,
+            due,
+            found,
+        )
     }
 
     fn is_wanted(&mut self, words: &[u32], found: &Found<Entry>) -> Result<bool, NoMemory> {

@@ -1,6 +1,7 @@
 pub mod Asked
 pub mod EndIs
 pub mod Finishing
-pub mod KindRows
+pub mod Idle
+pub mod Owners
 pub mod Targets
 pub mod Unlinking

@@ -1,23 +1,61 @@
 -- What is seen of the state of a line, and what is read off it.
-use Rattle.std.specs.Prelude.{◌≡◌, ℕ, Bool, not, ◌||◌, if◌then◌else◌, is_some, Option, Some, None}
+use Rattle.std.specs.Prelude.{◌≡◌, ◌+◌, ◌<◌, ◌^◌, ℕ, Bool, true, not, ◌||◌, if◌then◌else◌, is_some}
+use Rattle.std.specs.Prelude.{IsSome, Option, Some, None}
 use Rattle.irq_base.specs.Cell.{signals}
 use Rattle.irq_base.specs.Wiring.{Wiring}
+use Rattle.irq_base.specs.declared.calls.Call.{Call}
+use Rattle.irq_base.specs.declared.devices.Part.{Part}
+use Rattle.irq_base.specs.declared.devices.ToldAnswer.{ToldAnswer}
 use Rattle.irq_base.specs.declared.lines.LineDef.{LineDef}
 use Rattle.irq_base.specs.declared.numbers.CpuNo.{CpuNo}
 use Rattle.irq_base.specs.declared.numbers.DevNo.{DevNo}
+use Rattle.irq_model.specs.Lines.{has_device}
 use Rattle.irq_model.specs.Rounds.{is_cpu}
 use Rattle.irq_model.specs.Signal.{lowest_in}
-use Rattle.device_table.specs.Rows.{lowest_where}
+use Rattle.device_table.specs.Rows.{at, lowest_where}
+use Rattle.act_list.specs.Actions.{has}
 use Rattle.act_thread.specs.Steps.{could_step}
+use Rattle.act_thread.specs.declared.rows.ThreadRow.{ThreadRow}
 use Rattle.affinity.specs.Seen.{AimSeen}
 use Rattle.desc_state.specs.Desc.{DescSeen}
+use Rattle.run_scripts.specs.Groups.{GroupsSeen}
+use Rattle.run_scripts.specs.Places.{place_at}
+use Rattle.run_scripts.specs.Runs.{RunsSeen, AreRunsOf, call_of}
 use Rattle.line_marks.specs.State.{StateSeen}
 
--- the state, how many more actions fit without memory, and how the chips are wired
+-- what no step changes: how the chips are wired, and what runs call and answer
+pub record FixedSeen : Type 0 where
+  pub wiring : Wiring
+  pub calls : GroupsSeen Call
+  pub answers : GroupsSeen ToldAnswer
+
+-- the state, how many more actions fit without memory, and what no step changes
 pub record LineStateSeen : Type 0 where
   pub state : StateSeen
   pub spare : ℕ
-  pub wiring : Wiring
+  pub fixed : FixedSeen
+
+-- the scripts of the runs, and how far they are
+abbrev pub runs_seen : LineStateSeen → RunsSeen
+runs_seen l = record {
+  calls = l.fixed.calls;
+  answers = l.fixed.answers;
+  places = l.state.places;
+}
+
+-- the scripts are those of the definition; what is linked, handlers at work and threads are of its
+-- devices, and one more entry fits in each call
+pub record IsScripted (def : LineDef) (l : LineStateSeen) : Type 0 where
+  pub runs : AreRunsOf def (runs_seen l)
+  pub linked : (d : DevNo) → has d l.state.list.actions ≡ true → has_device def d ≡ true
+  pub working : (d : DevNo) → l.state.round.working ≡ Some d → has_device def d ≡ true
+  pub threads : (d : DevNo) (r : ThreadRow) → at l.state.threads d ≡ Some r
+      → has_device def d ≡ true
+  pub within : (d : DevNo) (part : Part) → (place_at l.state.places d part).within + 1 < 2 ^ 32
+
+-- a run of that part of the device has a call left
+abbrev pub HasCall : LineStateSeen → Part → DevNo → Type 0
+HasCall l part d = IsSome (call_of (runs_seen l) d part)
 
 -- the target, unless the flow is its own
 abbrev pub unless_in_flow : StateSeen → Option CpuNo → Option CpuNo

@@ -1,6 +1,6 @@
 //! Takes and ends: the two parts of a flow handler (`kernel/irq/chip.c`), before its handlers and
 //! after them.
-ghost use Rattle.std.specs.Prelude.{◌≡◌, ◌≤◌, if◌then◌else◌};
+ghost use Rattle.std.specs.Prelude.{◌≡◌, ◌≤◌, true, if◌then◌else◌};
 ghost use Rattle.irq_base.specs.declared.entries.Entry.TheVariants as by;
 ghost use Rattle.irq_base.specs.declared.entries.CpuEntry.TheVariants as cpus;
 ghost use Rattle.irq_base.specs.declared.lines.FlowKind.TheVariants as flows;
@@ -13,6 +13,7 @@ ghost use Rattle.line_marks.specs.Aim.{aimed_by};
 ghost use Rattle.line_marks.specs.CpuDue.{is_held, take_by, note_by, end_by};
 ghost use Rattle.line_marks.specs.Expected.{HasRounds, HasDepth, IsOpen};
 ghost use Rattle.line_marks.specs.State.{state_after};
+ghost use Rattle.line_state.specs.Entries.{IsActivated};
 
 use crate::state::LineState;
 use flow_handlers::{LeaveAnswer, edge, fasteoi, level};
@@ -27,7 +28,7 @@ impl<C: Chip> LineState<C> {
         requires rounds { HasRounds self.old.state }
         ensures entry { result ≡ by.Cpu cpu (cpus.Take way (take_by self.old.state)) }
         ensures state { self.new.state ≡ state_after def.now result self.old.state }
-        ensures wiring { self.new.wiring ≡ self.old.wiring }
+        ensures fixed { self.new.fixed ≡ self.old.fixed }
     {
         self.arrive(way);
         let answer = self.enter(def, cpu);
@@ -40,7 +41,7 @@ impl<C: Chip> LineState<C> {
     /// `kernel/irq/resend.c`).
     fn arrive(&mut self, way: Way)
         ensures state { self.new.state ≡ arrived way self.old.state }
-        ensures wiring { self.new.wiring ≡ self.old.wiring }
+        ensures fixed { self.new.fixed ≡ self.old.fixed }
     {
         match way {
             Way::Line => self.chip.accept(),
@@ -52,7 +53,7 @@ impl<C: Chip> LineState<C> {
     fn enter(&mut self, def: &LineDef, cpu: CpuNo) -> TakeAnswer
         ensures answer { result ≡ take_by self.old.state }
         ensures state { self.new.state ≡ entered def.now def.now.flow result cpu self.old.state }
-        ensures wiring { self.new.wiring ≡ self.old.wiring }
+        ensures fixed { self.new.fixed ≡ self.old.fixed }
     {
         let linked = !self.actions.is_empty();
         match def.flow {
@@ -73,7 +74,7 @@ impl<C: Chip> LineState<C> {
     fn move_affinity(&mut self)
         requires { self.old.state.aim.cpus ≤ 32 }
         ensures state { self.new.state ≡ moved self.old.state }
-        ensures wiring { self.new.wiring ≡ self.old.wiring }
+        ensures fixed { self.new.fixed ≡ self.old.fixed }
     {
         self.aim.move_now();
         self.aim_chip();
@@ -85,7 +86,7 @@ impl<C: Chip> LineState<C> {
         requires { self.old.state.aim.cpus ≤ 32 }
         ensures state { self.new.state ≡ record self.old.state
             { aimed = aimed_by self.old.state.aim } }
-        ensures wiring { self.new.wiring ≡ self.old.wiring }
+        ensures fixed { self.new.fixed ≡ self.old.fixed }
     {
         self.chip.aim(self.aim.target());
     }
@@ -94,7 +95,7 @@ impl<C: Chip> LineState<C> {
     fn begin_round_if(&mut self, answer: TakeAnswer)
         requires { HasRounds self.old.state }
         ensures state { self.new.state ≡ handling_from answer self.old.state }
-        ensures wiring { self.new.wiring ≡ self.old.wiring }
+        ensures fixed { self.new.fixed ≡ self.old.fixed }
     {
         if answer == TakeAnswer::Handle {
             self.begin_round();
@@ -105,7 +106,7 @@ impl<C: Chip> LineState<C> {
     fn begin_round(&mut self)
         requires { HasRounds self.old.state }
         ensures state { self.new.state ≡ round_begun self.old.state }
-        ensures wiring { self.new.wiring ≡ self.old.wiring }
+        ensures fixed { self.new.fixed ≡ self.old.fixed }
     {
         self.round.begin();
         self.actions.begin_round();
@@ -119,9 +120,10 @@ impl<C: Chip> LineState<C> {
         requires rounds { HasRounds self.old.state }
         requires depth { HasDepth self.old.state }
         requires open { IsOpen def.now self.old.state }
+        requires activated { IsActivated self.old.state }
         ensures entry { result ≡ end_by def.now self.old.state cpu }
         ensures state { self.new.state ≡ state_after def.now result self.old.state }
-        ensures wiring { self.new.wiring ≡ self.old.wiring }
+        ensures fixed { self.new.fixed ≡ self.old.fixed }
     {
         let note = self.note_round();
         self.kill_by(note);
@@ -141,7 +143,7 @@ impl<C: Chip> LineState<C> {
     fn note_round(&mut self) -> Note
         ensures note { result ≡ note_by self.old.state }
         ensures state { self.new.state ≡ noted_at self.old.state }
-        ensures wiring { self.new.wiring ≡ self.old.wiring }
+        ensures fixed { self.new.fixed ≡ self.old.fixed }
     {
         let (wakes, handles) = (self.round.wakes(), self.round.handles());
         self.counts.note(self.round.moment(), wakes, handles)
@@ -151,7 +153,7 @@ impl<C: Chip> LineState<C> {
     fn kill_by(&mut self, note: Note)
         requires { HasDepth self.old.state }
         ensures state { self.new.state ≡ killed_by note self.old.state }
-        ensures wiring { self.new.wiring ≡ self.old.wiring }
+        ensures fixed { self.new.fixed ≡ self.old.fixed }
     {
         if note == Note::Killed {
             self.desc.kill(&mut self.chip);
@@ -163,11 +165,12 @@ impl<C: Chip> LineState<C> {
     fn leave(&mut self, def: &LineDef) -> LeaveAnswer
         requires rounds { HasRounds self.old.state }
         requires open { IsOpen def.now self.old.state }
+        requires activated { self.old.state.desc.depth ≡ 0 → self.old.state.active ≡ true }
         ensures left { result
             ≡ left_by def.now def.now.flow (is_held self.old.state) self.old.state.desc }
         ensures state { self.new.state ≡ gone_on def.now result.again
             (left_at def.now def.now.flow (is_held self.old.state) self.old.state) }
-        ensures wiring { self.new.wiring ≡ self.old.wiring }
+        ensures fixed { self.new.fixed ≡ self.old.fixed }
     {
         let held = self.is_held();
         match def.flow {
@@ -179,12 +182,13 @@ impl<C: Chip> LineState<C> {
 
     /// The same on the edge flow.
     fn leave_edge(&mut self, held: bool) -> LeaveAnswer
-        requires { HasRounds self.old.state }
+        requires rounds { HasRounds self.old.state }
+        requires activated { self.old.state.desc.depth ≡ 0 → self.old.state.active ≡ true }
         ensures left { result ≡ edge_left self.old.state.desc }
         ensures state { (def : LineDef) → self.new.state
             ≡ (if result.again then round_begun (left_at def flows.Edge held self.old.state)
             else left_at def flows.Edge held self.old.state) }
-        ensures wiring { self.new.wiring ≡ self.old.wiring }
+        ensures fixed { self.new.fixed ≡ self.old.fixed }
     {
         let left = edge::leave(&mut self.desc, &mut self.chip, held);
         if left.again {

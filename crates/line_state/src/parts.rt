@@ -4,15 +4,17 @@ ghost use Rattle.irq_base.specs.declared.entries.LinkAnswer.TheVariants as links
 ghost use Rattle.device_table.specs.Rows.{change};
 ghost use Rattle.act_list.specs.Actions.{has, is_mismatch};
 ghost use Rattle.act_list.specs.Lists.{after_begin, after_link, unlinked};
+ghost use Rattle.line_state.specs.Seen.{runs_seen};
 
 use crate::round::Round;
 use crate::state::LineState;
 use act_list::ActList;
 use act_thread::{ThreadRow, Threads};
 use affinity::Aim;
-use ask_counts::{AskRow, Asks};
+use ask_counts::{AskRow, Asks, FactTable};
 use desc_state::Desc;
-use irq_base::{Chip, DevNo, DriverNo, Flags, NoMemory};
+use irq_base::{Actor, Chip, DevNo, Flags, NoMemory};
+use run_scripts::{RunPlace, RunRow, RunScripts};
 use spurious::Counts;
 
 impl<C: Chip> LineState<C> {
@@ -49,6 +51,20 @@ impl<C: Chip> LineState<C> {
         ensures { result.now ≡ self.now.state.asks }
     {
         &self.asks
+    }
+
+    /// What is fixed of the devices.
+    pub fn facts(&self) -> &FactTable
+        ensures { result.now ≡ self.now.state.facts }
+    {
+        &self.facts
+    }
+
+    /// The scripts of the runs, and how far they are.
+    pub fn runs(&self) -> &RunScripts
+        ensures { result.now ≡ runs_seen self.now }
+    {
+        &self.runs
     }
 
     /// The round of the flow.
@@ -102,6 +118,30 @@ impl<C: Chip> LineState<C> {
         self.asks.put(dev, row);
     }
 
+    /// Puts another row in place of the device's runs; nothing for a device that the line lacks.
+    pub fn put_run(&mut self, dev: DevNo, row: RunRow)
+        ensures { self.new ≡ record self.old {
+          state = record self.old.state {
+            places = record self.old.state.places {
+              rows = change (λ _. row) self.old.state.places.rows dev;
+            };
+          };
+        } }
+    {
+        self.runs.put(dev, row);
+    }
+
+    /// Says how far the handler is that is at work.
+    pub fn put_work(&mut self, place: RunPlace)
+        ensures { self.new ≡ record self.old {
+          state = record self.old.state {
+            places = record self.old.state.places { work = place };
+          };
+        } }
+    {
+        self.runs.set_work(place);
+    }
+
     /// Puts another round in place of this one.
     pub fn put_round(&mut self, round: Round)
         ensures { self.new ≡ record self.old { state = record self.old.state { round = round } } }
@@ -117,7 +157,7 @@ impl<C: Chip> LineState<C> {
     }
 
     /// Says who frees which device, if somebody does.
-    pub fn put_freeing(&mut self, freeing: Option<(DriverNo, DevNo)>)
+    pub fn put_freeing(&mut self, freeing: Option<(Actor, DevNo)>)
         ensures { self.new ≡ record self.old {
           state = record self.old.state { freeing = freeing };
         } }
@@ -131,7 +171,7 @@ impl<C: Chip> LineState<C> {
           list = unlinked self.old.state.list;
         } }
         ensures spare { self.old.spare ≤ self.new.spare }
-        ensures wiring { self.new.wiring ≡ self.old.wiring }
+        ensures fixed { self.new.fixed ≡ self.old.fixed }
     {
         self.actions.clear();
     }
@@ -149,7 +189,7 @@ impl<C: Chip> LineState<C> {
         ensures refused { OnErr result (self.new.state ≡ self.old.state) }
         ensures room { 1 ≤ self.old.spare → IsOk result }
         ensures spare { self.old.spare ≤ self.new.spare + 1 }
-        ensures wiring { self.new.wiring ≡ self.old.wiring }
+        ensures fixed { self.new.fixed ≡ self.old.fixed }
     {
         self.actions.relink(dev, flags)
     }
@@ -176,7 +216,7 @@ impl<C: Chip + Drop> LineState<C> {
           aimed = C.aimed chip;
         } }
         ensures spare { self.new.spare ≡ self.old.spare }
-        ensures wiring { self.new.wiring ≡ C.wiring chip }
+        ensures fixed { self.new.fixed ≡ record self.old.fixed { wiring = C.wiring chip } }
     {
         self.chip = chip;
     }

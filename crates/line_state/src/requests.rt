@@ -7,9 +7,9 @@ ghost use Rattle.act_list.specs.Lists.{after_link};
 ghost use Rattle.desc_state.specs.Desc.{resend_by, enable_by};
 ghost use Rattle.line_marks.specs.Acts.{activated_if, opened_to};
 ghost use Rattle.line_marks.specs.DriversDue.{request_to};
-ghost use Rattle.line_marks.specs.Kinds.{kind_at};
+ghost use Rattle.line_marks.specs.Facts.{kind_at};
 ghost use Rattle.line_marks.specs.State.{state_after};
-ghost use Rattle.line_state.specs.Entries.{taken_over};
+ghost use Rattle.line_state.specs.Entries.{taken_over, IsActivated};
 
 use crate::state::LineState;
 use irq_base::{
@@ -19,7 +19,7 @@ use irq_base::{
 
 impl<C: Chip> LineState<C> {
     /// A request: if its action is linked, the line is set up for it. A refused one changes
-    /// nothing.
+    /// nothing. What is linked already is active.
     pub(crate) fn request(
         &mut self,
         def: &LineDef,
@@ -28,13 +28,14 @@ impl<C: Chip> LineState<C> {
         flags: Flags,
     ) -> Entry
         requires absent { has dev self.old.state.list.actions ≡ false }
-        requires room { is_linked_answer (answer_by (kind_at self.old.state.kinds dev) flags
+        requires room { is_linked_answer (answer_by (kind_at self.old.state.facts dev) flags
             self.old.state.list.actions) ≡ true
             → 1 ≤ self.old.spare }
+        requires activated { IsActivated self.old.state }
         ensures entry { result ≡ request_to def.now driver dev flags self.old.state
-            (answer_by (kind_at self.old.state.kinds dev) flags self.old.state.list.actions) }
+            (answer_by (kind_at self.old.state.facts dev) flags self.old.state.list.actions) }
         ensures state { self.new.state ≡ state_after def.now result self.old.state }
-        ensures wiring { self.new.wiring ≡ self.old.wiring }
+        ensures fixed { self.new.fixed ≡ self.old.fixed }
     {
         let first = self.actions.is_empty();
         let answer = self.link(dev, flags);
@@ -57,14 +58,14 @@ impl<C: Chip> LineState<C> {
     /// The action is linked, or refused.
     fn link(&mut self, dev: DevNo, flags: Flags) -> LinkAnswer
         requires absent { has dev self.old.state.list.actions ≡ false }
-        requires room { is_linked_answer (answer_by (kind_at self.old.state.kinds dev) flags
+        requires room { is_linked_answer (answer_by (kind_at self.old.state.facts dev) flags
             self.old.state.list.actions) ≡ true
             → 1 ≤ self.old.spare }
         ensures answer { result
-            ≡ answer_by (kind_at self.old.state.kinds dev) flags self.old.state.list.actions }
+            ≡ answer_by (kind_at self.old.state.facts dev) flags self.old.state.list.actions }
         ensures state { self.new.state
             ≡ record self.old.state { list = after_link result dev flags self.old.state.list } }
-        ensures wiring { self.new.wiring ≡ self.old.wiring }
+        ensures fixed { self.new.fixed ≡ self.old.fixed }
     {
         let kind = self.kind(dev);
         let Ok(answer) = self.actions.link(dev, kind, flags) else {
@@ -78,6 +79,7 @@ impl<C: Chip> LineState<C> {
     /// cleared, and the window of the rule on spurious interrupts begins anew. The first action
     /// starts the line; a further one gives a line that a storm disabled another chance.
     fn set_up(&mut self, trigger: Trigger, first: bool, flags: Flags) -> Opened
+        requires activated { first ≡ false → self.old.state.active ≡ true }
         ensures opened { result ≡ (if first then
             (if flags.noauto then opens.No else opens.Started
             (resend_by trigger self.old.state.desc self.old.state.cell))
@@ -87,7 +89,7 @@ impl<C: Chip> LineState<C> {
             else opens.No)) }
         ensures state { self.new.state ≡ opened_to first result
             (activated_if first (taken_over flags self.old.state)) }
-        ensures wiring { self.new.wiring ≡ self.old.wiring }
+        ensures fixed { self.new.fixed ≡ self.old.fixed }
     {
         let spurious = self.desc.spurious();
         self.desc.set_oneshot(flags.oneshot);
@@ -107,7 +109,7 @@ impl<C: Chip> LineState<C> {
             else opens.Started (resend_by trigger self.old.state.desc self.old.state.cell)) }
         ensures state { self.new.state ≡ opened_to true result
             (record self.old.state { active = true }) }
-        ensures wiring { self.new.wiring ≡ self.old.wiring }
+        ensures fixed { self.new.fixed ≡ self.old.fixed }
     {
         self.chip.activate();
         if noauto {
@@ -120,11 +122,12 @@ impl<C: Chip> LineState<C> {
 
     /// A line that a storm disabled is enabled (the end of `__setup_irq`).
     fn open_again(&mut self, trigger: Trigger, spurious: bool) -> Opened
+        requires activated { self.old.state.active ≡ true }
         ensures opened { result ≡ (if spurious then opened_by_enable
             (enable_by true trigger self.old.state.desc self.old.state.cell)
             else opens.No) }
         ensures state { self.new.state ≡ opened_to false result self.old.state }
-        ensures wiring { self.new.wiring ≡ self.old.wiring }
+        ensures fixed { self.new.fixed ≡ self.old.fixed }
     {
         if !spurious {
             return Opened::No;

@@ -1,30 +1,29 @@
 //! The parts, and what is read off them.
 ghost use Rattle.std.specs.Prelude.{◌≡◌, ◌≤◌, false, IfOk, OnOk};
 ghost use Rattle.irq_model.specs.Valid.{IsValid};
-ghost use Rattle.device_table.specs.Rows.{at};
+ghost use Rattle.irq_model.specs.ValidRuns.{HasValidRuns};
 ghost use Rattle.act_thread.specs.Threads.{active_in, is_idle_at};
-ghost use Rattle.line_marks.specs.CpuDue.{met_by};
-ghost use Rattle.line_marks.specs.Due.{met_in};
-ghost use Rattle.line_marks.specs.Kinds.{kind_at};
+ghost use Rattle.run_scripts.specs.Runs.{AreRunsOf};
+ghost use Rattle.line_marks.specs.Facts.{kind_at};
 ghost use Rattle.line_marks.specs.State.{first_state};
-ghost use Rattle.line_state.specs.Seen.{taker_of, lowest_due, may_go_on};
+ghost use Rattle.line_state.specs.Seen.{runs_seen, taker_of, lowest_due, may_go_on};
 
-use crate::kinds::Kinds;
 use crate::round::Round;
 use act_list::ActList;
 use act_thread::Threads;
 use affinity::Aim;
-use ask_counts::{AskRow, Asks};
+use ask_counts::{Asks, FactTable};
 use desc_state::Desc;
-use irq_base::{Chip, CpuNo, DevNo, DriverNo, Kind, LineDef, NoMemory};
+use irq_base::{Actor, Chip, CpuNo, DevNo, Kind, LineDef, NoMemory};
+use run_scripts::RunScripts;
 use spurious::Counts;
 use std::alloc::Global;
 use std::marker::Model;
 
 /// All that a line keeps of its history but its drivers' places in their scripts (`struct
 /// irq_desc`, `include/linux/irqdesc.h`). Contracts see the state that the definitions read off a
-/// history, how many more actions fit without memory, and how the chips are wired, which no call
-/// changes.
+/// history, how many more actions fit without memory, and what no call changes: how the chips are
+/// wired, and what the runs of handlers and threads call and answer.
 #[derive(Drop)]
 pub struct LineState<C: Chip> {
     pub(crate) desc: Desc,
@@ -33,10 +32,11 @@ pub struct LineState<C: Chip> {
     pub(crate) actions: ActList,
     pub(crate) threads: Threads,
     pub(crate) asks: Asks,
-    pub(crate) kinds: Kinds,
+    pub(crate) facts: FactTable,
+    pub(crate) runs: RunScripts,
     pub(crate) round: Round,
     pub(crate) counts: Counts,
-    pub(crate) freeing: Option<(DriverNo, DevNo)>,
+    pub(crate) freeing: Option<(Actor, DevNo)>,
 }
 
 impl<C: Chip> Model for LineState<C> {
@@ -54,13 +54,18 @@ impl<C: Chip> Model for LineState<C> {
         list = s.actions.list;
         threads = s.threads;
         asks = s.asks;
-        kinds = s.kinds;
+        facts = s.facts;
+        places = s.runs.places;
         round = s.round;
         counts = s.counts;
         freeing = s.freeing;
       };
       spare = s.actions.spare;
-      wiring = C.wiring s.chip;
+      fixed = record {
+        wiring = C.wiring s.chip;
+        calls = s.runs.calls;
+        answers = s.runs.answers;
+      };
     } };
 }
 
@@ -70,15 +75,18 @@ impl<C: Chip + Drop> LineState<C> {
     #[tactic(auto, using(crate::proofs::Targets::target_below))]
     pub fn new(alloc: Global, def: &LineDef, chip: C) -> Result<LineState<C>, NoMemory>
         requires valid { IsValid def.now }
+        requires runs { HasValidRuns def.now }
         requires cell { C.cell chip ≡ (first_state def.now).cell }
         requires inactive { C.active chip ≡ false }
         ensures state { IfOk result (λ s. s.state ≡ first_state def.now) }
-        ensures wiring { IfOk result (λ s. s.wiring ≡ C.wiring chip) }
+        ensures scripted { IfOk result (λ s. AreRunsOf def.now (runs_seen s)) }
+        ensures wiring { IfOk result (λ s. s.fixed.wiring ≡ C.wiring chip) }
     {
         let actions = ActList::new(alloc, def)?;
         let threads = Threads::new(alloc, def)?;
         let asks = Asks::new(alloc, def)?;
-        let kinds = Kinds::new(alloc, def)?;
+        let facts = FactTable::new(alloc, def)?;
+        let runs = RunScripts::new(alloc, def)?;
         let aim = Aim::new(def.cpus, def.mask, def.later);
         let mut chip = chip;
         chip.aim(aim.target());
@@ -89,7 +97,8 @@ impl<C: Chip + Drop> LineState<C> {
             actions,
             threads,
             asks,
-            kinds,
+            facts,
+            runs,
             round: Round::new(),
             counts: Counts::new(def.window, def.limit),
             freeing: None,
@@ -103,7 +112,7 @@ impl<C: Chip> LineState<C> {
     pub fn reserve(&mut self) -> Result<(), NoMemory>
         ensures room { OnOk result (1 ≤ self.new.spare) }
         ensures state { self.new.state ≡ self.old.state }
-        ensures wiring { self.new.wiring ≡ self.old.wiring }
+        ensures fixed { self.new.fixed ≡ self.old.fixed }
     {
         self.actions.reserve()
     }
@@ -113,7 +122,7 @@ impl<C: Chip> LineState<C> {
         ensures cell { C.cell result.now ≡ self.now.state.cell }
         ensures active { C.active result.now ≡ self.now.state.active }
         ensures aimed { C.aimed result.now ≡ self.now.state.aimed }
-        ensures wiring { C.wiring result.now ≡ self.now.wiring }
+        ensures wiring { C.wiring result.now ≡ self.now.fixed.wiring }
     {
         &self.chip
     }
@@ -157,7 +166,7 @@ impl<C: Chip> LineState<C> {
 
     /// Who frees which device, if somebody does: the request mutex is held meanwhile
     /// (`request_mutex` of `struct irq_desc`).
-    pub fn freeing(&self) -> Option<(DriverNo, DevNo)>
+    pub fn freeing(&self) -> Option<(Actor, DevNo)>
         ensures { result ≡ self.now.state.freeing }
     {
         self.freeing
@@ -172,42 +181,8 @@ impl<C: Chip> LineState<C> {
 
     /// The kind of the device; a device that the line lacks is a stuck one.
     pub fn kind(&self, dev: DevNo) -> Kind
-        ensures { result ≡ kind_at self.now.state.kinds dev }
+        ensures { result ≡ kind_at self.now.state.facts dev }
     {
-        self.kinds.get(dev)
-    }
-
-    /// The asks of the device that were unserved as its handler was last called.
-    pub fn met_by_handler(&self, dev: DevNo) -> u32
-        ensures { result ≡ met_by (at self.now.state.asks dev) }
-    {
-        met_by_handler(self.asks.get(dev))
-    }
-
-    /// The asks of the device that were unserved as its thread's run last began.
-    pub fn met_by_thread(&self, dev: DevNo) -> u32
-        ensures { result ≡ met_in (at self.now.state.asks dev) }
-    {
-        met_by_thread(self.asks.get(dev))
-    }
-}
-
-/// Of a row of asks: those that were unserved as the handler was last called.
-pub(crate) fn met_by_handler(row: Option<AskRow>) -> u32
-    ensures { result ≡ met_by row }
-{
-    match row {
-        Some(row) => row.met_by_handler,
-        None => 0,
-    }
-}
-
-/// Those that were unserved as the thread's run last began.
-pub(crate) fn met_by_thread(row: Option<AskRow>) -> u32
-    ensures { result ≡ met_in row }
-{
-    match row {
-        Some(row) => row.met_by_thread,
-        None => 0,
+        self.facts.get(dev).kind
     }
 }

@@ -5,21 +5,22 @@
 ghost use Rattle.std.specs.Prelude.{◌≡◌, ◌≤◌, ℕ, Ok, IfOk, OnErr};
 ghost use Rattle.irq_base.specs.declared.entries.Actor.{Actor};
 ghost use Rattle.irq_base.specs.declared.numbers.LineNo.{LineNo};
-ghost use Rattle.irq_model.specs.Bounds.{bound};
 ghost use Rattle.irq_model.specs.Next.{next};
 ghost use Rattle.callbacks.specs.Heard.{Heard};
 ghost use Rattle.irq_line.specs.Answers.{Answers, IsFull};
 ghost use Rattle.irq_line.specs.Hearing.{Lacks, runs_by};
+ghost use Rattle.irq_storms.specs.Lengths.{history_bound, IsBounded};
 
 use callbacks::Hears;
 use irq_base::{Actor, NoMemory};
 use irq_line::{IrqLine, StepRefused, Stepped};
 
-/// If the log limit is at least the bound, the log is never full: whoever steps the line next, and
-/// whoever has the answers, the answer isn't `Full`. A caller that calls this before a step knows
-/// that the refusal doesn't come.
+/// If the line has a bound and the log limit is at least that, the log is never full: whoever steps
+/// the line next, and whoever has the answers, the answer isn't `Full`. A caller that calls this
+/// before a step knows that the refusal doesn't come.
 pub fn next_step_is_not_full<L: IrqLine>(line: &L)
-    ensures not_full { bound (L.seen line.now).def ≤ (L.seen line.now).def.log
+    ensures not_full { IsBounded (L.seen line.now).def
+        → history_bound (L.seen line.now).def ≤ (L.seen line.now).def.log
         → (actor : Actor) (of : LineNo) (len : ℕ) → IsFull (L.seen line.now) actor of len → ⊥ }
 {
     line.is_sound();
@@ -36,7 +37,8 @@ pub fn step_within_bound<L: IrqLine, E: Hears>(
     actor: Actor,
     ears: &mut E,
 ) -> Result<Stepped<E::Lack>, NoMemory>
-    requires ample { bound (L.seen line.old).def ≤ (L.seen line.old).def.log }
+    requires bounded { IsBounded (L.seen line.old).def }
+    requires ample { history_bound (L.seen line.old).def ≤ (L.seen line.old).def.log }
     ensures def { (L.seen line.new).def ≡ (L.seen line.old).def }
     ensures answer { IfOk result (λ answer. Answers (L.seen line.old) actor (Ok answer)
         (L.seen line.new)) }

@@ -5,7 +5,7 @@ use Rattle.std.proofs.lemmas.Bool.Decides.{nat_tests}
 use Rattle.std.proofs.lemmas.Option.{get_or_from_slice_get, slice_get_within}
 use Rattle.irq_base.specs.declared.entries.Entry.{Entry}
 use Rattle.irq_base.specs.declared.lines.LineDef.{LineDef}
-use Rattle.irq_model.specs.Settled.{IsSettled}
+use Rattle.irq_model.specs.Waits.{IsAtRest}
 use Rattle.device_table.proofs.Steps.{take_item}
 use Rattle.line_wanted.specs.Left.{left_of}
 use Rattle.line_wanted.specs.declared.left.Left.{Left}
@@ -36,7 +36,7 @@ module _ (def : LineDef) (paths : List (List Entry)) (n : ℕ) (p : List Entry) 
   one_longer = take_item paths n p here
 
   -- a state that isn't at rest changes nothing
-  module _ (moves : IsSettled def (reverse p) → ⊥) (rows : List RestRow) (before : AreRestsTo def paths n rows) where
+  module _ (moves : IsAtRest def (reverse p) → ⊥) (rows : List RestRow) (before : AreRestsTo def paths n rows) where
     pub not_at_rest : AreRestsTo def paths (n + 1) rows
     not_at_rest = record {
       each = λ k r is. let x = before.each k r is in (x.0, omega (arith, x.1), x.2, x.3);
@@ -55,7 +55,7 @@ module _ (def : LineDef) (paths : List (List Entry)) (n : ℕ) (p : List Entry) 
         old_place j left at (inr same) = absurd (moves (leaves_here left j same at).0)
 
   -- a state at rest is counted
-  module _ (rests : IsSettled def (reverse p)) (left : Left) (left_is : left ≡ left_of def p) (len : ℕ) (len_is : len ≡ depth_at paths n)
+  module _ (rests : IsAtRest def (reverse p)) (left : Left) (left_is : left ≡ left_of def p) (len : ℕ) (len_is : len ≡ depth_at paths n)
       (rows : List RestRow) (before : AreRestsTo def paths n rows) where
     mine : Leaves def left p
     mine = (rests, sym left_is)
@@ -235,7 +235,7 @@ take_short (suc n) (x ∷ xs) = omega (arith, take_short n xs)
 module _ (def : LineDef) (paths : List (List Entry)) (n : ℕ) (within : n < length paths) where
   -- of states at rest alone
   abbrev Rests : List Entry → Type 0
-  Rests p = IsSettled def (reverse p)
+  Rests p = IsAtRest def (reverse p)
 
   pub rest_next : (m : ℕ) → RestsAt def paths n → AreSoMany Rests (take n paths) m → AreSoMany Rests (take (n + 1) paths) (m + 1)
   rest_next m rests many =

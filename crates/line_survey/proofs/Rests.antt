@@ -13,8 +13,7 @@ use Rattle.irq_base.specs.declared.lines.LineDef.{LineDef}
 use Rattle.irq_laws.proofs.OwnLaws.{due_is_own_past}
 use Rattle.irq_model.specs.Legal.{IsDue, IsLegal, IsLegalPast}
 use Rattle.irq_model.specs.Next.{next_past}
-use Rattle.irq_model.specs.Settled.{IsSettled}
-use Rattle.irq_model.specs.Valid.{IsValid}
+use Rattle.irq_model.specs.Waits.{IsAtRest}
 use Rattle.line_futures.proofs.Futures.{due_alike}
 use Rattle.line_search.proofs.Nodes.{node_tells}
 use Rattle.line_search.proofs.Searching.{path_is_legal, legal_is_path}
@@ -22,21 +21,21 @@ use Rattle.line_wanted.specs.Wanted.{IsShortest}
 use Rattle.line_wanted.specs.declared.left.Left.{Left}
 use Rattle.line_wanted.specs.declared.wanted.Wanted.TheVariants as wants
 use Rattle.line_words.specs.Node.{node}
-use Rattle.play_laws.proofs.Rest.{rest_is_settled}
+use Rattle.play_laws.proofs.Rest.{unwaiting_rests}
 use Rattle.state_search.proofs.Places.{all_at, one_at, same_some, contains_at, map_at, map_from, there}
 use Rattle.state_search.specs.Paths.{IsPath, IsBelow, IsCount}
 use Rattle.state_search.specs.Seen.{SearchSeen, cut_of}
 use Rattle.line_survey.proofs.Lefts.{left_alike}
 use Rattle.line_survey.proofs.Lists.{taken}
-use Rattle.line_survey.specs.Kept.{IsOfLine}
+use Rattle.line_survey.specs.Kept.{IsOfLine, IsUnwaiting}
 use Rattle.line_survey.specs.Rests.{Leaves, LeavesAt, RestsAt, MovesAt, IsFirstAt}
 
-module _ (def : LineDef) (valid : IsValid def) where
+module _ (def : LineDef) (asked : IsUnwaiting def) where
   -- nothing is due of anybody
   abbrev NoneDue : List Entry → Type 0
   NoneDue p = (e : Entry) → IsDue def e p → ⊥
 
-  pub settled_none : (p : List Entry) → IsSettled def (reverse p) → NoneDue p
+  pub settled_none : (p : List Entry) → IsAtRest def (reverse p) → NoneDue p
   settled_none p settled e due =
       let none = ap (λ (x : List Entry). next_past def x (actor_of e)) (sym (reverse-reverse p)) ∙ settled.still (actor_of e) in
       cc
@@ -48,29 +47,30 @@ module _ (def : LineDef) (valid : IsValid def) where
       by_due None is = is
       by_due (Some e) is = absurd (none e (ap (next_past def p) (due_is_own_past def p a e is) ∙ is))
 
-  pub none_settled : (p : List Entry) → IsLegalPast def p → NoneDue p → IsSettled def (reverse p)
+  pub none_settled : (p : List Entry) → IsLegalPast def p → NoneDue p → IsAtRest def (reverse p)
   none_settled p legal none =
       let back : IsLegal def (reverse p) = subst (λ (x : List Entry). IsLegalPast def x) (sym (reverse-reverse p)) legal in
-      rest_is_settled def (reverse p) valid back (λ a one. ap (λ (x : List Entry). next_past def x a) (reverse-reverse p) ∙ at_rest p none a)
+      unwaiting_rests def (reverse p) asked.valid asked.runs asked.waits back
+      (λ a one. ap (λ (x : List Entry). next_past def x a) (reverse-reverse p) ∙ at_rest p none a)
 
   -- a past that is alike leaves the line alike
   pub leaves_alike : (left : Left) (g h : List Entry) → IsLegalPast def g → IsLegalPast def h → node def g ≡ node def h → Leaves def left g → Leaves def left h
   leaves_alike left g h legal other same leaves =
-      let like = node_tells def valid g h legal other same in
-      let back = node_tells def valid h g other legal (sym same) in
+      let like = node_tells def asked.valid g h legal other same in
+      let back = node_tells def asked.valid h g other legal (sym same) in
       let none = settled_none g leaves.0 in (
-        none_settled h other (λ e due. none e (due_alike def valid h g other legal back e due)),
-        sym (left_alike def g h valid legal other like.state) ∙ leaves.1,
+        none_settled h other (λ e due. none e (due_alike def asked.valid h g other legal back e due)),
+        sym (left_alike def g h asked.valid legal other like.state) ∙ leaves.1,
       )
 
   -- how many entries are due says whether the past is at rest
-  pub count_settled : (p : List Entry) → IsLegalPast def p → IsCount (IsDue def) p 0 → IsSettled def (reverse p)
+  pub count_settled : (p : List Entry) → IsLegalPast def p → IsCount (IsDue def) p 0 → IsAtRest def (reverse p)
   count_settled p legal count = none_settled p legal (λ e due. no_entry e (count.all e due))
     where
       no_entry : (e : Entry) → Contains count.labels e → ⊥
       no_entry e has = absurd (omega (arith, has.1, count.many))
 
-  pub count_goes_on : (p : List Entry) (n : ℕ) → IsCount (IsDue def) p (suc n) → IsSettled def (reverse p) → ⊥
+  pub count_goes_on : (p : List Entry) (n : ℕ) → IsCount (IsDue def) p (suc n) → IsAtRest def (reverse p) → ⊥
   count_goes_on p n count settled =
       let first = there count.labels 0 (omega (arith, count.many)) in
       settled_none p settled first.0 (all_at (λ e. IsDue def e p) count.labels 0 first.0 count.each first.1)
@@ -85,7 +85,7 @@ module _ (def : LineDef) (valid : IsValid def) where
     pub moves_at : (k n : ℕ) → slice_get s.counts k ≡ Some n → (n ≡ 0 → ⊥) → MovesAt def s.paths k
     moves_at k n is some p at = by_count n refl
       where
-        by_count : (m : ℕ) → n ≡ m → IsSettled def (reverse p) → ⊥
+        by_count : (m : ℕ) → n ≡ m → IsAtRest def (reverse p) → ⊥
         by_count zero same settled = some same
         by_count (suc m) same settled = count_goes_on p m (subst (IsCount (IsDue def) p) same (line.counts k p n at is)) settled
 

@@ -7,7 +7,6 @@ use Rattle.irq_base.proofs.SameEntries.{same_entries}
 use Rattle.irq_base.specs.contracts.entries.EntryEq.TheImpl.Laws as entry_laws
 use Rattle.irq_base.specs.declared.entries.Entry.{Entry}
 use Rattle.irq_base.specs.declared.lines.LineDef.{LineDef}
-use Rattle.irq_model.specs.Valid.{IsValid}
 use Rattle.line_search.proofs.Searching.{met, legal_is_path}
 use Rattle.line_search.specs.Found.{IsShortest as IsShortestBefore}
 use Rattle.line_wanted.specs.Left.{left_of}
@@ -18,7 +17,7 @@ use Rattle.state_search.specs.declared.firsts.First.{First}
 use Rattle.line_survey.proofs.Entries.{shortest_of}
 use Rattle.line_survey.proofs.Rests.{rest_found, known}
 use Rattle.line_survey.specs.Growing.{AreRestsTo}
-use Rattle.line_survey.specs.Kept.{same_entry, IsOfLine}
+use Rattle.line_survey.specs.Kept.{same_entry, IsOfLine, IsUnwaiting}
 use Rattle.line_survey.specs.Rests.{Leaves}
 use Rattle.line_survey.specs.Seen.{depth_at}
 use Rattle.line_survey.specs.Surveyed.{AreSoMany, IsLeast, AreRests, AreEntries, rows_of}
@@ -29,13 +28,13 @@ use Rattle.line_survey.specs.declared.survey.RestRow.{RestRow}
 depth_is : (paths : List (List Entry)) (k : ℕ) (p : List Entry) → slice_get paths k ≡ Some p → length p ≡ depth_at paths k
 depth_is paths k p is = ap length (sym (get_or_from_slice_get paths k p [] is))
 
-module _ (def : LineDef) (valid : IsValid def) (s : SearchSeen Entry) (line : IsOfLine def s) where
+module _ (def : LineDef) (asked : IsUnwaiting def) (s : SearchSeen Entry) (line : IsOfLine def s) where
   pub rests_are : (rows : List RestRow) → AreRestsTo def s.paths s.looked rows → AreRests def (cut_of s) (take s.looked s.paths) rows
   rests_are rows are = record {
     each = all_from (λ r. IsLeast def (wants.Rest r.left) r.len) rows least_at;
     states = all_from (λ r. AreSoMany (Leaves def r.left) (take s.looked s.paths) r.states) rows are.states;
     all = λ h legal settled below.
-        let x = known def valid s line (left_of def h) h legal (settled, refl) below in
+        let x = known def asked s line (left_of def h) h legal (settled, refl) below in
         let y = are.all x.place (left_of def h) x.within (x.past, x.there, x.leaves) in
         contains_from (map (λ r. r.left) rows) y.0 (left_of def h) (map_at (λ r. r.left) rows y.0 y.1 y.2.0 ∙ ap Some y.2.1);
     once = λ j k left ja kb.
@@ -49,7 +48,7 @@ module _ (def : LineDef) (valid : IsValid def) (s : SearchSeen Entry) (line : Is
       least_at k r is =
           let x = are.each k r is in
           let p = x.2.there.0 in
-          (p, rest_found def valid s line r.left x.0 p x.1 x.2 x.2.there.1, depth_is s.paths x.0 p x.2.there.1 ∙ sym x.3)
+          (p, rest_found def asked s line r.left x.0 p x.1 x.2 x.2.there.1, depth_is s.paths x.0 p x.2.there.1 ∙ sym x.3)
 
   -- an entry that was met, with a shortest past before it
   record Met (f : First Entry) : Type 0 where

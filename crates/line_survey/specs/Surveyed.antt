@@ -4,7 +4,7 @@ use Rattle.std.specs.Prelude.{length, sum, reverse, slice_get, All, Contains}
 use Rattle.irq_base.specs.declared.entries.Entry.{Entry}
 use Rattle.irq_base.specs.declared.lines.LineDef.{LineDef}
 use Rattle.irq_model.specs.Legal.{IsDue, IsLegalPast}
-use Rattle.irq_model.specs.Settled.{IsSettled}
+use Rattle.irq_model.specs.Waits.{IsAtRest}
 use Rattle.line_wanted.specs.Left.{left_of}
 use Rattle.line_wanted.specs.Wanted.{IsShortest}
 use Rattle.line_wanted.specs.declared.wanted.Wanted.{Wanted}
@@ -35,7 +35,7 @@ module _ (def : LineDef) (cut : Option ℕ) where
   pub record AreRests (looked : List (List Entry)) (rows : List RestRow) : Type 0 where
     pub each : All (λ r. IsLeast def (wants.Rest r.left) r.len) rows
     pub states : All (λ r. AreSoMany (Leaves def r.left) looked r.states) rows
-    pub all : (h : List Entry) → IsLegalPast def h → IsSettled def (reverse h)
+    pub all : (h : List Entry) → IsLegalPast def h → IsAtRest def (reverse h)
         → IsBelow cut (length h) → Contains (map (λ r. r.left) rows) (left_of def h)
     pub once : IsEachOnce (map (λ r. r.left) rows)
     pub rising : (j k : ℕ) (a b : RestRow) → j ≤ k → slice_get rows j ≡ Some a
@@ -57,7 +57,7 @@ pub record IsSurvey (s : LineSearchSeen) (v : Survey) : Type 0 where
   pub states : v.states ≡ length s.searched.paths
   pub moves : (ns : List ℕ) × AreCounted (IsDue s.def) s.searched.paths ns
       × (length ns ≡ s.searched.looked) × (v.moves ≡ sum ns)
-  pub rest : AreSoMany (λ p. IsSettled s.def (reverse p))
+  pub rest : AreSoMany (λ p. IsAtRest s.def (reverse p))
       (take s.searched.looked s.searched.paths) v.rest
   pub cut : v.cut ≡ cut_of s.searched
   pub rests : AreRests s.def (cut_of s.searched) (take s.searched.looked s.searched.paths)

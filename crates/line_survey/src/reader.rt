@@ -3,6 +3,7 @@ ghost use Rattle.std.specs.Prelude.{◌≡◌, ◌≤◌, IfOk, List, length};
 ghost use Rattle.irq_base.specs.declared.entries.Entry.{Entry};
 ghost use Rattle.irq_model.specs.Legal.{IsLegalPast};
 ghost use Rattle.irq_model.specs.Valid.{IsValid};
+ghost use Rattle.irq_model.specs.ValidRuns.{HasValidRuns};
 ghost use Rattle.line_survey.specs.Kept.{IsReader};
 ghost use Rattle.line_wanted.specs.Left.{left_of};
 ghost use Rattle.line_words.specs.Node.{node};
@@ -14,13 +15,14 @@ use line_scripts::Scripts;
 use line_space::drivers_of;
 use line_state::LineState;
 use line_wanted::Left;
-use line_words::{fresh, read_into};
+use line_words::{fresh, has_more, read_into};
 use std::alloc::Global;
 
 /// A state of a line and how far its drivers are, into which the numbers of one state after another
 /// are read.
 #[derive(Drop)]
 pub(crate) struct Reader {
+    more: bool,
     drivers: Vec<DriverNo>,
     state: LineState<Cell>,
     scripts: Scripts,
@@ -29,10 +31,12 @@ pub(crate) struct Reader {
 impl Reader {
     /// Nothing was read yet. The only error is `NoMemory`.
     pub(crate) fn new(alloc: Global, def: &LineDef) -> Result<Reader, NoMemory>
-        requires { IsValid def.now }
+        requires valid { IsValid def.now }
+        requires runs { HasValidRuns def.now }
         ensures { IfOk result (IsReader def.now) }
     {
         Ok(Reader {
+            more: has_more(def),
             drivers: drivers_of(alloc, &def.calls)?,
             state: fresh(alloc, def)?,
             scripts: Scripts::new(alloc, &def.calls)?,
@@ -50,7 +54,14 @@ impl Reader {
             → words.now ≡ node def.now past → left ≡ left_of def.now past) }
     {
         let drivers = self.drivers.as_slice();
-        read_into(&mut self.state, def, drivers, &mut self.scripts, words)?;
+        read_into(
+            &mut self.state,
+            def,
+            self.more,
+            drivers,
+            &mut self.scripts,
+            words,
+        )?;
         Ok(left_in(def, &self.state))
     }
 }

@@ -2,7 +2,7 @@
 ghost use Rattle.std.specs.Prelude.{◌≡◌, ◌<◌, ◌+◌, ◌==◌, ℕ, IfOk, IfSome, IfNone, OnOk, Some};
 ghost use Rattle.std.specs.Prelude.{length};
 ghost use Rattle.std.specs.Prelude.{sum, slice_get, take, reverse};
-ghost use Rattle.irq_model.specs.Settled.{IsSettled};
+ghost use Rattle.irq_model.specs.Waits.{IsAtRest};
 ghost use Rattle.line_survey.specs.Growing.{IsNoted};
 ghost use Rattle.line_survey.specs.Kept.{IsReader};
 ghost use Rattle.line_survey.specs.Surveyed.{AreSoMany, AreRests, IsSurvey};
@@ -81,7 +81,7 @@ impl LineSearch {
 
     /// In how many states nothing is due.
     fn at_rest(&self) -> u32
-        ensures { AreSoMany (λ p. IsSettled self.now.def (reverse p))
+        ensures { AreSoMany (λ p. IsAtRest self.now.def (reverse p))
             (take self.now.searched.looked self.now.searched.paths) result }
     {
         let mut rest = 0;

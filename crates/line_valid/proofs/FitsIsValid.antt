@@ -1,5 +1,5 @@
 -- What the tests ask for makes a valid definition.
-use Rattle.std.proofs.Common.{◌≡◌, ℕ, zero, suc, ◌+◌, ◌<◌, Bool, true, false, not, ◌&&◌, ◌||◌, Some, List, [], ◌∷◌}
+use Rattle.std.proofs.Common.{◌≡◌, ℕ, zero, suc, ◌<◌, Bool, true, false, not, ◌&&◌, ◌||◌, Some, List, [], ◌∷◌}
 use Rattle.std.proofs.Common.{length, All, refl, sym, ap, subst, ◌∙◌, eqb-true, arith}
 use Rattle.std.specs.List.{slice_get, list_all, list_any}
 use Rattle.std.proofs.lemmas.Bool.{ltb-true, not-true}
@@ -18,7 +18,7 @@ use Rattle.irq_steps.proofs.Same.{dev_from_same, driver_from_same}
 use Rattle.line_valid.specs.Deciding.{has_distinct, links_dev, shares, agrees, has_one_owner, is_freed_first}
 use Rattle.line_valid.specs.Deciding.{is_freed_after, is_freed_between, fits_numbers, fits_flow, fits_lists, fits}
 
-both : (a b : Bool) → (a && b) ≡ true → (a ≡ true) × (b ≡ true)
+pub both : (a b : Bool) → (a && b) ≡ true → (a ≡ true) × (b ≡ true)
 both true b h = (refl, h)
 both false b h = (cc, cc)
 
@@ -26,7 +26,7 @@ implied : (a b : Bool) → (not a || b) ≡ true → a ≡ true → b ≡ true
 implied true b h is = h
 implied false b h is = cc
 
-each : {A : Type 0} (p : A → Bool) (P : A → Type 0) → ((x : A) → p x ≡ true → P x) → (xs : List A) → list_all p xs ≡ true → All P xs
+pub each : {A : Type 0} (p : A → Bool) (P : A → Type 0) → ((x : A) → p x ≡ true → P x) → (xs : List A) → list_all p xs ≡ true → All P xs
 each p P f [] h = All-nil P
 each p P f (x ∷ xs) h = let b = both (p x) (list_all p xs) h in All-cons P x xs (f x b.0) (each p P f xs b.1)
 

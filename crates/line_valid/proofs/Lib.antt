@@ -1,1 +1,2 @@
 mod FitsIsValid
+pub mod FitsRuns

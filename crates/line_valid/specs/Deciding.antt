@@ -1,5 +1,5 @@
 -- The parts of a valid definition, each as a test.
-use Rattle.std.specs.Prelude.{ℕ, Bool, true, false, not, ◌&&◌, ◌||◌, nat_lt, is_some, List, []}
+use Rattle.std.specs.Prelude.{Bool, true, false, not, ◌&&◌, ◌||◌, nat_lt, is_some, List, []}
 use Rattle.std.specs.Prelude.{◌∷◌, length}
 use Rattle.std.specs.List.{list_all, list_any}
 use Rattle.irq_base.specs.declared.calls.Call.{Call}
@@ -8,7 +8,7 @@ use Rattle.irq_base.specs.declared.devices.DeviceDef.{DeviceDef}
 use Rattle.irq_base.specs.declared.lines.LineDef.{LineDef}
 use Rattle.irq_base.specs.declared.numbers.DevNo.{DevNo}
 use Rattle.irq_base.specs.declared.numbers.DriverNo.{DriverNo}
-use Rattle.irq_model.specs.Kinds.{same_dev, same_driver, same_line}
+use Rattle.irq_model.specs.Kinds.{same_driver, same_line}
 use Rattle.irq_model.specs.Lines.{is_edge_line, is_level_line, is_edge_flow, is_level_flow}
 use Rattle.irq_model.specs.Lines.{is_eoi_flow, is_device}
 use Rattle.irq_model.specs.Signal.{lowest_in}

@@ -10,7 +10,7 @@ use irq_base::{Call, CallList, DevNo, DeviceList, DriverNo, LineDef};
 
 /// The call at index `place`.
 #[tactic(auto, using(irq_model::proofs::Lists::next_item))]
-fn call_at(calls: &CallList, place: usize) -> (DriverNo, Call)
+pub(crate) fn call_at(calls: &CallList, place: usize) -> (DriverNo, Call)
     requires { place < length calls.now }
     ensures { drop place calls.now ≡ result ∷ drop (place + 1) calls.now }
 {

@@ -45,7 +45,7 @@ pub(crate) fn has_distinct(devices: &DeviceList) -> bool
 
 /// The device at index `place`.
 #[tactic(auto, using(irq_model::proofs::Lists::next_item))]
-fn device_at(devices: &DeviceList, place: usize) -> DeviceDef
+pub(crate) fn device_at(devices: &DeviceList, place: usize) -> DeviceDef
     requires { place < length devices.now }
     ensures { drop place devices.now ≡ result ∷ drop (place + 1) devices.now }
 {

@@ -5,5 +5,6 @@
 pub mod calls;
 pub mod deciding;
 pub mod devices;
+pub mod runs;
 
 pub use deciding::is_valid;

@@ -4,7 +4,7 @@ use Rattle.std.specs.Prelude.{◌≡◌, ◌≤◌, ◌<◌, ℕ, List, ◌∷�
 use Rattle.irq_base.specs.declared.entries.Entry.{Entry}
 use Rattle.irq_base.specs.declared.lines.LineDef.{LineDef}
 use Rattle.irq_model.specs.Legal.{IsLegalPast}
-use Rattle.irq_model.specs.Settled.{IsSettled}
+use Rattle.irq_model.specs.Waits.{IsAtRest}
 use Rattle.line_wanted.specs.Left.{left_of}
 use Rattle.line_wanted.specs.declared.wanted.Wanted.{Wanted}
 use Rattle.line_wanted.specs.declared.wanted.Wanted.TheVariants as wants
@@ -18,7 +18,7 @@ IsNewest e past = (before : List Entry) × (past ≡ e ∷ before)
 abbrev pub Meets : LineDef → Wanted → List Entry → Type 0
 Meets def (wants.Row e) past = IsLegalPast def past × IsNewest e past
 Meets def (wants.Rest left) past =
-    IsLegalPast def past × IsSettled def (reverse past) × (left_of def past ≡ left)
+    IsLegalPast def past × IsAtRest def (reverse past) × (left_of def past ≡ left)
 
 -- the past is as wanted, and none that is so is shorter
 pub record IsShortest (def : LineDef) (wanted : Wanted) (past : List Entry) : Type 0 where

@@ -2,6 +2,8 @@ pub mod Told
 pub mod Tables
 pub mod Looking
 pub mod Loops
+pub mod Plain
+pub mod Quiets
 pub mod Whole
 pub mod Putting
 pub mod Shaped

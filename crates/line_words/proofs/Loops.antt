@@ -1,14 +1,18 @@
 -- What is left to be written or put from a place on.
-use Rattle.std.proofs.Common.{◌≡◌, ℕ, ◌+◌, zero, suc, List, [], ◌∷◌, ◌++◌, Some, None, drop, slice_get, refl, sym, ap, ◌∙◌}
+use Rattle.std.proofs.Common.{◌≡◌, ℕ, ◌+◌, zero, suc, Bool, true, List, [], ◌∷◌, ◌++◌, Some, None, drop, slice_get, refl, sym, ap, ◌∙◌}
 use Rattle.std.proofs.lemmas.List.{append_assoc}
 use Rattle.irq_base.specs.declared.devices.DeviceDef.{DeviceDef}
 use Rattle.irq_base.specs.declared.numbers.DevNo.{DevNo}
 use Rattle.irq_model.proofs.Lists.{next_item}
 use Rattle.act_list.specs.declared.actions.Action.{Action}
+use Rattle.act_thread.specs.declared.rows.ThreadRow.{ThreadRow}
+use Rattle.ask_counts.specs.Rows.{turned_off}
+use Rattle.ask_counts.specs.declared.rows.AskRow.{AskRow}
 use Rattle.device_table.specs.Rows.{change}
 use Rattle.device_table.specs.Sums.{one_if}
-use Rattle.line_marks.specs.State.{StateSeen}
-use Rattle.line_words.specs.Reading.{mark_if, mark_rows, put_rows, bit_at, thread_in, ask_in}
+use Rattle.run_scripts.specs.declared.rows.RunRow.{RunRow}
+use Rattle.line_state.specs.Seen.{LineStateSeen}
+use Rattle.line_words.specs.Reading.{mark_if, mark_rows, put_rows, bit_at, thread_in, ask_in, run_in}
 use Rattle.line_words.specs.Told.{rows_words}
 
 module _ {X : Type 0} (more : List X → List ℕ) (own : X → List ℕ) (next : (x : X) (xs : List X) → more (x ∷ xs) ≡ own x ++ more xs) where
@@ -37,36 +41,64 @@ none_behind (x ∷ xs) (suc i) h = none_behind xs i h
 
 -- ---- rows that are put
 
-abbrev pub with_marks : List DeviceDef → List ℕ → StateSeen → StateSeen
-with_marks xs ws s = record s { list = record s.list { begun = mark_rows xs ws s.list.begun } }
+abbrev pub with_begun : List (DevNo × Bool) → LineStateSeen → LineStateSeen
+with_begun t l = record l { state = record l.state { list = record l.state.list { begun = t } } }
 
-abbrev pub with_threads : List DeviceDef → List ℕ → StateSeen → StateSeen
-with_threads xs ws s = record s { threads = put_rows thread_in 3 xs ws s.threads }
+abbrev pub with_threads : List (DevNo × ThreadRow) → LineStateSeen → LineStateSeen
+with_threads t l = record l { state = record l.state { threads = t } }
 
-abbrev pub with_asks : List DeviceDef → List ℕ → StateSeen → StateSeen
-with_asks xs ws s = record s { asks = put_rows ask_in 4 xs ws s.asks }
+abbrev pub with_asks : List (DevNo × AskRow) → LineStateSeen → LineStateSeen
+with_asks t l = record l { state = record l.state { asks = t } }
 
-module _ (with : List DeviceDef → List ℕ → StateSeen → StateSeen) (one : DeviceDef → List ℕ → StateSeen → StateSeen) (width : ℕ)
-    (next : (x : DeviceDef) (xs : List DeviceDef) (ws : List ℕ) (s : StateSeen) → with (x ∷ xs) ws s ≡ with xs (drop width ws) (one x ws s)) where
-  put_next : (xs : List DeviceDef) (i : ℕ) (x : DeviceDef) → slice_get xs i ≡ Some x → (s after : StateSeen) (left more : List ℕ)
-      → more ≡ drop width left → after ≡ one x left s → with (drop (i + 1) xs) more after ≡ with (drop i xs) left s
-  put_next xs i x is s after left more behind put =
+abbrev pub with_run_rows : List (DevNo × RunRow) → LineStateSeen → LineStateSeen
+with_run_rows t l = record l { state = record l.state { places = record l.state.places { rows = t } } }
+
+abbrev pub marks_put : List DeviceDef → List ℕ → LineStateSeen → LineStateSeen
+marks_put xs ws l = with_begun (mark_rows (λ _. true) xs ws l.state.list.begun) l
+
+abbrev pub threads_put : List DeviceDef → List ℕ → LineStateSeen → LineStateSeen
+threads_put xs ws l = with_threads (put_rows thread_in 3 xs ws l.state.threads) l
+
+abbrev pub asks_put : List DeviceDef → List ℕ → LineStateSeen → LineStateSeen
+asks_put xs ws l = with_asks (put_rows ask_in 4 xs ws l.state.asks) l
+
+abbrev pub quiets_put : List DeviceDef → List ℕ → LineStateSeen → LineStateSeen
+quiets_put xs ws l = with_asks (mark_rows turned_off xs ws l.state.asks) l
+
+abbrev pub runs_put : List DeviceDef → List ℕ → LineStateSeen → LineStateSeen
+runs_put xs ws l = with_run_rows (put_rows run_in 6 xs ws l.state.places.rows) l
+
+module _ (with : List DeviceDef → List ℕ → LineStateSeen → LineStateSeen) (one : DeviceDef → List ℕ → LineStateSeen → LineStateSeen) (width : ℕ)
+    (next : (x : DeviceDef) (xs : List DeviceDef) (ws : List ℕ) (l : LineStateSeen) → with (x ∷ xs) ws l ≡ with xs (drop width ws) (one x ws l)) where
+  put_next : (xs : List DeviceDef) (i : ℕ) (x : DeviceDef) → slice_get xs i ≡ Some x → (l after : LineStateSeen) (left more : List ℕ)
+      → more ≡ drop width left → after ≡ one x left l → with (drop (i + 1) xs) more after ≡ with (drop i xs) left l
+  put_next xs i x is l after left more behind put =
       ap (λ (m : List ℕ). with (drop (i + 1) xs) m after) behind
-      ∙ (ap (λ (a : StateSeen). with (drop (i + 1) xs) (drop width left) a) put
-      ∙ sym (ap (λ (ys : List DeviceDef). with ys left s) (next_item xs i x is) ∙ next x (drop (i + 1) xs) left s))
+      ∙ (ap (λ (a : LineStateSeen). with (drop (i + 1) xs) (drop width left) a) put
+      ∙ sym (ap (λ (ys : List DeviceDef). with ys left l) (next_item xs i x is) ∙ next x (drop (i + 1) xs) left l))
 
-module _ (xs : List DeviceDef) (i : ℕ) (x : DeviceDef) (is : slice_get xs i ≡ Some x) (s after : StateSeen) (left more : List ℕ) where
-  pub marks_next : more ≡ drop 1 left → after ≡ record s { list = record s.list { begun = mark_if (bit_at left 0) s.list.begun x.dev } }
-      → with_marks (drop (i + 1) xs) more after ≡ with_marks (drop i xs) left s
-  marks_next = put_next with_marks (λ y ws t. record t { list = record t.list { begun = mark_if (bit_at ws 0) t.list.begun y.dev } }) 1
-      (λ y ys ws t. refl) xs i x is s after left more
+module _ (xs : List DeviceDef) (i : ℕ) (x : DeviceDef) (is : slice_get xs i ≡ Some x) (l after : LineStateSeen) (left more : List ℕ) where
+  pub marks_next : more ≡ drop 1 left → after ≡ with_begun (mark_if (λ _. true) (bit_at left 0) l.state.list.begun x.dev) l
+      → marks_put (drop (i + 1) xs) more after ≡ marks_put (drop i xs) left l
+  marks_next = put_next marks_put (λ y ws k. with_begun (mark_if (λ _. true) (bit_at ws 0) k.state.list.begun y.dev) k) 1
+      (λ y ys ws k. refl) xs i x is l after left more
 
-  pub threads_next : more ≡ drop 3 left → after ≡ record s { threads = change (λ _. thread_in left) s.threads x.dev }
-      → with_threads (drop (i + 1) xs) more after ≡ with_threads (drop i xs) left s
-  threads_next = put_next with_threads (λ y ws t. record t { threads = change (λ _. thread_in ws) t.threads y.dev }) 3
-      (λ y ys ws t. refl) xs i x is s after left more
+  pub threads_next : more ≡ drop 3 left → after ≡ with_threads (change (λ _. thread_in left) l.state.threads x.dev) l
+      → threads_put (drop (i + 1) xs) more after ≡ threads_put (drop i xs) left l
+  threads_next = put_next threads_put (λ y ws k. with_threads (change (λ _. thread_in ws) k.state.threads y.dev) k) 3
+      (λ y ys ws k. refl) xs i x is l after left more
 
-  pub asks_next : more ≡ drop 4 left → after ≡ record s { asks = change (λ _. ask_in left) s.asks x.dev }
-      → with_asks (drop (i + 1) xs) more after ≡ with_asks (drop i xs) left s
-  asks_next = put_next with_asks (λ y ws t. record t { asks = change (λ _. ask_in ws) t.asks y.dev }) 4
-      (λ y ys ws t. refl) xs i x is s after left more
+  pub asks_next : more ≡ drop 4 left → after ≡ with_asks (change (λ _. ask_in left) l.state.asks x.dev) l
+      → asks_put (drop (i + 1) xs) more after ≡ asks_put (drop i xs) left l
+  asks_next = put_next asks_put (λ y ws k. with_asks (change (λ _. ask_in ws) k.state.asks y.dev) k) 4
+      (λ y ys ws k. refl) xs i x is l after left more
+
+  pub quiets_next : more ≡ drop 1 left → after ≡ with_asks (mark_if turned_off (bit_at left 0) l.state.asks x.dev) l
+      → quiets_put (drop (i + 1) xs) more after ≡ quiets_put (drop i xs) left l
+  quiets_next = put_next quiets_put (λ y ws k. with_asks (mark_if turned_off (bit_at ws 0) k.state.asks y.dev) k) 1
+      (λ y ys ws k. refl) xs i x is l after left more
+
+  pub runs_next : more ≡ drop 6 left → after ≡ with_run_rows (change (λ _. run_in left) l.state.places.rows x.dev) l
+      → runs_put (drop (i + 1) xs) more after ≡ runs_put (drop i xs) left l
+  runs_next = put_next runs_put (λ y ws k. with_run_rows (change (λ _. run_in ws) k.state.places.rows y.dev) k) 6
+      (λ y ys ws k. refl) xs i x is l after left more

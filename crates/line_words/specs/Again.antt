@@ -14,9 +14,10 @@ use Rattle.line_futures.specs.Canon.{without_bits}
 use Rattle.line_words.specs.Reading.{word_at, mask_at, linked_in, linked_from}
 use Rattle.std.specs.Prelude.{ℕ}
 
--- the state without its thread bits, which decide nothing
+-- the state without its thread bits, and whether its chips are active, which decide nothing
 abbrev pub unbitted : StateSeen → StateSeen
 unbitted s = record s {
+  active = false;
   list = record s.list { actions = without_bits (flags_of s.list.actions) };
 }
 

@@ -5,3 +5,4 @@ pub mod Reading
 pub mod Again
 pub mod Scripts
 pub mod Tables
+pub mod Runs

@@ -9,7 +9,7 @@ use Rattle.irq_model.specs.Kinds.{same_driver}
 use Rattle.line_marks.specs.State.{state_of}
 use Rattle.line_futures.specs.Canon.{canon}
 use Rattle.line_futures.specs.Places.{place_by, within_by}
-use Rattle.line_words.specs.Words.{state_words}
+use Rattle.line_words.specs.Words.{has_more, state_words}
 
 -- the drivers of the calls, each once
 abbrev pub drivers_in : List (DriverNo × Call) → List DriverNo
@@ -24,5 +24,5 @@ places_words def past (r ∷ rs) rest =
     place_by def r past ∷ within_by def r past ∷ places_words def past rs rest
 
 abbrev pub node : LineDef → List Entry → List ℕ
-node def past =
-    state_words (canon (state_of def past)) (places_words def past (drivers_in def.calls))
+node def past = state_words (has_more def) (canon (state_of def past))
+    (places_words def past (drivers_in def.calls))

@@ -4,6 +4,8 @@ use Rattle.std.specs.Prelude.{None, ◌&&◌, List, [], ◌∷◌, ◌++◌, dro
 use Rattle.irq_base.specs.Cell.{Cell}
 use Rattle.irq_base.specs.declared.calls.Flags.{Flags}
 use Rattle.irq_base.specs.declared.devices.DeviceDef.{DeviceDef}
+use Rattle.irq_base.specs.declared.entries.Actor.{Actor}
+use Rattle.irq_base.specs.declared.entries.Actor.TheVariants as actors
 use Rattle.irq_base.specs.declared.lines.LineDef.{LineDef}
 use Rattle.irq_base.specs.declared.numbers.CpuNo.{CpuNo}
 use Rattle.irq_base.specs.declared.numbers.DevNo.{DevNo}
@@ -18,11 +20,15 @@ use Rattle.act_thread.specs.declared.rows.Stage.{Stage}
 use Rattle.act_thread.specs.declared.rows.Stage.TheVariants as stages
 use Rattle.act_thread.specs.declared.rows.ThreadRow.{ThreadRow}
 use Rattle.affinity.specs.Seen.{AimSeen}
+use Rattle.ask_counts.specs.Rows.{turned_off}
 use Rattle.ask_counts.specs.declared.rows.AskRow.{AskRow}
 use Rattle.desc_state.specs.Desc.{DescSeen}
+use Rattle.run_scripts.specs.declared.rows.RunPlace.{RunPlace}
+use Rattle.run_scripts.specs.declared.rows.RunRow.{RunRow}
 use Rattle.line_scripts.specs.Rows.{RowSeen, gone_to}
 use Rattle.line_marks.specs.Rounds.{RoundSeen}
 use Rattle.line_marks.specs.State.{StateSeen}
+use Rattle.line_words.specs.Words.{has_more}
 
 -- the number at the place, 0 behind the last
 abbrev pub word_at : List ℕ → ℕ → ℕ
@@ -87,20 +93,28 @@ counts_in ws = record {
   last_unhandled = word_at ws 24;
 }
 
-abbrev pub freeing_in : List ℕ → Option (DriverNo × DevNo)
+-- who makes the free
+abbrev pub actor_in : ℕ → ℕ → Actor
+actor_in who n =
+    if who == 1 then actors.Driver (record { 0 = n })
+    else (if who == 2 then actors.Cpu (record { 0 = n }) else actors.Thread (record { 0 = n }))
+
+abbrev pub freeing_in : List ℕ → Option (Actor × DevNo)
 freeing_in ws =
-    if bit_at ws 25 then Some (record { 0 = word_at ws 26 }, record { 0 = word_at ws 27 }) else None
+    if word_at ws 25 == 0 then None
+    else Some (actor_in (word_at ws 25) (word_at ws 26), record { 0 = word_at ws 27 })
 
 -- how many numbers have a fixed place
 abbrev pub fixed : ℕ
 fixed = 28
 
--- the state with these parts in place of its own; the chip is neither active nor aimed
+-- the state with these parts in place of its own; the chip isn't aimed, and it is active, as a step
+-- that opens it needs it
 abbrev pub with_fixed : LineDef → List ℕ → StateSeen → StateSeen
 with_fixed def ws s = record s {
   desc = desc_in def ws;
   cell = cell_in def ws;
-  active = false;
+  active = true;
   aimed = 0;
   aim = aim_in def ws;
   round = round_in ws;
@@ -125,6 +139,17 @@ ask_in ws = record {
   fresh = word_at ws 1;
   met_by_handler = word_at ws 2;
   met_by_thread = word_at ws 3;
+  quiet = false;
+}
+
+abbrev pub place_in : List ℕ → RunPlace
+place_in ws = record { place = word_at ws 0; within = word_at ws 1 }
+
+abbrev pub run_in : List ℕ → RunRow
+run_in ws = record {
+  calls = place_in ws;
+  handler = record { now = word_at ws 2; next = word_at ws 3 };
+  thread = record { now = word_at ws 4; next = word_at ws 5 };
 }
 
 -- the row of each device is put; a row has `width` numbers
@@ -134,13 +159,15 @@ put_rows row width [] ws t = t
 put_rows row width (x ∷ xs) ws t =
     put_rows row width xs (drop width ws) (change (λ _. row ws) t x.dev)
 
-abbrev pub mark_if : Bool → List (DevNo × Bool) → DevNo → List (DevNo × Bool)
-mark_if b t d = if b then change (λ _. true) t d else t
+-- the rows of the devices with a 1 are changed, as whose handlers were called, and which are quiet
+abbrev pub mark_if : {R : Type 0} → (R → R) → Bool → List (DevNo × R) → DevNo → List (DevNo × R)
+mark_if mark b t d = if b then change mark t d else t
 
--- the devices whose handlers were called are marked
-abbrev pub mark_rows : List DeviceDef → List ℕ → List (DevNo × Bool) → List (DevNo × Bool)
-mark_rows [] ws t = t
-mark_rows (x ∷ xs) ws t = mark_rows xs (drop 1 ws) (mark_if (bit_at ws 0) t x.dev)
+abbrev pub mark_rows : {R : Type 0} → (R → R) → List DeviceDef → List ℕ → List (DevNo × R)
+    → List (DevNo × R)
+mark_rows mark [] ws t = t
+mark_rows mark (x ∷ xs) ws t =
+    mark_rows mark xs (drop 1 ws) (mark_if mark (bit_at ws 0) t x.dev)
 
 -- ---- the linked devices
 
@@ -172,8 +199,19 @@ threads_from def ws = drop (length def.devices) (marks_from ws)
 abbrev pub asks_from : LineDef → List ℕ → List ℕ
 asks_from def ws = drop (3 * length def.devices) (threads_from def ws)
 
+abbrev pub more_from : LineDef → List ℕ → List ℕ
+more_from def ws = drop (4 * length def.devices) (asks_from def ws)
+
+-- what only some lines need, from its first number on: the numbers of the devices' runs behind it,
+-- and what is behind all of it
+abbrev pub runs_in : LineDef → List ℕ → List ℕ
+runs_in def ws = drop (length def.devices) (drop 2 ws)
+
+abbrev pub behind_more : Bool → LineDef → List ℕ → List ℕ
+behind_more more def ws = if more then drop (6 * length def.devices) (runs_in def ws) else ws
+
 abbrev pub places_from : LineDef → List ℕ → List ℕ
-places_from def ws = drop (4 * length def.devices) (asks_from def ws)
+places_from def ws = behind_more (has_more def) def (more_from def ws)
 
 abbrev pub linked_from : LineDef → List DriverNo → List ℕ → List ℕ
 linked_from def rs ws = drop (2 * length rs) (places_from def ws)
@@ -181,10 +219,27 @@ linked_from def rs ws = drop (2 * length rs) (places_from def ws)
 -- the tables of the state with these rows in place of their own
 abbrev pub with_rows : LineDef → List ℕ → StateSeen → StateSeen
 with_rows def ws s = record s {
-  list = record s.list { begun = mark_rows def.devices (marks_from ws) s.list.begun };
+  list = record s.list { begun = mark_rows (λ _. true) def.devices (marks_from ws) s.list.begun };
   threads = put_rows thread_in 3 def.devices (threads_from def ws) s.threads;
   asks = put_rows ask_in 4 def.devices (asks_from def ws) s.asks;
 }
+
+-- and with what only some lines need, which is read off these numbers
+abbrev pub with_runs : LineDef → List ℕ → StateSeen → StateSeen
+with_runs def ws s = record s {
+  asks = mark_rows turned_off def.devices (drop 2 ws) s.asks;
+  places = record {
+    work = place_in ws;
+    rows = put_rows run_in 6 def.devices (runs_in def ws) s.places.rows;
+  };
+}
+
+abbrev pub with_more : Bool → LineDef → List ℕ → StateSeen → StateSeen
+with_more more def ws s = if more then with_runs def ws s else s
+
+-- all tables
+abbrev pub with_tables : LineDef → List ℕ → StateSeen → StateSeen
+with_tables def ws s = with_more (has_more def) def (more_from def ws) (with_rows def ws s)
 
 abbrev pub with_linked : List ℕ → StateSeen → StateSeen
 with_linked ws s = record s {

@@ -12,6 +12,7 @@ ghost use Rattle.line_scripts.specs.Rows.{RowSeen, place_of, within_of};
 ghost use Rattle.line_words.specs.Node.{node, drivers_in};
 ghost use Rattle.line_words.specs.Scripts.{AreScripts};
 ghost use Rattle.line_words.specs.Told.{places_told, state_told};
+ghost use Rattle.line_words.specs.Words.{has_more};
 
 /// The numbers that are written of the canonical state after a legal history, with the drivers at
 /// their places, are the history's.
@@ -20,6 +21,6 @@ pub fn told_is_node()
     ensures law { (def : LineDef) (past : List Entry) (scripts : List (DriverNo × RowSeen))
         → IsValid def → IsLegalPast def past → AreScripts def scripts
         → ((r : DriverNo) → IsAt def past r (place_of scripts r) (within_of scripts r))
-        → state_told def (canon (state_of def past)) (places_told scripts (drivers_in def.calls))
+        → state_told (has_more def) def (canon (state_of def past)) (places_told scripts (drivers_in def.calls))
         ≡ node def past }
 {}

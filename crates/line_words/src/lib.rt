@@ -8,6 +8,7 @@
 
 pub mod laws;
 mod linking;
+mod more;
 mod parts;
 mod places;
 mod reading;
@@ -16,5 +17,6 @@ mod telling;
 mod words;
 mod writing;
 
+pub use more::has_more;
 pub use reading::{fresh, read, read_into};
 pub use writing::write;

@@ -3,6 +3,7 @@ ghost use Rattle.std.specs.Prelude.{◌≡◌, ◌++◌, OnOk};
 ghost use Rattle.act_list.specs.Lists.{flags_of};
 ghost use Rattle.line_words.specs.Again.{CanLinkAll};
 ghost use Rattle.line_words.specs.Reading.{linked_in, flags_in, with_linked};
+ghost use Rattle.line_words.specs.Runs.{AreSameRuns};
 ghost use Rattle.line_words.specs.Tables.{AreSameTables};
 ghost use Rattle.line_words.specs.Words.{linked_words};
 
@@ -27,6 +28,7 @@ pub(crate) fn link(state: &mut LineState<Cell>, words: &[u32]) -> Result<(), NoM
     requires { CanLinkAll (linked_in words.now) state.old.state.list.actions }
     ensures linked { OnOk result (state.new.state ≡ with_linked words.now state.old.state) }
     ensures tables { AreSameTables state.old.state state.new.state }
+    ensures runs { AreSameRuns state.old state.new }
 {
     let mut left = words;
     while let [dev, shared, oneshot, noauto, rest @ ..] = left {

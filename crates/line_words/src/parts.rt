@@ -1,18 +1,20 @@
 //! The parts whose numbers have a fixed place.
-ghost use Rattle.std.specs.Prelude.{◌≡◌, ◌<◌, ◌≤◌, IsSome, false, []};
+ghost use Rattle.std.specs.Prelude.{◌≡◌, ◌<◌, ◌≤◌, IsSome, true, []};
 ghost use Rattle.irq_model.specs.Signal.{lowest_in};
 ghost use Rattle.irq_model.specs.Valid.{IsValid};
 ghost use Rattle.affinity.specs.Kept.{HasProcessor};
 ghost use Rattle.spurious.specs.Tallies.{rule_counts};
 ghost use Rattle.line_futures.specs.Canon.{canon};
 ghost use Rattle.line_words.specs.Reading.{word_at, mask_at, desc_in, cell_in, aim_in, round_in};
-ghost use Rattle.line_words.specs.Reading.{counts_in, freeing_in, with_fixed};
-ghost use Rattle.line_words.specs.Words.{marks_words, desc_words, round_words, freeing_words};
+ghost use Rattle.line_words.specs.Reading.{counts_in, actor_in, freeing_in, with_fixed};
+ghost use Rattle.line_words.specs.Runs.{AreSameRuns};
+ghost use Rattle.line_words.specs.Words.{actor_word, actor_number, marks_words, desc_words};
+ghost use Rattle.line_words.specs.Words.{round_words, freeing_words};
 
 use crate::words::{bit, cpu, dev, dev_number, flag, mask, mask_number, number_of, serves, word};
 use affinity::Aim;
 use desc_state::{Desc, DescMarks};
-use irq_base::{Chip, CpuNo, DevNo, DriverNo, LineDef};
+use irq_base::{Actor, Chip, CpuNo, DevNo, DriverNo, LineDef};
 use line_cell::{Cell, CellMarks};
 use line_state::{LineState, Round};
 use spurious::{Counts, Tally};
@@ -35,10 +37,10 @@ fn desc(def: &LineDef, words: &[u32]) -> Desc
 }
 
 /// The chip. Its mask is the descriptor's; it keeps an interrupt in service while a flow is in
-/// progress.
+/// progress. It is active, as a step that opens it needs it.
 fn cell(def: &LineDef, words: &[u32]) -> Cell
     ensures cell { ⟦<Cell as Chip>⟧.cell result ≡ cell_in def.now words.now }
-    ensures active { ⟦<Cell as Chip>⟧.active result ≡ false }
+    ensures active { ⟦<Cell as Chip>⟧.active result ≡ true }
     ensures aimed { ⟦<Cell as Chip>⟧.aimed result ≡ 0 }
 {
     Cell::of_marks(CellMarks {
@@ -52,7 +54,7 @@ fn cell(def: &LineDef, words: &[u32]) -> Cell
         sent: bit(words, 10),
         high: bit(words, 11),
         in_service: serves(def) && bit(words, 7),
-        active: false,
+        active: true,
         target: CpuNo(0),
     })
 }
@@ -106,14 +108,26 @@ fn counts(def: &LineDef, words: &[u32]) -> Counts
     Counts::of_tally(def.window, def.limit, tally(words))
 }
 
+/// Who makes a free, by what kind of actor it is, and by its number.
+fn actor(who: u32, number: u32) -> Actor
+    ensures { result ≡ actor_in who number }
+{
+    match who {
+        1 => Actor::Driver(DriverNo(number)),
+        2 => Actor::Cpu(CpuNo(number)),
+        _ => Actor::Thread(DevNo(number)),
+    }
+}
+
 /// Who frees which device.
-fn freeing(words: &[u32]) -> Option<(DriverNo, DevNo)>
+fn freeing(words: &[u32]) -> Option<(Actor, DevNo)>
     ensures { result ≡ freeing_in words.now }
 {
-    if bit(words, 25) {
-        Some((DriverNo(word(words, 26)), DevNo(word(words, 27))))
-    } else {
+    let who = word(words, 25);
+    if who == 0 {
         None
+    } else {
+        Some((actor(who, word(words, 26)), DevNo(word(words, 27))))
     }
 }
 
@@ -124,7 +138,8 @@ pub(crate) fn put_parts(state: &mut LineState<Cell>, def: &LineDef, words: &[u32
     requires waits { HasProcessor def.now.cpus (mask_at words.now 13) }
     requires counted { word_at words.now 20 < def.now.window }
     requires unhandled { word_at words.now 21 ≤ word_at words.now 20 }
-    ensures { state.new.state ≡ with_fixed def.now words.now state.old.state }
+    ensures state { state.new.state ≡ with_fixed def.now words.now state.old.state }
+    ensures runs { AreSameRuns state.old state.new }
 {
     state.put_desc(desc(def, words));
     state.put_chip(cell(def, words));
@@ -187,12 +202,26 @@ pub(crate) fn round_words(state: &LineState<Cell>) -> [u32; 13]
     ]
 }
 
+/// What kind of actor it is, and its number.
+fn actor_words(actor: Actor) -> (u32, u32)
+    ensures { result ≡ (actor_word actor, actor_number actor) }
+{
+    match actor {
+        Actor::Driver(driver) => (1, driver.0),
+        Actor::Cpu(cpu) => (2, cpu.0),
+        Actor::Thread(dev) => (3, dev.0),
+    }
+}
+
 /// The numbers of a free under way.
 pub(crate) fn freeing_words(state: &LineState<Cell>) -> [u32; 3]
     ensures { result ≡ freeing_words (canon state.now.state).freeing [] }
 {
     match state.freeing() {
-        Some((driver, dev)) => [1, driver.0, dev.0],
+        Some((actor, dev)) => {
+            let (who, number) = actor_words(actor);
+            [who, number, dev.0]
+        }
         None => [0, 0, 0],
     }
 }

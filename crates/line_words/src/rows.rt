@@ -1,7 +1,7 @@
 //! The tables: a row for each device of the definition.
-ghost use Rattle.std.specs.Prelude.{◌≡◌, ◌≤◌, length};
+ghost use Rattle.std.specs.Prelude.{◌≡◌, ◌≤◌, length, true};
 ghost use Rattle.line_words.specs.Reading.{stage_in, thread_in, ask_in, put_rows, mark_rows};
-ghost use Rattle.line_words.specs.Reading.{with_rows, places_from};
+ghost use Rattle.line_words.specs.Reading.{with_rows, more_from};
 
 use crate::words::{FIXED, behind, bit, word};
 use act_thread::{Stage, ThreadRow};
@@ -32,7 +32,7 @@ fn thread(words: &[u32]) -> ThreadRow
     }
 }
 
-/// The row of a device's asks.
+/// The row of a device's asks. Whether the device is quiet stands elsewhere.
 fn asks(words: &[u32]) -> AskRow
     ensures { result ≡ ask_in words.now }
 {
@@ -41,14 +41,17 @@ fn asks(words: &[u32]) -> AskRow
         fresh: word(words, 1),
         met_by_handler: word(words, 2),
         met_by_thread: word(words, 3),
+        quiet: false,
     }
 }
 
 /// Marks the devices whose handlers were called in the round.
 fn put_marks(state: &mut LineState<Cell>, devices: &DeviceList, words: &[u32])
-    ensures { state.new.state ≡ record state.old.state {
-      list = record state.old.state.list {
-        begun = mark_rows devices.now words.now state.old.state.list.begun;
+    ensures { state.new ≡ record state.old {
+      state = record state.old.state {
+        list = record state.old.state.list {
+          begun = mark_rows (λ _. true) devices.now words.now state.old.state.list.begun;
+        };
       };
     } }
 {
@@ -65,8 +68,10 @@ fn put_marks(state: &mut LineState<Cell>, devices: &DeviceList, words: &[u32])
 
 /// Puts the rows of the threads.
 fn put_threads(state: &mut LineState<Cell>, devices: &DeviceList, words: &[u32])
-    ensures { state.new.state ≡ record state.old.state {
-      threads = put_rows thread_in 3 devices.now words.now state.old.state.threads;
+    ensures { state.new ≡ record state.old {
+      state = record state.old.state {
+        threads = put_rows thread_in 3 devices.now words.now state.old.state.threads;
+      };
     } }
 {
     let mut left = words;
@@ -80,8 +85,10 @@ fn put_threads(state: &mut LineState<Cell>, devices: &DeviceList, words: &[u32])
 
 /// Puts the rows of the asks.
 fn put_asks(state: &mut LineState<Cell>, devices: &DeviceList, words: &[u32])
-    ensures { state.new.state ≡ record state.old.state {
-      asks = put_rows ask_in 4 devices.now words.now state.old.state.asks;
+    ensures { state.new ≡ record state.old {
+      state = record state.old.state {
+        asks = put_rows ask_in 4 devices.now words.now state.old.state.asks;
+      };
     } }
 {
     let mut left = words;
@@ -93,15 +100,16 @@ fn put_asks(state: &mut LineState<Cell>, devices: &DeviceList, words: &[u32])
     }
 }
 
-/// Puts the rows of all tables, and answers the numbers behind them.
+/// Puts the rows of the tables that each line has, and answers the numbers behind them.
 pub(crate) fn put_tables<'w>(
     state: &mut LineState<Cell>,
     def: &LineDef,
     words: &'w [u32],
 ) -> &'w [u32]
     requires { length def.now.devices ≤ 256 }
-    ensures state { state.new.state ≡ with_rows def.now words.now state.old.state }
-    ensures left { result.now ≡ places_from def.now words.now }
+    ensures state { state.new
+        ≡ record state.old { state = with_rows def.now words.now state.old.state } }
+    ensures left { result.now ≡ more_from def.now words.now }
 {
     let count = def.devices.len();
     let marks = behind(words, FIXED);

@@ -11,7 +11,7 @@ ghost use Rattle.line_words.specs.Words.{stage_word};
 use crate::words::flag;
 use act_thread::{Stage, ThreadRow};
 use ask_counts::AskRow;
-use irq_base::{DevNo, DeviceList, Kind, NoMemory};
+use irq_base::{DevNo, DeviceList, NoMemory, Part};
 use line_cell::Cell;
 use line_state::LineState;
 
@@ -90,7 +90,7 @@ pub(crate) fn write_threads(
 }
 
 /// Whether the device's handler is at work.
-fn is_working(state: &LineState<Cell>, dev: DevNo) -> bool
+pub(crate) fn is_working(state: &LineState<Cell>, dev: DevNo) -> bool
     ensures { result ≡ is_working state.now.state.round.working dev }
 {
     match state.round().working() {
@@ -100,7 +100,7 @@ fn is_working(state: &LineState<Cell>, dev: DevNo) -> bool
 }
 
 /// Whether the handler of its thread is at work.
-fn is_thread_working(state: &LineState<Cell>, dev: DevNo) -> bool
+pub(crate) fn is_thread_working(state: &LineState<Cell>, dev: DevNo) -> bool
     ensures { result ≡ is_thread_working state.now.state.threads dev }
 {
     match state.threads().get(dev) {
@@ -109,18 +109,18 @@ fn is_thread_working(state: &LineState<Cell>, dev: DevNo) -> bool
     }
 }
 
-/// Whether its serving run is at work.
-fn is_serving(kind: Kind, handler: bool, thread: bool) -> bool
-    ensures { result ≡ is_serving kind handler thread }
+/// Whether the run of the part that serves is at work.
+fn is_serving(serving: Option<Part>, handler: bool, thread: bool) -> bool
+    ensures { result ≡ is_serving serving handler thread }
 {
-    match kind {
-        Kind::Direct => handler,
-        Kind::Check | Kind::Null => thread,
-        Kind::Stuck => false,
+    match serving {
+        Some(Part::Primary) => handler,
+        Some(Part::Thread) => thread,
+        None => false,
     }
 }
 
-fn kept_if(keep: bool, count: u32) -> u32
+pub(crate) fn kept_if(keep: bool, count: u32) -> u32
     ensures { result ≡ kept_if keep count }
 {
     if keep { count } else { 0 }
@@ -135,6 +135,7 @@ fn canon_row(serving: bool, handler: bool, thread: bool, row: AskRow) -> AskRow
         fresh: kept_if(serving, row.fresh),
         met_by_handler: kept_if(handler, row.met_by_handler),
         met_by_thread: kept_if(thread, row.met_by_thread),
+        quiet: row.quiet,
     }
 }
 
@@ -144,7 +145,8 @@ fn ask_row(state: &LineState<Cell>, dev: DevNo) -> AskRow
 {
     let handler = is_working(state, dev);
     let thread = is_thread_working(state, dev);
-    let serving = is_serving(state.kind(dev), handler, thread);
+    let facts = state.facts().get(dev);
+    let serving = is_serving(facts.serving, handler, thread);
     match state.asks().get(dev) {
         Some(row) => canon_row(serving, handler, thread, row),
         None => AskRow {
@@ -152,11 +154,12 @@ fn ask_row(state: &LineState<Cell>, dev: DevNo) -> AskRow
             fresh: 0,
             met_by_handler: 0,
             met_by_thread: 0,
+            quiet: false,
         },
     }
 }
 
-/// The numbers of the device's asks.
+/// The numbers of the device's asks. Whether it is quiet stands elsewhere.
 fn asks(state: &LineState<Cell>, dev: DevNo) -> [u32; 4]
     ensures { result ≡ ask_told (canon state.now.state) dev [] }
 {

@@ -17,12 +17,15 @@ use Rattle.irq_base.specs.declared.entries.DriverEntry.TheVariants as drivers
 use Rattle.irq_base.specs.declared.entries.CallEntry.{CallEntry}
 use Rattle.irq_base.specs.declared.entries.CallEntry.TheVariants as called
 use Rattle.irq_base.specs.declared.numbers.LineNo.{LineNo}
+use Rattle.board_def.specs.Seen.{BoardSeen}
+use Rattle.log_text.proofs.RowLaws.{rows_tell}
 use Rattle.log_text.specs.EntryWords.{actor_word, entry_words, call_words, cpu_words, driver_words, said_words, thread_words}
 use Rattle.log_text.specs.Formed.{IsRowOf, IsSmall, IsWritable}
 use Rattle.log_text.specs.Rows.{entry_text}
 use Rattle.log_read.specs.LogOf.{is_whole, rows_of}
 use Rattle.log_read.proofs.RowCutting.{front_joined, whole_row}
-use Rattle.log_check.specs.Heads.{IsHead, IsNoEntry, ReadsNumber, actor_by}
+use Rattle.log_read.specs.Versions.{may_have}
+use Rattle.log_check.specs.Heads.{IsHead, IsNoEntry, IsNoEntryOn, ReadsNumber, actor_by}
 
 abbrev line_no : ℕ → LineNo
 line_no n = record { 0 = n }
@@ -186,3 +189,22 @@ module _ (text : List ℕ) (n : ℕ) (rest : List ℕ) (line_read : ReadsNumber 
       pub head : (actor : Actor) → Some actor ≡ actor_by letter number → IsHead text (line_no n) actor
       head actor known row rows line e is of =
           let w = who row rows line e is of in (w.0, sym (same_Some actor (actor_of e) (known ∙ w.1)))
+
+-- the first row is no entry's, or that of an entry that the board's log may not have
+
+first_row : (text row : List ℕ) (rows : List (List ℕ)) (x : List ℕ) (xs : List (List ℕ)) → rows_of text ≡ row ∷ rows → rows_of text ≡ x ∷ xs → x ≡ row
+first_row text row rows x xs is also = let same : x ∷ xs ≡ row ∷ rows = sym also ∙ is in cc
+
+pub unread_first : (b : BoardSeen) (text row : List ℕ) (rows : List (List ℕ)) → rows_of text ≡ row ∷ rows
+    → ((line : LineNo) (e : Entry) → IsRowOf row line e → ⊥) → IsNoEntryOn b text
+unread_first b text row rows is none x xs also (line, e, of, may) =
+    none line e (subst (λ (r : List ℕ). IsRowOf r line e) (first_row text row rows x xs is also) of)
+
+pub unallowed_first : (b : BoardSeen) (text row : List ℕ) (rows : List (List ℕ)) (line : LineNo) (e : Entry) → rows_of text ≡ row ∷ rows
+    → IsRowOf row line e → may_have b.version e ≡ false → IsNoEntryOn b text
+unallowed_first b text row rows line e is of never x xs also (other, f, own, may) =
+    let same = (rows_tell row line other e f of (subst (λ (r : List ℕ). IsRowOf r other f) (first_row text row rows x xs is also) own)).1 in
+    false≢true (sym never ∙ (ap (may_have b.version) same ∙ may))
+
+pub unfed_on : (b : BoardSeen) (text : List ℕ) → rows_of text ≡ text ∷ [] → is_whole text ≡ false → IsNoEntryOn b text
+unfed_on b text alone bare row rows is (line, e, of, may) = unfed text alone bare row rows is (line, e, of)

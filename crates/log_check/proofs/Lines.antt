@@ -24,7 +24,7 @@ use Rattle.log_read.specs.Adding.{IsPlaceOf}
 use Rattle.log_read.specs.LogOf.{LineEntry, begins_with_hash, entries_on, is_passed_over, is_whole, rows_of}
 use Rattle.log_read.proofs.RowCutting.{front_joined, whole_row}
 use Rattle.log_read.proofs.Telling.{more_on, on_other, on_own, other_line, present, short_on, unended_row}
-use Rattle.log_check.specs.Heads.{IsHead, IsNoEntry, IsWrong}
+use Rattle.log_check.specs.Heads.{IsHead, IsNoEntry, IsNoEntryOn, IsWrong}
 use Rattle.log_check.specs.JudgeSeen.{JudgeSeen}
 use Rattle.log_check.specs.Judging.{HasRoom, HaveJudged, HaveRoom, JudgesFirst, JudgesRow, PassesOver, Stands, Takes, TakesRow, most, part_at, part_of}
 
@@ -130,24 +130,27 @@ module _ (text : List ℕ) where
   same_first row rows same = cc
 
   pub unended : rows_of text ≡ text ∷ [] → is_whole text ≡ false → PassesOver text None
-  unended alone bare lines row rows is row_is =
-      unended_row lines row (ap is_whole (sym (same_first row rows (sym alone ∙ is))) ∙ bare) row_is
+  unended alone bare b row rows is row_is =
+      unended_row b row (ap is_whole (sym (same_first row rows (sym alone ∙ is))) ∙ bare) row_is
 
   pub passes : (b : BoardSeen) (judges : List JudgeSeen) (after : Option (List ℕ)) → PassesOver text after → JudgesFirst b text after judges judges
-  passes b judges None wrong = wrong b.lines
+  passes b judges None wrong = wrong b
   passes b judges (Some after) (row, at, passed) = (row, at, λ said have. inl (passed, have))
 
-  -- no entry has its first row
-  pub wrong_row : (lines : List LineRow) → begins_with_hash text ≡ false → IsNoEntry text → IsWrong lines text
-  wrong_row lines other none row rows is (inl passed) = false≢true (sym (unpassed row rows is other) ∙ passed)
-  wrong_row lines other none row rows is (inr (said, on)) = none row rows is (said.0, said.1, on.formed)
+  -- no entry that the board's log may have has its first row
+  pub wrong_row : (b : BoardSeen) → begins_with_hash text ≡ false → IsNoEntryOn b text → IsWrong b text
+  wrong_row b other none row rows is (inl passed) = false≢true (sym (unpassed row rows is other) ∙ passed)
+  wrong_row b other none row rows is (inr (said, on)) = none row rows is (said.0, said.1, on.formed, on.allowed)
+
+  pub no_head : (b : BoardSeen) → begins_with_hash text ≡ false → IsNoEntry text → IsWrong b text
+  no_head b other none = wrong_row b other (λ row rows is formed. none row rows is (formed.0, formed.1, formed.2))
 
   -- its line isn't the board's
-  pub unknown_line : (lines : List LineRow) (number : LineNo) (actor : Actor) → begins_with_hash text ≡ false → IsHead text number actor
-      → has_line lines number ≡ false → IsWrong lines text
-  unknown_line lines number actor other head unknown row rows is (inl passed) = false≢true (sym (unpassed row rows is other) ∙ passed)
-  unknown_line lines number actor other head unknown row rows is (inr (said, on)) =
-      false≢true (sym unknown ∙ (ap (has_line lines) (sym (head row rows said.0 said.1 is on.formed).0) ∙ on.declared))
+  pub unknown_line : (b : BoardSeen) (number : LineNo) (actor : Actor) → begins_with_hash text ≡ false → IsHead text number actor
+      → has_line b.lines number ≡ false → IsWrong b text
+  unknown_line b number actor other head unknown row rows is (inl passed) = false≢true (sym (unpassed row rows is other) ∙ passed)
+  unknown_line b number actor other head unknown row rows is (inr (said, on)) =
+      false≢true (sym unknown ∙ (ap (has_line b.lines) (sym (head row rows said.0 said.1 is on.formed).0) ∙ on.declared))
 
 -- ---- the first row of a text is judged
 
@@ -160,25 +163,25 @@ part_line b row (Some (placements.Refused why)) number same = tt
 
 module _ (b : BoardSeen) (board : IsBoard b) (text : List ℕ) (other : begins_with_hash text ≡ false) (number : LineNo) (place : ℕ)
     (at : IsPlaceOf b.lines number place) (old : List JudgeSeen) (judge then : JudgeSeen) where
-  row_judged : (row : List ℕ) → is_passed_over row ≡ false → slice_get old place ≡ Some judge → TakesRow row number judge then
+  row_judged : (row : List ℕ) → is_passed_over row ≡ false → slice_get old place ≡ Some judge → TakesRow b row number judge then
       → JudgesRow b row old (slice_set old place then)
   row_judged row over atj takes said have =
       let stands = have.each place at.0 judge at.1 atj in
       let took = takes (part_at b at.0 place) (entries_on said at.0.line) (part_line b at.0 (slice_get (layout_of b) place) number at.2) stands in
       inr (
         (number, took.0),
-        record { formed = took.1; declared = present b.lines number place at },
+        record { formed = took.1; allowed = took.2; declared = present b.lines number place at },
         over,
-        judged_more b board said number took.0 place at.0 at.1 at.2 old judge then have atj took.2,
+        judged_more b board said number took.0 place at.0 at.1 at.2 old judge then have atj took.3,
       )
 
-  first_judged : slice_get old place ≡ Some judge → (after : Option (List ℕ)) → Takes text number after judge then
+  first_judged : slice_get old place ≡ Some judge → (after : Option (List ℕ)) → Takes b text number after judge then
       → JudgesFirst b text after old (slice_set old place then)
-  first_judged atj None none = wrong_row text b.lines other none
+  first_judged atj None none = wrong_row text b other none
   first_judged atj (Some after) (row, begins, takes) = (row, begins, row_judged row (unpassed text row (rows_of after) begins.rows other) atj takes)
 
   pub judged_if : {X : Type 0} (f : X → Option (List ℕ)) → length old ≡ length b.lines → judge ≡ get_or old place judge → (r : Result X NoMemory)
-      → IfOk r (λ x. Takes text number (f x) judge then) → IfOk r (λ x. JudgesFirst b text (f x) old (slice_set old place then))
+      → IfOk r (λ x. Takes b text number (f x) judge then) → IfOk r (λ x. JudgesFirst b text (f x) old (slice_set old place then))
   judged_if f many value (Ok x) takes =
       let within = slice_get_within b.lines place at.0 at.1 in
       let atj = there old place judge (omega (arith, many, within)) ∙ ap (λ (j : JudgeSeen). Some j) (sym value) in

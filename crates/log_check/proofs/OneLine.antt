@@ -8,6 +8,7 @@ use Rattle.std.proofs.Math.Seq.{take-append_seam}
 use Rattle.std.proofs.lemmas.Bool.{and_parts, ltb-true, ne_eqb}
 use Rattle.std.proofs.lemmas.List.{reverse-append}
 use Rattle.std.proofs.lemmas.Option.{slice_get_within}
+use Rattle.board_def.specs.Seen.{BoardSeen}
 use Rattle.irq_base.specs.Who.{actor_of}
 use Rattle.irq_base.specs.declared.entries.Actor.{Actor}
 use Rattle.irq_base.specs.declared.entries.Entry.{Entry}
@@ -22,6 +23,7 @@ use Rattle.log_text.specs.Formed.{IsRowOf, IsSmall, IsWritable}
 use Rattle.log_text.specs.Rows.{entry_text}
 use Rattle.log_text.proofs.Splitting.{are_above, row_within}
 use Rattle.log_read.specs.LogOf.{onto_first, rows_of}
+use Rattle.log_read.specs.Versions.{may_have}
 use Rattle.log_read.proofs.RowCutting.{front_joined}
 use Rattle.log_check.specs.Heads.{BeginsWith, IsHead}
 use Rattle.log_check.specs.JudgeSeen.{JudgeSeen}
@@ -116,21 +118,21 @@ row_of text row rows number e is of = front_joined text row rows is ∙ ap (λ (
 
 -- ---- the judge says it of one entry more
 
-abbrev Took : Option LineDef → List ℕ → LineNo → List Entry → JudgeSeen → Type 0
-Took part row number es new = (e : Entry) × IsRowOf row number e × Stands part new.line new.first (es ++ e ∷ [])
+abbrev Took : BoardSeen → Option LineDef → List ℕ → LineNo → List Entry → JudgeSeen → Type 0
+Took b part row number es new = (e : Entry) × IsRowOf row number e × (may_have b.version e ≡ true) × Stands part new.line new.first (es ++ e ∷ [])
 
 abbrev judge : Option LineSeen → Option ℕ → JudgeSeen
 judge line first = record { line = line; first = first }
 
-module _ (text : List ℕ) (number : LineNo) (actor : Actor) (head : IsHead text number actor) where
+module _ (b : BoardSeen) (text : List ℕ) (number : LineNo) (actor : Actor) (head : IsHead text number actor) where
   own_row : (row after : List ℕ) (line : LineNo) (e : Entry) → BeginsWith row after text → IsRowOf row line e → IsRowOf row number e
   own_row row after line e at of = subst (λ (l : LineNo). IsRowOf row l e) (head row (rows_of after) line e at.rows of).0 of
 
   module _ (old new : LineSeen) where
     -- the row is that of the due entry
-    pub added : (first : Option ℕ) (after : List ℕ) → Adds text number actor (Some after) old new
-        → Takes text number (Some after) (judge (Some old) first) (judge (Some new) first)
-    added first after (e, small, writable, is, due, kept, more) =
+    pub added : (first : Option ℕ) (after : List ℕ) → Adds b text number actor (Some after) old new
+        → Takes b text number (Some after) (judge (Some old) first) (judge (Some new) first)
+    added first after (e, small, writable, allowed, is, due, kept, more) =
         let at = begins text after number e small writable is in
         let of : IsRowOf (entry_text number e) number e = record { text = refl; number = small; writable = writable } in
         let by = (head (entry_text number e) (rows_of after) number e at.rows of).1 in
@@ -138,55 +140,56 @@ module _ (text : List ℕ) (number : LineNo) (actor : Actor) (head : IsHead text
       where
         took : IsRowOf (entry_text number e) number e → actor_of e ≡ actor → (first : Option ℕ) (part : Option LineDef) (es : List Entry)
             → IfSome part (λ (def : LineDef). def.line ≡ number) → Stands part (Some old) first es
-            → Took part (entry_text number e) number es (judge (Some new) first)
+            → Took b part (entry_text number e) number es (judge (Some new) first)
         took of by None (Some def) es same (legal, is_def, has) =
             let who = sym by in
             let owed : IsDue def e (reverse es) = subst (λ (a : Actor). next def es a ≡ Some e) who (due_here def old es actor (Some e) is_def has due) in
-            (e, of, (legal_more def es e legal owed, kept ∙ is_def, more ∙ ap (λ (hs : List Entry). hs ++ e ∷ []) has))
+            (e, of, allowed, (legal_more def es e legal owed, kept ∙ is_def, more ∙ ap (λ (hs : List Entry). hs ++ e ∷ []) has))
         took of by None None es same stands = absurd stands
         took of by (Some n) (Some def) es same stands = absurd stands
         took of by (Some n) None es same stands = absurd stands
 
     -- it isn't
-    pub stopped : (first : Option ℕ) (entry : ℕ) (after : Option (List ℕ)) (then : JudgeSeen) → Adds text number actor None old new
-        → entry ≡ length old.entries + 1 → Stops text entry after then → Takes text number after (judge (Some old) first) then
+    pub stopped : (first : Option ℕ) (entry : ℕ) (after : Option (List ℕ)) (then : JudgeSeen) → Adds b text number actor None old new
+        → entry ≡ length old.entries + 1 → Stops b text entry after then → Takes b text number after (judge (Some old) first) then
     stopped first entry None then none counts stops = stops
-    stopped first entry (Some after) then none counts (row, at, (line, e, of), is) =
+    stopped first entry (Some after) then none counts (row, at, (line, e, of, allowed), is) =
         let own = own_row row after line e at of in
         (row, at, λ part es same stands. took own (head row (rows_of after) number e at.rows own).1 first part es same stands)
       where
         took : IsRowOf row number e → actor_of e ≡ actor → (first : Option ℕ) (part : Option LineDef) (es : List Entry)
-            → IfSome part (λ (def : LineDef). def.line ≡ number) → Stands part (Some old) first es → Took part row number es then
+            → IfSome part (λ (def : LineDef). def.line ≡ number) → Stands part (Some old) first es → Took b part row number es then
         took own by None (Some def) es same (legal, is_def, has) =
             let who = sym by in
             let undue : IsDue def e (reverse es) → ⊥ = λ owed.
-            none e (concat (rows_of after)) (due_there def old es actor (Some e) is_def has (subst (λ (a : Actor). next def es a ≡ Some e) (sym who) owed))
+            none e (concat (rows_of after)) (due_there def old es actor (Some e) is_def has
+            (subst (λ (a : Actor). next def es a ≡ Some e) (sym who) owed)) allowed
             (row_of text row (rows_of after) number e at.rows own) in
-            subst (λ (j : JudgeSeen). Took (Some def) row number es j) (sym is)
-            (e, own, undue_last def es e entry (counts ∙ ap (λ (hs : List Entry). length hs + 1) has) legal undue)
+            subst (λ (j : JudgeSeen). Took b (Some def) row number es j) (sym is)
+            (e, own, allowed, undue_last def es e entry (counts ∙ ap (λ (hs : List Entry). length hs + 1) has) legal undue)
         took own by None None es same stands = absurd stands
         took own by (Some n) (Some def) es same stands = absurd stands
         took own by (Some n) None es same stands = absurd stands
 
   -- the line is stopped already, or takes no part
   pub stays : (first : Option ℕ) (entry : ℕ) (after : Option (List ℕ)) (then : JudgeSeen) → MatchOption first (entry ≡ 1) (λ n. entry ≡ n)
-      → Stops text entry after then → Takes text number after (judge None first) then
+      → Stops b text entry after then → Takes b text number after (judge None first) then
   stays first entry None then counts stops = stops
-  stays first entry (Some after) then counts (row, at, (line, e, of), is) = (row, at, λ part es same stands. took first part es counts stands)
+  stays first entry (Some after) then counts (row, at, (line, e, of, allowed), is) = (row, at, λ part es same stands. took first part es counts stands)
     where
       own : IsRowOf row number e
       own = own_row row after line e at of
 
       took : (first : Option ℕ) (part : Option LineDef) (es : List Entry) → MatchOption first (entry ≡ 1) (λ n. entry ≡ n)
-          → Stands part None first es → Took part row number es then
+          → Stands part None first es → Took b part row number es then
       took (Some n) (Some def) es counts stands =
-          subst (λ (j : JudgeSeen). Took (Some def) row number es j) (sym is)
-          (e, own, subst (λ m. IsFirstUndue def (es ++ e ∷ []) m) (sym counts) (undue_more def es e n stands))
+          subst (λ (j : JudgeSeen). Took b (Some def) row number es j) (sym is)
+          (e, own, allowed, subst (λ m. IsFirstUndue def (es ++ e ∷ []) m) (sym counts) (undue_more def es e n stands))
       took None (Some def) es counts stands = absurd stands
       took (Some n) None es counts stands =
-          subst (λ (j : JudgeSeen). Took None row number es j) (sym is) (e, own, (omega (arith, length-append es (e ∷ [])), counts ∙ stands.1))
+          subst (λ (j : JudgeSeen). Took b None row number es j) (sym is) (e, own, allowed, (omega (arith, length-append es (e ∷ [])), counts ∙ stands.1))
       took None None es counts stands =
-          subst (λ (j : JudgeSeen). Took None row number es j) (sym is) (e, own, (omega (arith, length-append es (e ∷ [])), counts))
+          subst (λ (j : JudgeSeen). Took b None row number es j) (sym is) (e, own, allowed, (omega (arith, length-append es (e ∷ [])), counts))
 
 pub counted : (first : Option ℕ) (entry : ℕ) → entry ≡ unwrap_or first 1 → MatchOption first (entry ≡ 1) (λ n. entry ≡ n)
 counted None entry is = is

@@ -1,8 +1,8 @@
 -- What the rows of a log say of one line, and which of its entries is the first that wasn't due.
 use Rattle.std.proofs.Common.{◌≡◌, ◌⊎◌, inl, inr, ℕ, ◌+◌, ◌-◌, ◌<◌, ◌≤◌, Bool, true, false, not, cond, eqb}
-use Rattle.std.proofs.Common.{IfSome, Option, Some, None, List, [], ◌∷◌, ◌++◌, length, take, drop, map, reverse, refl}
+use Rattle.std.proofs.Common.{IfSome, Option, Some, None, List, [], ◌∷◌, ◌++◌, length, take, drop, reverse, refl}
 use Rattle.std.proofs.Common.{sym, ap, subst, ◌∙◌, arith, length-append, eqb-true}
-use Rattle.std.specs.List.{AllZip, filter, slice_get}
+use Rattle.std.specs.List.{AllZip, slice_get}
 use Rattle.std.specs.Option.{option_eq}
 use Rattle.std.proofs.lemmas.Bool.{cases_eq, false≢true}
 use Rattle.std.proofs.lemmas.Option.{same_Some, slice_get_within}
@@ -103,8 +103,8 @@ stands_legal None None es stands = stands
 same_pair : (l m : LineNo) (e f : Entry) → l ≡ m → e ≡ f → ◌≡◌ {A = LineEntry} (l, e) (m, f)
 same_pair l m e f same_line same_entry = cc
 
-one_entry : (lines : List LineRow) (row : List ℕ) (s : LineEntry) (m : LineNo) (f : Entry) → IsRowOn lines row s → IsRowOf row m f → s ≡ (m, f)
-one_entry lines row (l, e) m f x y = let same = rows_tell row l m e f x.formed y in same_pair l m e f same.0 same.1
+one_entry : (board : BoardSeen) (row : List ℕ) (s : LineEntry) (m : LineNo) (f : Entry) → IsRowOn board row s → IsRowOf row m f → s ≡ (m, f)
+one_entry board row (l, e) m f x y = let same = rows_tell row l m e f x.formed y in same_pair l m e f same.0 same.1
 
 abbrev says : List ℕ → Bool
 says row = not (is_passed_over row)
@@ -126,33 +126,33 @@ last_counted xs ys x y same = length-append xs (x ∷ []) ∙ (ap (λ n. n + 1) 
 
 -- the first n rows said these entries, of which the line has its own, and the other rows say what
 -- is left
-pub record ReadTo (lines : List LineRow) (part : Option LineDef) (number : LineNo) (rows : List (List ℕ)) (n : ℕ)
+pub record ReadTo (board : BoardSeen) (part : Option LineDef) (number : LineNo) (rows : List (List ℕ)) (n : ℕ)
     (said : List LineEntry) (line : Option LineSeen) : Type 0 where
   pub done : List LineEntry
   pub left : List LineEntry
   pub said_is : said ≡ done ++ left
-  pub each : AllZip (IsRowOn lines) (saying (drop n rows)) left
+  pub each : AllZip (IsRowOn board) (saying (drop n rows)) left
   pub many : length (saying (take n rows)) ≡ length done
   pub stands : Stands part line None (entries_on done number)
 
 -- a row that isn't passed over says the first entry of what is left
-record Says (lines : List LineRow) (row : List ℕ) (rows : List (List ℕ)) (left : List LineEntry) : Type 0 where
+record Says (board : BoardSeen) (row : List ℕ) (rows : List (List ℕ)) (left : List LineEntry) : Type 0 where
   said : LineEntry
   rest : List LineEntry
   is : left ≡ said ∷ rest
-  on : IsRowOn lines row said
-  each : AllZip (IsRowOn lines) rows rest
+  on : IsRowOn board row said
+  each : AllZip (IsRowOn board) rows rest
 
-first_said : (lines : List LineRow) (row : List ℕ) (rows : List (List ℕ)) (left : List LineEntry)
-    → AllZip (IsRowOn lines) (row ∷ rows) left → Says lines row rows left
-first_said lines row rows [] each = absurd each
-first_said lines row rows (s ∷ rest) each = record { said = s; rest = rest; is = refl; on = each.0; each = each.1 }
+first_said : (board : BoardSeen) (row : List ℕ) (rows : List (List ℕ)) (left : List LineEntry)
+    → AllZip (IsRowOn board) (row ∷ rows) left → Says board row rows left
+first_said board row rows [] each = absurd each
+first_said board row rows (s ∷ rest) each = record { said = s; rest = rest; is = refl; on = each.0; each = each.1 }
 
-module _ (lines : List LineRow) (part : Option LineDef) (number : LineNo) (rows : List (List ℕ)) (n : ℕ) (said : List LineEntry)
+module _ (board : BoardSeen) (part : Option LineDef) (number : LineNo) (rows : List (List ℕ)) (n : ℕ) (said : List LineEntry)
     (old : Option LineSeen) (row : List ℕ) (tail : List (List ℕ)) (at : drop n rows ≡ row ∷ tail)
-    (now : ReadTo lines part number rows n said old) where
+    (now : ReadTo board part number rows n said old) where
   abbrev Each : List (List ℕ) → Type 0
-  Each rs = AllZip (IsRowOn lines) rs now.left
+  Each rs = AllZip (IsRowOn board) rs now.left
 
   split_by : (b : Bool) → is_passed_over row ≡ b → Each (cond (not b) (row ∷ saying tail) (saying tail))
   split_by b is = subst (λ t. Each (cond (not t) (row ∷ saying tail) (saying tail))) is (subst Each (ap saying at) now.each)
@@ -163,7 +163,7 @@ module _ (lines : List LineRow) (part : Option LineDef) (number : LineNo) (rows 
   rest_is : saying tail ≡ saying (drop (n + 1) rows)
   rest_is = ap saying (sym (drop_next rows n row tail at))
 
-  passes : is_passed_over row ≡ true → ReadTo lines part number rows (n + 1) said old
+  passes : is_passed_over row ≡ true → ReadTo board part number rows (n + 1) said old
   passes passed = record {
     done = now.done;
     left = now.left;
@@ -174,18 +174,18 @@ module _ (lines : List LineRow) (part : Option LineDef) (number : LineNo) (rows 
   }
 
   module _ (unpassed : is_passed_over row ≡ false) where
-    told : Says lines row (saying tail) now.left
-    told = first_said lines row (saying tail) now.left (split_by false unpassed)
+    told : Says board row (saying tail) now.left
+    told = first_said board row (saying tail) now.left (split_by false unpassed)
 
     grown : (e : Entry) (of : LineNo) (new : Option LineSeen) → told.said ≡ (of, e)
-        → Stands part new None (entries_on (now.done ++ (of, e) ∷ []) number) → ReadTo lines part number rows (n + 1) said new
+        → Stands part new None (entries_on (now.done ++ (of, e) ∷ []) number) → ReadTo board part number rows (n + 1) said new
     grown e of new is stands =
         let both : now.left ≡ (of, e) ∷ told.rest = told.is ∙ ap (λ (s : LineEntry). s ∷ told.rest) is in
         record {
           done = now.done ++ (of, e) ∷ [];
           left = told.rest;
           said_is = now.said_is ∙ (ap (λ (l : List LineEntry). now.done ++ l) both ∙ sym (append_assoc now.done ((of, e) ∷ []) told.rest));
-          each = subst (λ (rs : List (List ℕ)). AllZip (IsRowOn lines) rs told.rest) rest_is told.each;
+          each = subst (λ (rs : List (List ℕ)). AllZip (IsRowOn board) rs told.rest) rest_is told.each;
           many = ap length (more_by false unpassed) ∙ counted;
           stands = stands;
         }
@@ -194,7 +194,7 @@ module _ (lines : List LineRow) (part : Option LineDef) (number : LineNo) (rows 
         counted = last_counted (saying (take n rows)) now.done row (of, e) now.many
 
     by_own : (of : LineNo) (e : Entry) (new : Option LineSeen) → told.said ≡ (of, e) → TriesIfOwn of number e None old new
-        → ReadTo lines part number rows (n + 1) said new
+        → ReadTo board part number rows (n + 1) said new
     by_own of e new is (inl (other, none, same)) =
         let kept : entries_on (now.done ++ (of, e) ∷ []) number ≡ entries_on now.done number = more_on now.done (of, e) number
         ∙ (ap (λ (es : List Entry). entries_on now.done number ++ es) (on_other (of, e) number (differs of number other (eqb of.0 number.0) refl))
@@ -230,37 +230,37 @@ module _ (lines : List LineRow) (part : Option LineDef) (number : LineNo) (rows 
   no_entry : {X : Type 0} → is_passed_over row ≡ false → ((of : LineNo) (e : Entry) → IsRowOf row of e → ⊥) → X
   no_entry unpassed none = let t = told unpassed in absurd (none t.said.0 t.said.1 t.on.formed)
 
-  pub next_read : (new : Option LineSeen) → Finds row number None old new → ReadTo lines part number rows (n + 1) said new
+  pub next_read : (new : Option LineSeen) → Finds row number None old new → ReadTo board part number rows (n + 1) said new
   next_read new (inl (passed, none, same)) =
-      subst (λ (l : Option LineSeen). ReadTo lines part number rows (n + 1) said l) (sym same) (passes passed)
+      subst (λ (l : Option LineSeen). ReadTo board part number rows (n + 1) said l) (sym same) (passes passed)
   next_read new (inr (unpassed, inl none)) = no_entry unpassed none
   next_read new (inr (unpassed, inr (of, e, formed, tried))) =
-      by_own unpassed of e new (one_entry lines row (told unpassed).said of e (told unpassed).on formed) tried
+      by_own unpassed of e new (one_entry board row (told unpassed).said of e (told unpassed).on formed) tried
 
   pub undue_read : (new : Option LineSeen) (undue : Undue) → undue.row ≡ n + 1 → Finds row number (Some undue.due) old new
       → IsUndue part number rows said undue
   undue_read new undue counts (inl (passed, none, same)) = cc
   undue_read new undue counts (inr (unpassed, inl none)) = no_entry unpassed none
   undue_read new undue counts (inr (unpassed, inr (of, e, formed, tried))) =
-      by_undue unpassed of e new undue counts (one_entry lines row (told unpassed).said of e (told unpassed).on formed) tried
+      by_undue unpassed of e new undue counts (one_entry board row (told unpassed).said of e (told unpassed).on formed) tried
 
   -- a row without its line feed is no row
   pub unended : {X : Type 0} → is_whole row ≡ false → X
   unended bare = by (is_passed_over row) refl
     where
       by : {X : Type 0} (b : Bool) → is_passed_over row ≡ b → X
-      by true passed = absurd (unended_row lines row bare (inl passed))
-      by false unpassed = let t = told unpassed in absurd (unended_row lines row bare (inr (t.said, t.on)))
+      by true passed = absurd (unended_row board row bare (inl passed))
+      by false unpassed = let t = told unpassed in absurd (unended_row board row bare (inr (t.said, t.on)))
 
 -- all rows are read
-nothing_left : (lines : List LineRow) (left : List LineEntry) → AllZip (IsRowOn lines) [] left → left ≡ []
-nothing_left lines [] each = refl
-nothing_left lines (s ∷ left) each = absurd each
+nothing_left : (board : BoardSeen) (left : List LineEntry) → AllZip (IsRowOn board) [] left → left ≡ []
+nothing_left board [] each = refl
+nothing_left board (s ∷ left) each = absurd each
 
-pub all_read : (lines : List LineRow) (part : Option LineDef) (number : LineNo) (rows : List (List ℕ)) (n : ℕ) (said : List LineEntry)
-    (line : Option LineSeen) → ReadTo lines part number rows n said line → drop n rows ≡ [] → IsLegalOf part (entries_on said number)
-all_read lines part number rows n said line now over =
-    let none = nothing_left lines now.left (subst (λ (rs : List (List ℕ)). AllZip (IsRowOn lines) rs now.left) (ap saying over) now.each) in
+pub all_read : (board : BoardSeen) (part : Option LineDef) (number : LineNo) (rows : List (List ℕ)) (n : ℕ) (said : List LineEntry)
+    (line : Option LineSeen) → ReadTo board part number rows n said line → drop n rows ≡ [] → IsLegalOf part (entries_on said number)
+all_read board part number rows n said line now over =
+    let none = nothing_left board now.left (subst (λ (rs : List (List ℕ)). AllZip (IsRowOn board) rs now.left) (ap saying over) now.each) in
     let same : said ≡ now.done = now.said_is ∙ (ap (λ (l : List LineEntry). now.done ++ l) none ∙ append-nil now.done) in
     subst (λ (es : List LineEntry). IsLegalOf part (entries_on es number)) (sym same)
     (stands_legal part line (entries_on now.done number) now.stands)
@@ -277,8 +277,8 @@ pub record IsRead (number : LineNo) (log rest : List ℕ) (n : ℕ) (fresh line 
   pub left : rows_of rest ≡ drop n (rows_of log)
   pub within : n + length rest ≤ length log
   pub short : IsShort n line
-  pub so_far : (part : Option LineDef) (lines : List LineRow) (said : List LineEntry) → Stands part fresh None []
-      → AllZip (IsRowOn lines) (saying (rows_of log)) said → ReadTo lines part number (rows_of log) n said line
+  pub so_far : (part : Option LineDef) (board : BoardSeen) (said : List LineEntry) → Stands part fresh None []
+      → AllZip (IsRowOn board) (saying (rows_of log)) said → ReadTo board part number (rows_of log) n said line
 
 new_short : (line : Option LineSeen) → IsNew line → IsShort 0 line
 new_short None new = tt
@@ -289,7 +289,7 @@ at_start number log fresh new = record {
   left = refl;
   within = omega arith;
   short = new_short fresh new;
-  so_far = λ part lines said stands all. record { done = []; left = said; said_is = refl; each = all; many = refl; stands = stands };
+  so_far = λ part board said stands all. record { done = []; left = said; said_is = refl; each = all; many = refl; stands = stands };
 }
 
 grown_short : (n : ℕ) (old new : Option LineSeen) → IsShort n old → GrowsByOne old new → IsShort (n + 1) new
@@ -317,22 +317,22 @@ module _ (number : LineNo) (log rest : List ℕ) (n : ℕ) (fresh old new : Opti
     left = sym (drop_next (rows_of log) n row (rows_of after) at_row);
     within = let within = now.within in omega (arith, within, shorter);
     short = grown_short n old new now.short grows;
-    so_far = λ part lines said stands all. next_read lines part number (rows_of log) n said old row (rows_of after) at_row
-        (now.so_far part lines said stands all) new finds;
+    so_far = λ part board said stands all. next_read board part number (rows_of log) n said old row (rows_of after) at_row
+        (now.so_far part board said stands all) new finds;
   }
 
   pub undue_here : (undue : Undue) → undue.row ≡ n + 1 → Finds row number (Some undue.due) old new
-      → (part : Option LineDef) (lines : List LineRow) (said : List LineEntry) → Stands part fresh None []
-      → AllZip (IsRowOn lines) (saying (rows_of log)) said → Explains part number (rows_of log) said (Some undue)
-  undue_here undue counts finds part lines said stands all =
-      undue_read lines part number (rows_of log) n said old row (rows_of after) at_row (now.so_far part lines said stands all) new undue counts finds
+      → (part : Option LineDef) (board : BoardSeen) (said : List LineEntry) → Stands part fresh None []
+      → AllZip (IsRowOn board) (saying (rows_of log)) said → Explains part number (rows_of log) said (Some undue)
+  undue_here undue counts finds part board said stands all =
+      undue_read board part number (rows_of log) n said old row (rows_of after) at_row (now.so_far part board said stands all) new undue counts finds
 
 pub none_ended : (number : LineNo) (log rest : List ℕ) (n : ℕ) (fresh line : Option LineSeen) → IsRead number log rest n fresh line
     → (rows_of rest ≡ rest ∷ []) × (is_whole rest ≡ false)
-    → (part : Option LineDef) (lines : List LineRow) (said : List LineEntry) → Stands part fresh None []
-    → AllZip (IsRowOn lines) (saying (rows_of log)) said → Explains part number (rows_of log) said None
-none_ended number log rest n fresh line now bare part lines said stands all =
-    unended lines part number (rows_of log) n said line rest [] (sym now.left ∙ bare.0) (now.so_far part lines said stands all) bare.1
+    → (part : Option LineDef) (board : BoardSeen) (said : List LineEntry) → Stands part fresh None []
+    → AllZip (IsRowOn board) (saying (rows_of log)) said → Explains part number (rows_of log) said None
+none_ended number log rest n fresh line now bare part board said stands all =
+    unended board part number (rows_of log) n said line rest [] (sym now.left ∙ bare.0) (now.so_far part board said stands all) bare.1
 
 is_nothing : (xs : List ℕ) → length xs ≡ 0 → xs ≡ []
 is_nothing [] none = refl
@@ -340,10 +340,10 @@ is_nothing (x ∷ xs) none = absurd (omega (arith, none))
 
 pub none_undue : (number : LineNo) (log rest : List ℕ) (n : ℕ) (fresh line : Option LineSeen) → IsRead number log rest n fresh line
     → length rest ≡ 0
-    → (part : Option LineDef) (lines : List LineRow) (said : List LineEntry) → Stands part fresh None []
-    → AllZip (IsRowOn lines) (saying (rows_of log)) said → Explains part number (rows_of log) said None
-none_undue number log rest n fresh line now over part lines said stands all =
-    all_read lines part number (rows_of log) n said line (now.so_far part lines said stands all) (sym now.left ∙ ap rows_of (is_nothing rest over))
+    → (part : Option LineDef) (board : BoardSeen) (said : List LineEntry) → Stands part fresh None []
+    → AllZip (IsRowOn board) (saying (rows_of log)) said → Explains part number (rows_of log) said None
+none_undue number log rest n fresh line now over part board said stands all =
+    all_read board part number (rows_of log) n said line (now.so_far part board said stands all) (sym now.left ∙ ap rows_of (is_nothing rest over))
 
 -- ---- the line of a board
 

@@ -3,16 +3,15 @@ use Rattle.std.proofs.Common.{◌≡◌, ◌≢◌, Bor, ℕ, Bool, true, false,
 use Rattle.std.proofs.Common.{◌++◌, length, slice_get, reverse, refl, sym, ap, subst, ◌∙◌}
 use Rattle.std.specs.Option.{option_map}
 use Rattle.std.specs.Prelude.{MatchOption}
+use Rattle.std.proofs.lemmas.Bool.{false≢true}
 use Rattle.std.proofs.lemmas.Option.{same_Some}
-use Rattle.irq_base.specs.declared.calls.Call.{Call}
+use Rattle.board_def.specs.Seen.{BoardSeen}
 use Rattle.irq_base.specs.declared.calls.Flags.{Flags}
-use Rattle.irq_base.specs.declared.entries.Actor.TheVariants as actors
 use Rattle.irq_base.specs.declared.entries.Actor.{Actor}
 use Rattle.irq_base.specs.declared.entries.AffinityAnswer.TheVariants as moves
 use Rattle.irq_base.specs.declared.entries.Entry.{Entry}
 use Rattle.irq_base.specs.declared.entries.Entry.TheVariants as by
 use Rattle.irq_base.specs.declared.entries.DriverEntry.TheVariants as drivers
-use Rattle.irq_base.specs.declared.entries.ThreadEntry.TheVariants as threads
 use Rattle.irq_base.specs.declared.entries.Errno.TheVariants as errors
 use Rattle.irq_base.specs.declared.entries.LinkAnswer.{LinkAnswer}
 use Rattle.irq_base.specs.declared.entries.LinkAnswer.TheVariants as links
@@ -20,19 +19,15 @@ use Rattle.irq_base.specs.declared.lines.LineDef.{LineDef}
 use Rattle.irq_base.specs.declared.numbers.DevNo.{DevNo}
 use Rattle.irq_base.specs.declared.numbers.DriverNo.{DriverNo}
 use Rattle.irq_base.specs.declared.numbers.LineNo.{LineNo}
-use Rattle.irq_laws.proofs.ImpliesDriver.{Row, ask, request, unlink, free_clear, freed, disable, disable_clear}
-use Rattle.irq_laws.proofs.ImpliesDriver.{disable_synced, nosync, enable, sync_clear, synced, affinity, moment}
-use Rattle.irq_laws.proofs.ImpliesDriver.{driver_row, opened_with}
-use Rattle.irq_laws.proofs.ImpliesThread.{thread_return_answer}
-use Rattle.irq_laws.proofs.OwnLaws.{no_cpu_call, no_thread_call}
+use Rattle.irq_laws.proofs.ImpliesDriver.{DriverRow, ask, request, affinity, moment, step, driver_row, opened_with}
 use Rattle.irq_line.specs.Seen.{LineSeen}
-use Rattle.irq_model.specs.Due.{due_call}
 use Rattle.irq_model.specs.Legal.{IsDue}
 use Rattle.irq_model.specs.Next.{link_answer, next_past}
 use Rattle.irq_model.specs.Signal.{lowest_in}
 use Rattle.log_check.proofs.OneLine.{get_last}
 use Rattle.log_check.specs.Judged.{AddsDue}
 use Rattle.log_check.specs.Judging.{Adds, Follows}
+use Rattle.log_read.specs.Versions.{may_have}
 use Rattle.log_text.specs.EntryWords.{IsPrintable}
 use Rattle.log_text.specs.Formed.{HasSmallNumbers, IsSmall}
 use Rattle.log_text.specs.Rows.{entry_text}
@@ -50,35 +45,22 @@ affinity_printable r mask true true = tt
 affinity_printable r mask true false = tt
 affinity_printable r mask false later = refl
 
-row_printable : (def : LineDef) (r : DriverNo) (due : Option (Call × ℕ)) (past : List Entry) (e : Entry) → Row def r due past e → IsPrintable e
-row_printable def r due past e (ask d n is same) = subst IsPrintable same refl
-row_printable def r due past e (request d flags n is free same) =
+row_printable : (def : LineDef) (r : DriverNo) (past : List Entry) (e : Entry) → DriverRow def r past e → IsPrintable e
+row_printable def r past e (ask d n is same) = subst IsPrintable same tt
+row_printable def r past e (request d flags n is free same) =
     subst IsPrintable same (request_printable def r d flags past (link_answer def d flags past))
-row_printable def r due past e (unlink d is free same) = subst IsPrintable same tt
-row_printable def r due past e (free_clear d is no_flow same) = subst IsPrintable same tt
-row_printable def r due past e (freed d n is some more rest same) = subst IsPrintable same tt
-row_printable def r due past e (disable is same) = subst IsPrintable same tt
-row_printable def r due past e (disable_clear is no_flow same) = subst IsPrintable same tt
-row_printable def r due past e (disable_synced n is some more rest same) = subst IsPrintable same tt
-row_printable def r due past e (nosync n is same) = subst IsPrintable same tt
-row_printable def r due past e (enable n is same) = subst IsPrintable same tt
-row_printable def r due past e (sync_clear is no_flow same) = subst IsPrintable same tt
-row_printable def r due past e (synced n is some rest same) = subst IsPrintable same tt
-row_printable def r due past e (affinity mask n is same) =
+row_printable def r past e (affinity mask n is same) =
     subst IsPrintable same (affinity_printable r mask (is_some (lowest_in def.cpus mask)) def.later)
-row_printable def r due past e (moment at n is same) = subst IsPrintable same tt
-
-by_driver : (def : LineDef) (r : DriverNo) (past : List Entry) (e : Entry) → next_past def past (actors.Driver r) ≡ Some e → IsPrintable e
-by_driver def r past e due = row_printable def r (due_call def r past) past e (driver_row def r past e due)
+row_printable def r past e (moment at n is same) = subst IsPrintable same tt
+row_printable def r past e (step due call is h same) = subst IsPrintable same tt
 
 pub printable : (def : LineDef) (past : List Entry) (e : Entry) → IsDue def e past → IsPrintable e
 printable def past (by.Cpu c e) due = tt
-printable def past (by.Thread d (threads.Return handled served)) due = thread_return_answer def d handled served past due
 printable def past (by.Thread d e) due = tt
-printable def past (by.Driver r e) due = by_driver def r past (by.Driver r e) due
-printable def past (by.CpuCall c call) due = no_cpu_call def c call past due
-printable def past (by.ThreadCall d call) due = no_thread_call def d call past due
-printable def past (by.DriverCall r call) due = by_driver def r past (by.DriverCall r call) due
+printable def past (by.Driver r e) due = row_printable def r past (by.Driver r e) (driver_row def r past (by.Driver r e) due)
+printable def past (by.CpuCall c call) due = tt
+printable def past (by.ThreadCall d call) due = tt
+printable def past (by.DriverCall r call) due = tt
 
 -- what is due has a row that may follow in a text
 
@@ -98,19 +80,24 @@ module _ (old new : LineSeen) (actor : Actor) (due : Option Entry) (e : Entry) (
       ap (λ (es : List Entry). slice_get es place) (are ∙ was_heard.entries)
       ∙ (ap (λ (i : ℕ). slice_get (old.entries ++ e ∷ []) i) here ∙ get_last old.entries e)
 
-  pub adds : (text : List ℕ) (number : LineNo) (after : Option (List ℕ)) → IsSmall number.0 → HasSmallNumbers e → Follows text number e after
-      → Adds text number actor after old new
-  adds text number (Some after) small numbers follows =
-      (e, small, record { printable = heard_printable; small = numbers }, follows, was_heard.due, was_heard.def, was_heard.entries)
-  adds text number None small numbers missing = λ f after owed follows.
+  pub adds : (b : BoardSeen) (text : List ℕ) (number : LineNo) (after : Option (List ℕ)) → may_have b.version e ≡ true → IsSmall number.0
+      → HasSmallNumbers e → Follows text number e after → Adds b text number actor after old new
+  adds b text number (Some after) allowed small numbers follows =
+      (e, small, record { printable = heard_printable; small = numbers }, allowed, follows, was_heard.due, was_heard.def, was_heard.entries)
+  adds b text number None allowed small numbers missing = λ f after owed may follows.
       missing after (follows ∙ ap (λ (x : Entry). entry_text number x ++ after) (same_Some f e (sym owed ∙ was_heard.due)))
+
+  -- the board's log may not have its row
+  pub adds_no_row : (b : BoardSeen) (text : List ℕ) (number : LineNo) → may_have b.version e ≡ false → Adds b text number actor None old new
+  adds_no_row b text number never = λ f after owed may follows.
+      false≢true (sym never ∙ (ap (may_have b.version) (same_Some e f (sym was_heard.due ∙ owed)) ∙ may))
 
 none_due : (e : Entry) → ◌≡◌ {A = Option Entry} None (Some e) → ⊥
 none_due e same = cc
 
-pub adds_none : (old new : LineSeen) (actor : Actor) (due : Option Entry) (text : List ℕ) (number : LineNo) → AddsDue old actor due new → due ≡ None
-    → Adds text number actor None old new
-adds_none old new actor due text number heard is f after owed follows =
+pub adds_none : (b : BoardSeen) (old new : LineSeen) (actor : Actor) (due : Option Entry) (text : List ℕ) (number : LineNo) → AddsDue old actor due new
+    → due ≡ None → Adds b text number actor None old new
+adds_none b old new actor due text number heard is f after owed may follows =
     let none : AddsDue old actor None new = subst (λ (o : Option Entry). AddsDue old actor o new) is heard in
     none_due f (sym none.0 ∙ owed)
 

@@ -30,7 +30,7 @@ use Rattle.log_check.proofs.Lines.{get_there, have_room}
 -- what the rows say was judged
 pub record AreJudged (b : BoardSeen) (rows : List (List ℕ)) (judges : List JudgeSeen) : Type 0 where
   pub said : List LineEntry
-  pub each : AllZip (IsRowOn b.lines) (saying rows) said
+  pub each : AllZip (IsRowOn b) (saying rows) said
   pub have : HaveJudged b said judges
 
 -- the first n rows of the log were judged, and the rest is left
@@ -47,19 +47,19 @@ says row = not (is_passed_over row)
 
 module _ (b : BoardSeen) (rows : List (List ℕ)) (row : List ℕ) (old new : List JudgeSeen) (now : AreJudged b rows old) where
   by_kind : ((is_passed_over row ≡ true) × HaveJudged b now.said new)
-      ⊎ ((s : LineEntry) × IsRowOn b.lines row s × (is_passed_over row ≡ false) × HaveJudged b (now.said ++ s ∷ []) new)
+      ⊎ ((s : LineEntry) × IsRowOn b row s × (is_passed_over row ≡ false) × HaveJudged b (now.said ++ s ∷ []) new)
       → AreJudged b (rows ++ row ∷ []) new
   by_kind (inl (passed, have)) =
       let same : saying (rows ++ row ∷ []) ≡ saying rows = filter-append says rows (row ∷ [])
       ∙ (ap (λ t. saying rows ++ cond (not t) (row ∷ []) []) passed ∙ append-nil (saying rows)) in
-      record { said = now.said; each = subst (λ rs. AllZip (IsRowOn b.lines) rs now.said) (sym same) now.each; have = have }
+      record { said = now.said; each = subst (λ rs. AllZip (IsRowOn b) rs now.said) (sym same) now.each; have = have }
   by_kind (inr (s, on, unpassed, have)) =
       let same : saying (rows ++ row ∷ []) ≡ saying rows ++ row ∷ [] = filter-append says rows (row ∷ [])
       ∙ ap (λ t. saying rows ++ cond (not t) (row ∷ []) []) unpassed in
       record {
         said = now.said ++ s ∷ [];
-        each = subst (λ rs. AllZip (IsRowOn b.lines) rs (now.said ++ s ∷ [])) (sym same)
-            (zip_push (IsRowOn b.lines) (saying rows) now.said row s now.each on);
+        each = subst (λ rs. AllZip (IsRowOn b) rs (now.said ++ s ∷ [])) (sym same)
+            (zip_push (IsRowOn b) (saying rows) now.said row s now.each on);
         have = have;
       }
 
@@ -86,7 +86,7 @@ take_few (x ∷ xs) (suc n) = let rest = take_few xs n in omega (arith, rest)
 pub rooms : (b : BoardSeen) (log rest : List ℕ) (n : ℕ) (judges : List JudgeSeen) → IsAt b log rest n judges → length log < most → HaveRoom judges
 rooms b log rest n judges now few =
     let rows = take n (rows_of log) in
-    let x = zip_short (IsRowOn b.lines) (saying rows) now.judged.said now.judged.each in
+    let x = zip_short (IsRowOn b) (saying rows) now.judged.said now.judged.each in
     let y = few_saying rows in
     let z = take_few (rows_of log) n in
     let within = now.within in
@@ -104,11 +104,11 @@ some_row (b ∷ bs) some = by (is_feed b) (rows_of bs)
     by false (row ∷ rows) = (b ∷ row, rows, refl)
 
 pub malformed : (b : BoardSeen) (log rest : List ℕ) (n : ℕ) (judges : List JudgeSeen) → IsAt b log rest n judges → 1 ≤ length rest
-    → IsWrong b.lines rest → IsFirstMalformed b.lines (rows_of log) (n + 1)
+    → IsWrong b rest → IsFirstMalformed b (rows_of log) (n + 1)
 malformed b log rest n judges now some wrong =
     let row = some_row rest some in
     let said = now.judged.said in
-    first_malformed b.lines (rows_of log) n row.0 row.1 (map (λ (r : LineRow). entries_on said r.line) b.lines) (sym now.left ∙ row.2)
+    first_malformed b (rows_of log) n row.0 row.1 (map (λ (r : LineRow). entries_on said r.line) b.lines) (sym now.left ∙ row.2)
     (record { said = said; each = now.judged.each; are = refl }) (wrong row.0 row.1 row.2)
 
 -- ---- the verdict
@@ -191,6 +191,6 @@ pub concluded : (b : BoardSeen) (log rest : List ℕ) (n : ℕ) (judges : List J
 concluded b log rest n judges verdict now none concludes =
     let said = now.judged.said in
     let all : take n (rows_of log) ≡ rows_of log = all_taken (rows_of log) n (sym now.left ∙ nothing_left rest none) in
-    let each : AllZip (IsRowOn b.lines) (saying (rows_of log)) said = subst (λ rows. AllZip (IsRowOn b.lines) (saying rows) said) all now.judged.each in
+    let each : AllZip (IsRowOn b) (saying (rows_of log)) said = subst (λ rows. AllZip (IsRowOn b) (saying rows) said) all now.judged.each in
     checks_of b log verdict
     (logs_of b.lines said, record { said = said; each = each; are = same_entries b.lines said }, concludes said now.judged.have)

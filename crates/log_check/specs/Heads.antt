@@ -1,13 +1,14 @@
 -- The first row of a text, and its head: whose line it tells of, and who made its entry.
-use Rattle.std.specs.Prelude.{◌≡◌, ℕ, ◌+◌, ◌≤◌, ◌==◌, if◌then◌else◌, Option, Some, None, List}
+use Rattle.std.specs.Prelude.{◌≡◌, true, ℕ, ◌+◌, ◌≤◌, ◌==◌, if◌then◌else◌, Option, Some, None, List}
 use Rattle.std.specs.Prelude.{◌∷◌, ◌++◌, decimal, length}
-use Rattle.board_def.specs.declared.rows.LineRow.{LineRow}
+use Rattle.board_def.specs.Seen.{BoardSeen}
 use Rattle.irq_base.specs.Who.{actor_of}
 use Rattle.irq_base.specs.declared.entries.Actor.{Actor}
 use Rattle.irq_base.specs.declared.entries.Actor.TheVariants as actors
 use Rattle.irq_base.specs.declared.entries.Entry.{Entry}
 use Rattle.irq_base.specs.declared.numbers.LineNo.{LineNo}
 use Rattle.log_read.specs.LogOf.{IsRow, rows_of}
+use Rattle.log_read.specs.Versions.{may_have}
 use Rattle.log_text.specs.Formed.{IsFormed, IsRowOf, IsSmall}
 
 -- it is this row, and the bytes after it are these
@@ -20,10 +21,20 @@ abbrev pub IsNoEntry : List ℕ → Type 0
 IsNoEntry text = (row : List ℕ) (rows : List (List ℕ)) → rows_of text ≡ row ∷ rows → IsFormed row
     → ⊥
 
+-- the row is that of an entry, and the board's log may have it
+abbrev pub IsFormedOn : BoardSeen → List ℕ → Type 0
+IsFormedOn b row =
+    (line : LineNo) × (e : Entry) × IsRowOf row line e × (may_have b.version e ≡ true)
+
+-- it isn't such a row
+abbrev pub IsNoEntryOn : BoardSeen → List ℕ → Type 0
+IsNoEntryOn b text = (row : List ℕ) (rows : List (List ℕ)) → rows_of text ≡ row ∷ rows
+    → IsFormedOn b row → ⊥
+
 -- something is wrong with it
-abbrev pub IsWrong : List LineRow → List ℕ → Type 0
-IsWrong lines text = (row : List ℕ) (rows : List (List ℕ)) → rows_of text ≡ row ∷ rows
-    → IsRow lines row → ⊥
+abbrev pub IsWrong : BoardSeen → List ℕ → Type 0
+IsWrong b text = (row : List ℕ) (rows : List (List ℕ)) → rows_of text ≡ row ∷ rows
+    → IsRow b row → ⊥
 
 -- if it is the row of an entry, then of this line's and this actor's
 abbrev pub IsHead : List ℕ → LineNo → Actor → Type 0

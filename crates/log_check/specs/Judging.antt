@@ -17,13 +17,14 @@ use Rattle.irq_laws.specs.LogLimit.{with_log}
 use Rattle.irq_line.specs.Seen.{LineSeen}
 use Rattle.irq_model.specs.Legal.{IsLegal}
 use Rattle.irq_model.specs.Next.{next}
-use Rattle.log_check.specs.Heads.{BeginsWith, IsNoEntry, IsWrong}
+use Rattle.log_check.specs.Heads.{BeginsWith, IsFormedOn, IsNoEntryOn, IsWrong}
 use Rattle.log_check.specs.JudgeSeen.{JudgeSeen}
 use Rattle.log_check.specs.Judged.{IsFirstUndue}
 use Rattle.log_check.specs.Verdicts.{IsVerdict}
 use Rattle.log_check.specs.declared.verdict.Verdict.{Verdict}
 use Rattle.log_read.specs.LogOf.{IsRowOn, LineEntry, entries_on, is_passed_over}
-use Rattle.log_text.specs.Formed.{IsFormed, IsRowOf, IsSmall, IsWritable}
+use Rattle.log_read.specs.Versions.{may_have}
+use Rattle.log_text.specs.Formed.{IsRowOf, IsSmall, IsWritable}
 use Rattle.log_text.specs.Rows.{entry_text}
 
 -- ---- one line
@@ -45,22 +46,24 @@ Follows text number e None = (after : List ℕ) → text ≡ entry_text number e
 -- the entry was due of the actor, the line has it, and these bytes follow its row in the text;
 -- none:
 -- no such row
-abbrev pub Adds : List ℕ → LineNo → Actor → Option (List ℕ) → LineSeen → LineSeen → Type 0
-Adds text number actor (Some after) old new =
-    (e : Entry) × IsSmall number.0 × IsWritable e × (text ≡ entry_text number e ++ after)
-    × (next old.def old.entries actor ≡ Some e) × (new.def ≡ old.def)
+abbrev pub Adds : BoardSeen → List ℕ → LineNo → Actor → Option (List ℕ) → LineSeen → LineSeen
+    → Type 0
+Adds b text number actor (Some after) old new =
+    (e : Entry) × IsSmall number.0 × IsWritable e × (may_have b.version e ≡ true)
+    × (text ≡ entry_text number e ++ after) × (next old.def old.entries actor ≡ Some e)
+    × (new.def ≡ old.def)
     × (new.entries ≡ old.entries ++ e ∷ [])
-Adds text number actor None old new =
+Adds b text number actor None old new =
     (e : Entry) (after : List ℕ) → next old.def old.entries actor ≡ Some e
-    → text ≡ entry_text number e ++ after → ⊥
+    → may_have b.version e ≡ true → text ≡ entry_text number e ++ after → ⊥
 
 -- the judge is of a line whose entry of this number, said by the text's first row, isn't due; none:
--- the row isn't that of an entry
-abbrev pub Stops : List ℕ → ℕ → Option (List ℕ) → JudgeSeen → Type 0
-Stops text number (Some after) new =
-    (row : List ℕ) × BeginsWith row after text × IsFormed row
+-- the row isn't that of an entry that the board's log may have
+abbrev pub Stops : BoardSeen → List ℕ → ℕ → Option (List ℕ) → JudgeSeen → Type 0
+Stops b text number (Some after) new =
+    (row : List ℕ) × BeginsWith row after text × IsFormedOn b row
     × (new ≡ record { line = None; first = Some number })
-Stops text number None new = IsNoEntry text
+Stops b text number None new = IsNoEntryOn b text
 
 -- What the judge of a line says of its entries so far. Of a line that takes part: each was due, and
 -- the line has them; or this is the first that wasn't. Of one that takes no part: it has none; or
@@ -73,20 +76,21 @@ Stands None None None entries = entries ≡ []
 Stands None None (Some number) entries = (1 ≤ length entries) × (number ≡ 1)
 Stands _ _ _ entries = ⊥
 
--- the row is that of an entry, and the judge says of the line's entries with it what it said of
--- those before, whatever they are
-abbrev pub TakesRow : List ℕ → LineNo → JudgeSeen → JudgeSeen → Type 0
-TakesRow row number old new =
+-- the row is that of an entry that the board's log may have, and the judge says of the line's
+-- entries with it what it said of those before, whatever they are
+abbrev pub TakesRow : BoardSeen → List ℕ → LineNo → JudgeSeen → JudgeSeen → Type 0
+TakesRow b row number old new =
     (part : Option LineDef) (entries : List Entry) → IfSome part (λ def. def.line ≡ number)
     → Stands part old.line old.first entries
-    → (e : Entry) × IsRowOf row number e × Stands part new.line new.first (entries ++ e ∷ [])
+    → (e : Entry) × IsRowOf row number e × (may_have b.version e ≡ true)
+    × Stands part new.line new.first (entries ++ e ∷ [])
 
 -- the judge took the text's first row, and these bytes follow it; none: the row isn't that of an
--- entry
-abbrev pub Takes : List ℕ → LineNo → Option (List ℕ) → JudgeSeen → JudgeSeen → Type 0
-Takes text number (Some after) old new =
-    (row : List ℕ) × BeginsWith row after text × TakesRow row number old new
-Takes text number None old new = IsNoEntry text
+-- entry that the board's log may have
+abbrev pub Takes : BoardSeen → List ℕ → LineNo → Option (List ℕ) → JudgeSeen → JudgeSeen → Type 0
+Takes b text number (Some after) old new =
+    (row : List ℕ) × BeginsWith row after text × TakesRow b row number old new
+Takes b text number None old new = IsNoEntryOn b text
 
 -- ---- all lines
 
@@ -117,7 +121,7 @@ abbrev pub JudgesRow : BoardSeen → List ℕ → List JudgeSeen → List JudgeS
 JudgesRow b row old new =
     (said : List LineEntry) → HaveJudged b said old
     → ((is_passed_over row ≡ true) × HaveJudged b said new)
-    ⊎ ((s : LineEntry) × IsRowOn b.lines row s × (is_passed_over row ≡ false)
+    ⊎ ((s : LineEntry) × IsRowOn b row s × (is_passed_over row ≡ false)
     × HaveJudged b (said ++ s ∷ []) new)
 
 -- the text's first row is judged, and these bytes follow it; none: something is wrong with it
@@ -125,13 +129,13 @@ abbrev pub JudgesFirst : BoardSeen → List ℕ → Option (List ℕ) → List J
     → Type 0
 JudgesFirst b text (Some after) old new =
     (row : List ℕ) × BeginsWith row after text × JudgesRow b row old new
-JudgesFirst b text None old new = IsWrong b.lines text
+JudgesFirst b text None old new = IsWrong b text
 
 -- the text's first row is passed over, and these bytes follow it; none: something is wrong with it
 abbrev pub PassesOver : List ℕ → Option (List ℕ) → Type 0
 PassesOver text (Some after) =
     (row : List ℕ) × BeginsWith row after text × (is_passed_over row ≡ true)
-PassesOver text None = (lines : List LineRow) → IsWrong lines text
+PassesOver text None = (b : BoardSeen) → IsWrong b text
 
 -- the histories that are said, one for each line, in the board's order
 abbrev pub logs_of : List LineRow → List LineEntry → List HistorySeen

@@ -45,11 +45,11 @@ IsVerdict b logs (verdicts.Malformed row) = ⊥
 -- the text of the log says these histories, and this is the verdict on them
 abbrev pub HasVerdict : BoardSeen → List ℕ → Verdict → Type 0
 HasVerdict b log verdict =
-    (logs : List HistorySeen) × IsLogOf b.lines log (Ok logs) × IsVerdict b logs verdict
+    (logs : List HistorySeen) × IsLogOf b log (Ok logs) × IsVerdict b logs verdict
 
 -- the verdict on the text of a log: this row is the first malformed one; or there is none, and the
 -- histories are judged
 abbrev pub ChecksLog : BoardSeen → List ℕ → Verdict → Type 0
 ChecksLog b log verdicts.Lawful = HasVerdict b log verdicts.Lawful
 ChecksLog b log (verdicts.Unlawful line entry) = HasVerdict b log (verdicts.Unlawful line entry)
-ChecksLog b log (verdicts.Malformed row) = IsLogOf b.lines log (Err (refusals.Malformed row))
+ChecksLog b log (verdicts.Malformed row) = IsLogOf b log (Err (refusals.Malformed row))

@@ -74,7 +74,7 @@ fn judge_first<'t, L: IrqLine>(
     let Some(place) = place_of(board, line) else {
         return Ok(None);
     };
-    judges[place].take(kept, line, actor, text)
+    judges[place].take(kept, board, line, actor, text)
 }
 
 fn begins_with_hash(text: &[u8]) -> bool

@@ -8,10 +8,11 @@ ghost use Rattle.log_text.specs.Formed.{HasSmallNumbers, IsSmall};
 
 use crate::comparing::strip_row;
 use crate::judging::step;
+use board_def::Board;
 use irq_base::{Actor, Entry, History, LineNo, NoMemory};
 use irq_line::IrqLine;
 use kept_rows::KeptRows;
-use log_read::{cut_row, read_row};
+use log_read::{cut_row, may_have, read_row};
 use std::marker::Model;
 
 /// What has come of a line's rows so far. While each entry was due, the line has them all. There is
@@ -49,10 +50,12 @@ impl<L: IrqLine> LineJudge<L> {
     }
 
     /// Judges the first row of the text, whose entry can only be of this line and this actor.
-    /// Answers what follows the row; none if it isn't the row of an entry.
+    /// Answers what follows the row; none if it isn't the row of an entry that the board's log may
+    /// have.
     pub(crate) fn take<'t>(
         &mut self,
         kept: &mut KeptRows,
+        board: &Board,
         number: LineNo,
         actor: Actor,
         text: &'t [u8],
@@ -61,32 +64,34 @@ impl<L: IrqLine> LineJudge<L> {
         requires head { IsHead text.now number actor }
         requires room { IfSome self.old.line HasRoom }
         ensures { IfOk result
-            (λ after. Takes text.now number (option_map (λ t. t.now) after) self.old self.new) }
+            (λ after. Takes board.now text.now number (option_map (λ t. t.now) after)
+            self.old self.new) }
     {
         match &mut self.line {
             Some(line) => {
                 let entry = line.history().len() as u32 + 1;
-                match adds(line, kept, number, actor, text)? {
+                match adds(line, kept, board, number, actor, text)? {
                     Some(after) => Ok(Some(after)),
-                    None => Ok(self.stop(entry, text)),
+                    None => Ok(self.stop(board, entry, text)),
                 }
             }
             None => {
                 let entry = self.first.unwrap_or(1);
-                Ok(self.stop(entry, text))
+                Ok(self.stop(board, entry, text))
             }
         }
     }
 
-    /// Notes that the entry of this number isn't due, if the text's first row is that of an entry.
-    /// Answers what follows the row; none if it isn't the row of an entry.
+    /// Notes that the entry of this number isn't due, if the text's first row is that of an entry
+    /// that the board's log may have. Answers what follows the row; none if it isn't such a row.
     #[inline(never)]
-    fn stop<'t>(&mut self, entry: u32, text: &'t [u8]) -> Option<&'t [u8]>
+    fn stop<'t>(&mut self, board: &Board, entry: u32, text: &'t [u8]) -> Option<&'t [u8]>
         requires { 1 ≤ length text.now }
-        ensures { Stops text.now entry (option_map (λ t. t.now) result) self.new }
+        ensures { Stops board.now text.now entry (option_map (λ t. t.now) result) self.new }
     {
         let (row, after) = cut_row(text)?;
-        if read_row(row).is_none() {
+        let (_, said) = read_row(row)?;
+        if !may_have(board, &said) {
             return None;
         }
         self.line = None;
@@ -100,19 +105,24 @@ impl<L: IrqLine> LineJudge<L> {
 fn adds<'t, L: IrqLine>(
     line: &mut L,
     kept: &mut KeptRows,
+    board: &Board,
     number: LineNo,
     actor: Actor,
     text: &'t [u8],
 ) -> Result<Option<&'t [u8]>, NoMemory>
     requires { HasRoom (L.seen line.old) }
-    ensures { IfOk result (λ after. Adds text.now number actor (option_map (λ t. t.now) after)
+    ensures { IfOk result (λ after. Adds board.now text.now number actor
+        (option_map (λ t. t.now) after)
         (L.seen line.old) (L.seen line.new)) }
 {
     let place = line.history().len();
-    match step(line, actor)? {
-        Some(entry) => Ok(after_row_of(kept, number, line.history(), place, entry, text)),
-        None => Ok(None),
+    let Some(entry) = step(line, actor)? else {
+        return Ok(None);
+    };
+    if !may_have(board, &entry) {
+        return Ok(None);
     }
+    Ok(after_row_of(kept, number, line.history(), place, entry, text))
 }
 
 /// What follows the row of this entry of the line, which stands at index `place` of its history;

@@ -5,6 +5,7 @@ ghost use Rattle.std.specs.Prelude.{ℕ, codes, length, slice_get};
 ghost use Rattle.std.specs.List.{AllZip};
 ghost use Rattle.std.specs.Option.{option_map};
 ghost use Rattle.board_def.specs.Layout.{layout_of};
+ghost use Rattle.board_def.specs.Seen.{BoardSeen};
 ghost use Rattle.board_def.specs.declared.rows.LineRow.{LineRow};
 ghost use Rattle.irq_base.specs.declared.lines.LineDef.{LineDef};
 ghost use Rattle.log_check.specs.Judging.{HasRoom, MakesEach, Stands, part_at};
@@ -57,7 +58,7 @@ pub fn explain_log<L: TellsObstacles, M: MakesLine<L>>(
     requires few { length log.now ≤ 67108864 }
     ensures explains { (place : ℕ) (row : LineRow) (said : List LineEntry)
         → slice_get board.now.lines place ≡ Some row → row.line ≡ number
-        → AllZip (IsRowOn board.now.lines) (saying (rows_of log.now)) said
+        → AllZip (IsRowOn board.now) (saying (rows_of log.now)) said
         → IfOk result (Explains (part_at board.now row place) number (rows_of log.now) said) }
     ensures printable { IfOk result (λ undue. IfSome undue (λ u. IsPrintableDue u.due)) }
 {
@@ -83,9 +84,9 @@ fn find_undue<L: TellsObstacles>(
 ) -> Result<Option<Undue>, NoMemory>
     requires new { IsNew (option_map L.seen fresh) }
     requires few { length log.now ≤ 67108864 }
-    ensures explains { (part : Option LineDef) (lines : List LineRow) (said : List LineEntry)
+    ensures explains { (part : Option LineDef) (board : BoardSeen) (said : List LineEntry)
         → Stands part (option_map L.seen fresh) None []
-        → AllZip (IsRowOn lines) (saying (rows_of log.now)) said
+        → AllZip (IsRowOn board) (saying (rows_of log.now)) said
         → IfOk result (Explains part number (rows_of log.now) said) }
     ensures printable { IfOk result (λ undue. IfSome undue (λ u. IsPrintableDue u.due)) }
 {

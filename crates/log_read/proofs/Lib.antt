@@ -2,6 +2,7 @@ mod Cutting
 mod Taking
 mod Digits
 mod Saying
+mod CallKinds
 mod EachKind
 pub mod RowCutting
 pub mod Telling

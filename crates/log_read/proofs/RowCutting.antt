@@ -5,7 +5,7 @@ use Rattle.std.proofs.Common.{◌∙◌, arith}
 use Rattle.std.specs.List.{concat, position, position_or_len, slice_get, join_with_byte}
 use Rattle.std.proofs.lemmas.Bool.{ltb-false, eqb-true}
 use Rattle.std.proofs.lemmas.Bool.Decides.{nat_tests}
-use Rattle.std.proofs.lemmas.List.{append-nil, append_cancel_right}
+use Rattle.std.proofs.lemmas.List.{append_cancel_right}
 use Rattle.std.proofs.lemmas.List.Splits.{join_with_byte-slice_split}
 use Rattle.std.proofs.lemmas.Option.{same_Some}
 use Rattle.irq_base.specs.declared.entries.Entry.{Entry}
@@ -13,10 +13,10 @@ use Rattle.irq_base.specs.declared.numbers.LineNo.{LineNo}
 use Rattle.log_text.proofs.Splitting.{row_words, row_back}
 use Rattle.log_text.specs.EntryWords.{entry_words}
 use Rattle.log_text.specs.Formed.{IsSmall, IsWritable, IsRowOf}
-use Rattle.log_read.proofs.Taking.{both}
+use Rattle.log_read.proofs.Taking.{both_end}
 use Rattle.log_read.specs.Left.{left_of, words_of}
 use Rattle.log_read.specs.LogOf.{is_feed, rows_of, onto_first, is_whole, is_passed_over}
-use Rattle.log_read.specs.Takes.{TakesAs, number_words}
+use Rattle.log_read.specs.Takes.{TakesAs, EndsAs, Both, number_words}
 use Rattle.log_read.specs.declared.words.Words.{Words}
 
 -- cut at the first line feed
@@ -134,16 +134,18 @@ abbrev line_no : ℕ → LineNo
 line_no n = record { 0 = n }
 
 module _ (row : List ℕ) (start mid end : Words) (n : ℕ) (e : Entry) (all : left_of start ≡ Some (words_of row))
-    (number : TakesAs IsSmall number_words (λ m. m) start mid n) (entry : TakesAs IsWritable entry_words (λ f. f) mid end e) where
-  written : (m : ℕ) (f : Entry) → words_of row ≡ (decimal m ∷ entry_words f) ++ []
+    (number : TakesAs IsSmall number_words (λ m. m) start mid n) (entry : EndsAs IsWritable entry_words (λ f. f) mid end e) where
+  whole : EndsAs {Y = ℕ × Entry} (Both IsSmall IsWritable) (λ p. decimal p.0 ∷ entry_words p.1) (λ p. (p.0, p.1)) start end (n, e)
+  whole = both_end (λ m. entry_words) number entry
+
+  written : (m : ℕ) (f : Entry) → words_of row ≡ decimal m ∷ entry_words f
       → row ++ codes "\n" ≡ join_with_byte 32 (decimal m ∷ entry_words f) ++ codes "\n"
-  written m f h =
-      ap (λ r. r ++ codes "\n") (sym (join_with_byte-slice_split 32 row) ∙ ap (join_with_byte 32) (h ∙ append-nil (decimal m ∷ entry_words f)))
+  written m f h = ap (λ r. r ++ codes "\n") (sym (join_with_byte-slice_split 32 row) ∙ ap (join_with_byte 32) h)
 
   pub row_read : left_of end ≡ Some [] → IsRowOf (row ++ codes "\n") (line_no n) e
   row_read done =
-      let s = (both number entry).sound [] done in
-      let text = written s.0.0 s.0.1 (same_Some (words_of row) ((decimal s.0.0 ∷ entry_words s.0.1) ++ []) (sym all ∙ s.3)) in
+      let s = whole.sound done in
+      let text = written s.0.0 s.0.1 (same_Some (words_of row) (decimal s.0.0 ∷ entry_words s.0.1) (sym all ∙ s.3)) in
       let is : IsRowOf (row ++ codes "\n") (line_no s.0.0) s.0.1 = record { text = text; number = s.1.0; writable = s.1.1 } in
       subst (λ (p : ℕ × Entry). IsRowOf (row ++ codes "\n") (line_no p.0) p.1) (sym s.2) is
 
@@ -151,4 +153,4 @@ module _ (row : List ℕ) (start mid end : Words) (n : ℕ) (e : Entry) (all : l
   row_unread undone line f is =
       let same = append_cancel_right row (join_with_byte 32 (row_words line f)) (codes "\n") is.text in
       let words : words_of row ≡ row_words line f = ap words_of same ∙ row_back line f is.number is.writable in
-      undone ((both number entry).complete (line.0, f) [] (is.number, is.writable) (all ∙ ap (λ ws. Some ws) (words ∙ sym (append-nil (row_words line f))))).1
+      undone (whole.complete (line.0, f) (is.number, is.writable) (all ∙ ap (λ ws. Some ws) words)).1

@@ -1,5 +1,5 @@
 -- Answers of more than one word.
-use Rattle.std.proofs.Common.{◌≡◌, ℕ, Some, List, ◌∷◌, ◌++◌, refl, sym, codes, ap, subst, ◌∙◌}
+use Rattle.std.proofs.Common.{◌≡◌, ℕ, Bool, true, false, Option, Some, List, [], ◌∷◌, ◌++◌, refl, sym, codes, ap, subst, ◌∙◌}
 use Rattle.std.proofs.lemmas.Option.{none-some}
 use Rattle.irq_base.specs.declared.entries.AffinityAnswer.{AffinityAnswer}
 use Rattle.irq_base.specs.declared.entries.AffinityAnswer.TheVariants as affinities
@@ -10,12 +10,12 @@ use Rattle.irq_base.specs.declared.entries.LinkAnswer.{LinkAnswer}
 use Rattle.irq_base.specs.declared.entries.LinkAnswer.TheVariants as links
 use Rattle.irq_base.specs.declared.entries.Opened.{Opened}
 use Rattle.irq_base.specs.declared.entries.Opened.TheVariants as opens
-use Rattle.log_text.specs.Words.{resend_word, error_word, opened_words, enable_words, affinity_words}
+use Rattle.log_text.specs.Words.{resend_word, error_word, opened_words, enable_words, affinity_words, edge_words, handled_words}
 use Rattle.log_read.proofs.Taking.{under}
 use Rattle.log_read.specs.Forms.{TakesOpening, TakesEnabling, TakesLinking, TakesMoving, IsLink, IsMoved, link_said}
 use Rattle.log_read.specs.Kinds.{opening_word, linking_word, moving_word}
 use Rattle.log_read.specs.Left.{left_of}
-use Rattle.log_read.specs.Takes.{TakesAs, Takes, Any, one}
+use Rattle.log_read.specs.Takes.{TakesAs, Takes, Ends, Any, one, text_words}
 use Rattle.log_read.specs.declared.kinds.Opening.{Opening}
 use Rattle.log_read.specs.declared.kinds.Opening.TheVariants as openings
 use Rattle.log_read.specs.declared.kinds.Linking.{Linking}
@@ -30,6 +30,12 @@ Sound {X} Fits write old new y = (rest : List (List ℕ)) → left_of new ≡ So
 
 abbrev pub Complete : {X : Type 0} → (X → Type 0) → (X → List (List ℕ)) → Words → Words → X → Type 0
 Complete {X} Fits write old new y = (x : X) (rest : List (List ℕ)) → Fits x → left_of old ≡ Some (write x ++ rest) → (y ≡ x) × (left_of new ≡ Some rest)
+
+abbrev pub EndSound : {X : Type 0} → (X → Type 0) → (X → List (List ℕ)) → Words → Words → X → Type 0
+EndSound {X} Fits write old new y = left_of new ≡ Some [] → (x : X) × Fits x × (y ≡ x) × (left_of old ≡ Some (write x))
+
+abbrev pub EndComplete : {X : Type 0} → (X → Type 0) → (X → List (List ℕ)) → Words → Words → X → Type 0
+EndComplete {X} Fits write old new y = (x : X) → Fits x → left_of old ≡ Some (write x) → (y ≡ x) × (left_of new ≡ Some [])
 
 module _ (old mid new : Words) where
   opened_sound : (opening : Opening) (y : Opened) → Takes (one opening_word) old mid opening → TakesOpening opening mid new y → Sound Any opened_words old new y
@@ -110,3 +116,54 @@ module _ (old mid new : Words) where
   pub moved_takes : (moving : Moving) (y : AffinityAnswer) → Takes (one moving_word) old mid moving
       → TakesMoving moving mid new y → TakesAs IsMoved affinity_words (λ answer. answer) old new y
   moved_takes moving y took t = record { sound = moved_sound moving y took t; complete = moved_complete moving y took t }
+
+-- last words that some rows lack
+
+pub edge_ended : (words : Words) → left_of words ≡ Some [] → Ends edge_words words words true
+edge_ended words none = record { sound = λ h. (true, tt, refl, none); complete = λ x fits h. (by x (sym none ∙ h), none) }
+  where
+    by : (x : Bool) → ◌≡◌ {A = Option (List (List ℕ))} (Some []) (Some (edge_words x)) → true ≡ x
+    by true h = refl
+    by false h = cc
+
+pub edge_said : (old new : Words) → (left_of old ≡ Some [] → ⊥) → TakesAs Any (text_words (codes "no")) (λ u. u) old new tt → Ends edge_words old new false
+edge_said old new some t = record { sound = λ h. let s = t.sound [] h in (false, tt, refl, s.3); complete = λ x fits h. by x h }
+  where
+    by : (x : Bool) → left_of old ≡ Some (edge_words x) → (false ≡ x) × (left_of new ≡ Some [])
+    by true h = absurd (some h)
+    by false h = (refl, (t.complete tt [] tt h).1)
+
+abbrev pub HandledEnds : Bool → Words → Words → Bool → Type 0
+HandledEnds served old new x = Ends (λ handled. handled_words handled served) old new x
+
+pub handled_ended : (words : Words) (served : Bool) → left_of words ≡ Some [] → HandledEnds served words words served
+handled_ended words served none = record {
+  sound = λ h. (served, tt, refl, none ∙ ap (λ ws. Some ws) (sym (told served)));
+  complete = λ x fits h. (by x served (sym none ∙ h), none);
+}
+  where
+    told : (x : Bool) → handled_words x x ≡ []
+    told true = refl
+    told false = refl
+
+    by : (x s : Bool) → ◌≡◌ {A = Option (List (List ℕ))} (Some []) (Some (handled_words x s)) → s ≡ x
+    by true true h = refl
+    by true false h = cc
+    by false true h = cc
+    by false false h = refl
+
+pub handled_nothing : (old new : Words) (served : Bool) → served ≡ true → (left_of old ≡ Some [] → ⊥)
+    → TakesAs Any (text_words (codes "nothing")) (λ u. u) old new tt → HandledEnds served old new false
+handled_nothing old new served is some t = rw is (record { sound = λ h. let s = t.sound [] h in (false, tt, refl, s.3); complete = λ x fits h. by x h })
+  where
+    by : (x : Bool) → left_of old ≡ Some (handled_words x true) → (false ≡ x) × (left_of new ≡ Some [])
+    by true h = absurd (some h)
+    by false h = (refl, (t.complete tt [] tt h).1)
+
+pub handled_handled : (old new : Words) (served : Bool) → served ≡ false → (left_of old ≡ Some [] → ⊥)
+    → TakesAs Any (text_words (codes "handled")) (λ u. u) old new tt → HandledEnds served old new true
+handled_handled old new served is some t = rw is (record { sound = λ h. let s = t.sound [] h in (true, tt, refl, s.3); complete = λ x fits h. by x h })
+  where
+    by : (x : Bool) → left_of old ≡ Some (handled_words x false) → (true ≡ x) × (left_of new ≡ Some [])
+    by true h = (refl, (t.complete tt [] tt h).1)
+    by false h = absurd (some h)

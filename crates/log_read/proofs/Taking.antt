@@ -1,10 +1,11 @@
 -- Pieces of a row, put together.
-use Rattle.std.proofs.Common.{◌≡◌, ℕ, Option, Some, None, List, ◌∷◌, ◌++◌, refl, sym, ap, ◌∙◌, append_assoc}
+use Rattle.std.proofs.Common.{◌≡◌, ℕ, Option, Some, None, List, [], ◌∷◌, ◌++◌, refl, sym, ap, ◌∙◌, append_assoc}
+use Rattle.std.proofs.lemmas.List.{append-nil}
 use Rattle.std.proofs.lemmas.Option.{none-some}
 use Rattle.std.specs.Prelude.{MatchOption}
 use Rattle.log_read.specs.Forms.{no_words}
 use Rattle.log_read.specs.Left.{left_of}
-use Rattle.log_read.specs.Takes.{TakesAs, Takes, Any, one, Both, then, Reads}
+use Rattle.log_read.specs.Takes.{TakesAs, EndsAs, Takes, Any, one, Both, then, Reads}
 use Rattle.log_read.specs.declared.words.Words.{Words}
 
 -- a value, made into another
@@ -68,4 +69,58 @@ pub nothing : {Y : Type 0} (words : Words) (y : Y) → TakesAs Any no_words (λ 
 nothing words y = record {
   sound = λ rest h. (tt, tt, refl, h);
   complete = λ u rest fits h. (refl, h);
+}
+
+-- pieces that end a row
+
+pub ends : {X Y : Type 0} {F : X → Type 0} {f : X → List (List ℕ)} {m : X → Y} {old new : Words} {y : Y}
+    → TakesAs F f m old new y → EndsAs F f m old new y
+ends {f = f} t = record {
+  sound = λ h. let s = t.sound [] h in (s.0, s.1, s.2, s.3 ∙ ap (λ ws. Some ws) (append-nil (f s.0)));
+  complete = λ x fits h. t.complete x [] fits (h ∙ ap (λ ws. Some ws) (sym (append-nil (f x))));
+}
+
+pub made_end : {X Y Z : Type 0} {F : X → Type 0} {f : X → List (List ℕ)} {m : X → Y} {old new : Words} {y : Y} (k : Y → Z)
+    → EndsAs F f m old new y → EndsAs F f (λ x. k (m x)) old new (k y)
+made_end k t = record {
+  sound = λ h. let s = t.sound h in (s.0, s.1, ap k s.2, s.3);
+  complete = λ x fits h. let s = t.complete x fits h in (ap k s.0, s.1);
+}
+
+-- two values, the second at the row's end; how it is written may go by the first
+pub both_end : {X Y B : Type 0} {F : X → Type 0} {G : Y → Type 0} {f : X → List (List ℕ)}
+    {n : Y → B} {old mid new : Words} {a : X} {b : B} (g : X → Y → List (List ℕ))
+    → TakesAs F f (λ x. x) old mid a → EndsAs G (g a) n mid new b
+    → EndsAs {Y = X × B} (Both F G) (λ p. f p.0 ++ g p.0 p.1) (λ p. (p.0, n p.1)) old new (a, b)
+both_end {f = f} {n = n} {a = a} {b = b} g s t = record {
+  sound = λ h.
+      let second = t.sound h in
+      let first = s.sound (g a second.0) second.3 in (
+        (first.0, second.0),
+        (first.1, second.1),
+        ap (λ x. (x, b)) first.2 ∙ ap (λ y. (first.0, y)) second.2,
+        first.3 ∙ ap (λ x. Some (f first.0 ++ g x second.0)) first.2,
+      );
+  complete = λ p fits h.
+      let first = s.complete p.0 (g p.0 p.1) fits.0 h in
+      let second = t.complete p.1 fits.1 (first.1 ∙ ap (λ x. Some (g x p.1)) (sym first.0)) in
+      (ap (λ x. (x, b)) first.0 ∙ ap (λ y. (p.0, y)) second.0, second.1);
+}
+
+pub under_end : {V X Y : Type 0} {F : X → Type 0} {verb : V} {word : V → List ℕ} {f : X → List (List ℕ)} {m : X → Y} {old mid new : Words} {y : Y}
+    → Takes (one word) old mid verb → EndsAs F f m mid new y → EndsAs F (λ x. word verb ∷ f x) m old new y
+under_end {verb = verb} {word = word} {f = f} took t = record {
+  sound = λ h.
+      let s = t.sound h in
+      let v = took.sound (f s.0) s.3 in
+      (s.0, s.1, s.2, v.3 ∙ ap (λ w. Some (word w ∷ f s.0)) (sym v.2));
+  complete = λ x fits h. let v = took.complete verb (f x) tt h in t.complete x fits v.1;
+}
+
+-- a word that is this verb's
+pub known : {V : Type 0} {word_of : V → List ℕ} {old mid : Words} {word : List ℕ} {verb : V} → ((a b : V) → word_of a ≡ word_of b → a ≡ b)
+    → Takes (one (λ w. w)) old mid word → word ≡ word_of verb → Takes (one word_of) old mid verb
+known {word_of = word_of} {verb = verb} tell took is = record {
+  sound = λ rest h. let s = took.sound rest h in (verb, tt, refl, s.3 ∙ ap (λ w. Some (w ∷ rest)) (sym s.2 ∙ is));
+  complete = λ v rest fits h. let s = took.complete (word_of v) rest tt h in (tell verb v (sym is ∙ s.0), s.1);
 }

@@ -20,6 +20,7 @@ use Rattle.log_text.proofs.Splitting.{row_words}
 use Rattle.log_text.specs.Formed.{IsRowOf}
 use Rattle.log_read.proofs.RowCutting.{whole_row}
 use Rattle.log_read.specs.Adding.{Adds, AddsSaid, IsPlaceOf, Judges}
+use Rattle.log_read.specs.Versions.{may_have}
 use Rattle.log_read.specs.LogOf.{rows_of, onto_first, is_feed, is_whole, begins_with_hash, is_passed_over, LineEntry}
 use Rattle.log_read.specs.LogOf.{IsRowOn, IsRow, saying, entries_on, Tell, IsFirstMalformed, entries_of}
 
@@ -144,18 +145,18 @@ zip_push R [] (z ∷ ys) x y all r = absurd all
 zip_push R (z ∷ xs) [] x y all r = absurd all
 zip_push R (w ∷ xs) (z ∷ ys) x y all r = (all.0, zip_push R xs ys x y all.1 r)
 
-pub tell_none : (lines : List LineRow) (histories : List (List Entry)) → histories ≡ map (λ (row : LineRow). []) lines → Tell lines [] histories
-tell_none lines histories h = record { said = []; each = tt; are = h }
+pub tell_none : (b : BoardSeen) (histories : List (List Entry)) → histories ≡ map (λ (row : LineRow). []) b.lines → Tell b [] histories
+tell_none b histories h = record { said = []; each = tt; are = h }
 
 abbrev says : List ℕ → Bool
 says row = not (is_passed_over row)
 
-tell_passed : (lines : List LineRow) (rows : List (List ℕ)) (row : List ℕ) (histories : List (List Entry))
-    → Tell lines rows histories → is_passed_over row ≡ true → Tell lines (rows ++ row ∷ []) histories
-tell_passed lines rows row histories told passed =
+tell_passed : (b : BoardSeen) (rows : List (List ℕ)) (row : List ℕ) (histories : List (List Entry))
+    → Tell b rows histories → is_passed_over row ≡ true → Tell b (rows ++ row ∷ []) histories
+tell_passed b rows row histories told passed =
     let same : saying (rows ++ row ∷ []) ≡ saying rows =
     filter-append says rows (row ∷ []) ∙ (ap (λ t. saying rows ++ cond (not t) (row ∷ []) []) passed ∙ append-nil (saying rows)) in
-    record { said = told.said; each = subst (λ rs. AllZip (IsRowOn lines) rs told.said) (sym same) told.each; are = told.are }
+    record { said = told.said; each = subst (λ rs. AllZip (IsRowOn b) rs told.said) (sym same) told.each; are = told.are }
 
 module _ (b : BoardSeen) (board : IsBoard b) where
   changed : (said : List LineEntry) (s : LineEntry) (place : ℕ) → IsPlaceOf b.lines s.0 place
@@ -181,52 +182,52 @@ module _ (b : BoardSeen) (board : IsBoard b) where
       other : (i : ℕ) (x : LineRow) → slice_get b.lines i ≡ Some x → (i ≡ place → ⊥) → eqb s.0.0 x.line.0 ≡ false
       other i x atx differ = ap (λ (l : LineNo). eqb l.0 x.line.0) (sym at.2) ∙ other_line b i place x at.0 board atx at.1 differ
 
-  tell_more : (rows : List (List ℕ)) (row : List ℕ) (old new : List (List Entry)) → Tell b.lines rows old
-      → AddsSaid b.lines row old new → Tell b.lines (rows ++ row ∷ []) new
+  tell_more : (rows : List (List ℕ)) (row : List ℕ) (old new : List (List Entry)) → Tell b rows old
+      → AddsSaid b row old new → Tell b (rows ++ row ∷ []) new
   tell_more rows row old new told (s, place, on, unpassed, at, added) =
       let same : saying (rows ++ row ∷ []) ≡ saying rows ++ row ∷ [] =
       filter-append says rows (row ∷ []) ∙ ap (λ t. saying rows ++ cond (not t) (row ∷ []) []) unpassed in
       record {
         said = told.said ++ s ∷ [];
-        each = subst (λ rs. AllZip (IsRowOn b.lines) rs (told.said ++ s ∷ [])) (sym same)
-            (zip_push (IsRowOn b.lines) (saying rows) told.said row s told.each on);
+        each = subst (λ rs. AllZip (IsRowOn b) rs (told.said ++ s ∷ [])) (sym same)
+            (zip_push (IsRowOn b) (saying rows) told.said row s told.each on);
         are = added ∙ (ap (λ (o : List (List Entry)). slice_set o place (get_or o place [] ++ s.1 ∷ [])) told.are ∙ changed told.said s place at);
       }
 
   pub tell_next : (rows : List (List ℕ)) (n : ℕ) (row : List ℕ) (tail : List (List ℕ)) (old new : List (List Entry)) → drop n rows ≡ row ∷ tail
-      → Tell b.lines (take n rows) old → Judges b.lines row true old new → Tell b.lines (take (n + 1) rows) new
+      → Tell b (take n rows) old → Judges b row true old new → Tell b (take (n + 1) rows) new
   tell_next rows n row tail old new at told (inl passed) =
-      subst (λ rs. Tell b.lines rs new) (sym (take_next rows n row tail at))
-      (tell_passed b.lines (take n rows) row new (subst (λ o. Tell b.lines (take n rows) o) (sym passed.1) told) passed.0)
+      subst (λ rs. Tell b rs new) (sym (take_next rows n row tail at))
+      (tell_passed b (take n rows) row new (subst (λ o. Tell b (take n rows) o) (sym passed.1) told) passed.0)
   tell_next rows n row tail old new at told (inr said) =
-      subst (λ rs. Tell b.lines rs new) (sym (take_next rows n row tail at)) (tell_more (take n rows) row old new told said)
+      subst (λ rs. Tell b rs new) (sym (take_next rows n row tail at)) (tell_more (take n rows) row old new told said)
 
 -- rows that tell are in order
 
-fine_by : (lines : List LineRow) (t : Bool) (row : List ℕ) (rows : List (List ℕ)) (said : List LineEntry) → is_passed_over row ≡ t
-    → AllZip (IsRowOn lines) (cond (not t) (row ∷ saying rows) (saying rows)) said
-    → ((ss : List LineEntry) → AllZip (IsRowOn lines) (saying rows) ss → All (IsRow lines) rows) → All (IsRow lines) (row ∷ rows)
-fine_by lines true row rows said is all rest = All-cons (IsRow lines) row rows (inl is) (rest said all)
-fine_by lines false row rows [] is all rest = absurd all
-fine_by lines false row rows (s ∷ ss) is all rest = All-cons (IsRow lines) row rows (inr (s, all.0)) (rest ss all.1)
+fine_by : (b : BoardSeen) (t : Bool) (row : List ℕ) (rows : List (List ℕ)) (said : List LineEntry) → is_passed_over row ≡ t
+    → AllZip (IsRowOn b) (cond (not t) (row ∷ saying rows) (saying rows)) said
+    → ((ss : List LineEntry) → AllZip (IsRowOn b) (saying rows) ss → All (IsRow b) rows) → All (IsRow b) (row ∷ rows)
+fine_by b true row rows said is all rest = All-cons (IsRow b) row rows (inl is) (rest said all)
+fine_by b false row rows [] is all rest = absurd all
+fine_by b false row rows (s ∷ ss) is all rest = All-cons (IsRow b) row rows (inr (s, all.0)) (rest ss all.1)
 
-fine : (lines : List LineRow) (rows : List (List ℕ)) (said : List LineEntry) → AllZip (IsRowOn lines) (saying rows) said → All (IsRow lines) rows
-fine lines [] said all = All-nil (IsRow lines)
-fine lines (row ∷ rows) said all = fine_by lines (is_passed_over row) row rows said refl all (λ ss. fine lines rows ss)
+fine : (b : BoardSeen) (rows : List (List ℕ)) (said : List LineEntry) → AllZip (IsRowOn b) (saying rows) said → All (IsRow b) rows
+fine b [] said all = All-nil (IsRow b)
+fine b (row ∷ rows) said all = fine_by b (is_passed_over row) row rows said refl all (λ ss. fine b rows ss)
 
-pub unended_row : (lines : List LineRow) (row : List ℕ) → is_whole row ≡ false → IsRow lines row → ⊥
-unended_row lines row unended (inl passed) = false≢true (sym unended ∙ (and_parts (begins_with_hash row) (is_whole row) passed).1)
-unended_row lines row unended (inr (said, on)) = false≢true
+pub unended_row : (b : BoardSeen) (row : List ℕ) → is_whole row ≡ false → IsRow b row → ⊥
+unended_row b row unended (inl passed) = false≢true (sym unended ∙ (and_parts (begins_with_hash row) (is_whole row) passed).1)
+unended_row b row unended (inr (said, on)) = false≢true
     (sym unended ∙ (ap is_whole on.formed.text ∙ whole_row (join_with_byte 32 (row_words said.0 said.1))))
 
-pub first_malformed : (lines : List LineRow) (rows : List (List ℕ)) (n : ℕ) (row : List ℕ) (tail : List (List ℕ))
+pub first_malformed : (b : BoardSeen) (rows : List (List ℕ)) (n : ℕ) (row : List ℕ) (tail : List (List ℕ))
     (histories : List (List Entry)) → drop n rows ≡ row ∷ tail
-    → Tell lines (take n rows) histories → (IsRow lines row → ⊥) → IsFirstMalformed lines rows (n + 1)
-first_malformed lines rows n row tail histories at told wrong =
+    → Tell b (take n rows) histories → (IsRow b row → ⊥) → IsFirstMalformed b rows (n + 1)
+first_malformed b rows n row tail histories at told wrong =
     let e : n + 1 - 1 ≡ n = omega arith in
     record {
       counted = omega arith;
-      before = All-same (IsRow lines) (take (n + 1 - 1) rows) (take n rows) (ap (λ m. take m rows) e) (fine lines (take n rows) told.said told.each);
+      before = All-same (IsRow b) (take (n + 1 - 1) rows) (take n rows) (ap (λ m. take m rows) e) (fine b (take n rows) told.said told.each);
       malformed = (row, ap (λ m. slice_get rows m) e ∙ get_drop rows n row tail at, wrong);
     }
 
@@ -277,19 +278,19 @@ unmapped (h ∷ logs) n all =
     All-cons (λ (h : HistorySeen). length h.entries ≤ n) h logs (All-head (λ (es : List Entry). length es ≤ n) h.entries (entries_of logs) all)
     (unmapped logs n (All-tail (λ (es : List Entry). length es ≤ n) h.entries (entries_of logs) all))
 
-pub short_logs : (lines : List LineRow) (text : List ℕ) (logs : List HistorySeen)
-    → Tell lines (rows_of text) (entries_of logs) → All (λ (h : HistorySeen). length h.entries ≤ length text) logs
-short_logs lines text logs told =
-    let a = zip_short (IsRowOn lines) (saying (rows_of text)) told.said told.each in
-    let b = few_saying (rows_of text) in
+pub short_logs : (b : BoardSeen) (text : List ℕ) (logs : List HistorySeen)
+    → Tell b (rows_of text) (entries_of logs) → All (λ (h : HistorySeen). length h.entries ≤ length text) logs
+short_logs b text logs told =
+    let a = zip_short (IsRowOn b) (saying (rows_of text)) told.said told.each in
+    let f = few_saying (rows_of text) in
     let c = few_rows text in
     unmapped logs (length text) (All-same (λ (es : List Entry). length es ≤ length text) (entries_of logs) _ told.are
-    (all_short (λ (row : LineRow). entries_on told.said row.line) lines (length text)
-    (λ row. let d = short_on told.said row.line in omega (arith, a, b, c, d))))
+    (all_short (λ (row : LineRow). entries_on told.said row.line) b.lines (length text)
+    (λ row. let d = short_on told.said row.line in omega (arith, a, f, c, d))))
 
-pub as_many : (lines : List LineRow) (rows : List (List ℕ)) (logs : List HistorySeen) → Tell lines rows (entries_of logs) → length logs ≡ length lines
-as_many lines rows logs told =
-    sym (length-map logs (λ (h : HistorySeen). h.entries)) ∙ (ap length told.are ∙ length-map lines (λ (row : LineRow). entries_on told.said row.line))
+pub as_many : (b : BoardSeen) (rows : List (List ℕ)) (logs : List HistorySeen) → Tell b rows (entries_of logs) → length logs ≡ length b.lines
+as_many b rows logs told =
+    sym (length-map logs (λ (h : HistorySeen). h.entries)) ∙ (ap length told.are ∙ length-map b.lines (λ (row : LineRow). entries_on told.said row.line))
 
 -- an empty history for each line
 
@@ -314,28 +315,36 @@ empty_more lines n logs new h less so_far none is =
 
 -- a row of a line that isn't the board's
 
-pub undeclared : (lines : List LineRow) (row : List ℕ) (line : LineNo) (e : Entry) → IsRowOf row line e
-    → has_line lines line ≡ false → is_passed_over row ≡ false → IsRow lines row → ⊥
-undeclared lines row line e is unknown unpassed (inl passed) = false≢true (sym unpassed ∙ passed)
-undeclared lines row line e is unknown unpassed (inr (said, on)) =
+pub undeclared : (b : BoardSeen) (row : List ℕ) (line : LineNo) (e : Entry) → IsRowOf row line e
+    → has_line b.lines line ≡ false → is_passed_over row ≡ false → IsRow b row → ⊥
+undeclared b row line e is unknown unpassed (inl passed) = false≢true (sym unpassed ∙ passed)
+undeclared b row line e is unknown unpassed (inr (said, on)) =
     let same = (rows_tell row said.0 line said.1 e on.formed is).0 in
-    false≢true (sym unknown ∙ (ap (has_line lines) (sym same) ∙ on.declared))
+    false≢true (sym unknown ∙ (ap (has_line b.lines) (sym same) ∙ on.declared))
 
-pub judged_wrong : (lines : List LineRow) (row : List ℕ) (t : Bool) (old new : List (List Entry)) → t ≡ false → Judges lines row t old new → IsRow lines row → ⊥
-judged_wrong lines row true old new h judged = absurd (false≢true (sym h))
-judged_wrong lines row false old new h judged = judged
+-- a row that only later versions have
+pub unallowed : (b : BoardSeen) (row : List ℕ) (line : LineNo) (e : Entry) → IsRowOf row line e
+    → may_have b.version e ≡ false → is_passed_over row ≡ false → IsRow b row → ⊥
+unallowed b row line e is other unpassed (inl passed) = false≢true (sym unpassed ∙ passed)
+unallowed b row line e is other unpassed (inr (said, on)) =
+    let same = (rows_tell row said.0 line said.1 e on.formed is).1 in
+    false≢true (sym other ∙ (ap (may_have b.version) (sym same) ∙ on.allowed))
 
-pub judged_fine : (lines : List LineRow) (row : List ℕ) (t : Bool) (old new : List (List Entry)) → t ≡ true
-    → Judges lines row t old new → Judges lines row true old new
-judged_fine lines row true old new h judged = judged
-judged_fine lines row false old new h judged = absurd (false≢true h)
+pub judged_wrong : (b : BoardSeen) (row : List ℕ) (t : Bool) (old new : List (List Entry)) → t ≡ false → Judges b row t old new → IsRow b row → ⊥
+judged_wrong b row true old new h judged = absurd (false≢true (sym h))
+judged_wrong b row false old new h judged = judged
+
+pub judged_fine : (b : BoardSeen) (row : List ℕ) (t : Bool) (old new : List (List Entry)) → t ≡ true
+    → Judges b row t old new → Judges b row true old new
+judged_fine b row true old new h judged = judged
+judged_fine b row false old new h judged = absurd (false≢true h)
 
 -- no row is left
 
 pub all_taken : {X : Type 0} (xs : List X) (n : ℕ) → drop n xs ≡ [] → take n xs ≡ xs
 all_taken xs n h = sym (append-nil (take n xs)) ∙ (ap (λ (ys : List _). take n xs ++ ys) (sym h) ∙ take-append-drop n xs)
 
-pub all_told : (lines : List LineRow) (text rest : List ℕ) (n : ℕ) (logs : List HistorySeen) → rows_of rest ≡ drop n (rows_of text) → length rest ≡ 0
-    → Tell lines (take n (rows_of text)) (entries_of logs) → Tell lines (rows_of text) (entries_of logs)
-all_told lines text [] n logs left none told = subst (λ rows. Tell lines rows (entries_of logs)) (all_taken (rows_of text) n (sym left)) told
-all_told lines text (b ∷ bs) n logs left none told = absurd (omega (arith, none))
+pub all_told : (b : BoardSeen) (text rest : List ℕ) (n : ℕ) (logs : List HistorySeen) → rows_of rest ≡ drop n (rows_of text) → length rest ≡ 0
+    → Tell b (take n (rows_of text)) (entries_of logs) → Tell b (rows_of text) (entries_of logs)
+all_told b text [] n logs left none told = subst (λ rows. Tell b rows (entries_of logs)) (all_taken (rows_of text) n (sym left)) told
+all_told b text (c ∷ cs) n logs left none told = absurd (omega (arith, none))

@@ -1,5 +1,6 @@
 -- What follows the verb of a row, verb by verb; and what follows the first word of an answer.
-use Rattle.std.specs.Prelude.{◌≡◌, ℕ, nat_lt, true, None, List, [], codes}
+use Rattle.std.specs.Prelude.{◌≡◌, ℕ, nat_lt, Bool, Some, None, List, [], ◌∷◌, ◌++◌, codes}
+use Rattle.std.specs.Prelude.{decimal}
 use Rattle.irq_base.specs.Who.{actor_of}
 use Rattle.irq_base.specs.declared.entries.Actor.{Actor}
 use Rattle.irq_base.specs.declared.entries.AffinityAnswer.{AffinityAnswer}
@@ -13,7 +14,6 @@ use Rattle.irq_base.specs.declared.entries.DriverEntry.TheVariants as drivers
 use Rattle.irq_base.specs.declared.entries.EnableAnswer.{EnableAnswer}
 use Rattle.irq_base.specs.declared.entries.EnableAnswer.TheVariants as enables
 use Rattle.irq_base.specs.declared.entries.Entry.{Entry}
-use Rattle.irq_base.specs.declared.entries.Entry.TheVariants as by
 use Rattle.irq_base.specs.declared.entries.Errno.TheVariants as errnos
 use Rattle.irq_base.specs.declared.entries.LinkAnswer.{LinkAnswer}
 use Rattle.irq_base.specs.declared.entries.LinkAnswer.TheVariants as links
@@ -22,23 +22,20 @@ use Rattle.irq_base.specs.declared.entries.Opened.TheVariants as opens
 use Rattle.irq_base.specs.declared.entries.ThreadEntry.{ThreadEntry}
 use Rattle.irq_base.specs.declared.entries.ThreadEntry.TheVariants as threads
 use Rattle.irq_base.specs.declared.numbers.DevNo.{DevNo}
-use Rattle.irq_base.specs.declared.numbers.DriverNo.{DriverNo}
-use Rattle.log_text.specs.EntryWords.{IsPrintableThread}
-use Rattle.log_text.specs.Formed.{IsSmall, IsWritable, HasSmallThread}
+use Rattle.log_text.specs.EntryWords.{call_words}
+use Rattle.log_text.specs.Formed.{IsSmall, IsWritable, HasSmallCall}
 use Rattle.log_text.specs.Words.{way_word, take_word, answer_word, loop_word, mask_word}
 use Rattle.log_text.specs.Words.{note_word, bit_word, resend_word, error_word, flags_word}
 use Rattle.log_text.specs.Words.{unlink_word, enable_words, opened_words, link_words}
-use Rattle.log_text.specs.Words.{affinity_words}
+use Rattle.log_text.specs.Words.{affinity_words, yes_word, edge_words, handled_words}
 use Rattle.log_read.specs.Left.{left_of}
-use Rattle.log_read.specs.Takes.{TakesAs, Any, one, number_words, Both, then, text_words}
+use Rattle.log_read.specs.Takes.{TakesAs, EndsAs, Any, one, number_words, Both, then, text_words}
 use Rattle.log_read.specs.declared.cpus.CpuVerb.{CpuVerb}
 use Rattle.log_read.specs.declared.cpus.CpuVerb.TheVariants as cpu_verbs
 use Rattle.log_read.specs.declared.threads.ThreadVerb.{ThreadVerb}
 use Rattle.log_read.specs.declared.threads.ThreadVerb.TheVariants as thread_verbs
 use Rattle.log_read.specs.declared.drivers.DriverVerb.{DriverVerb}
 use Rattle.log_read.specs.declared.drivers.DriverVerb.TheVariants as driver_verbs
-use Rattle.log_read.specs.declared.drivers.DriverAct.{DriverAct}
-use Rattle.log_read.specs.declared.drivers.DriverAct.TheVariants as acts
 use Rattle.log_read.specs.declared.calls.CallVerb.{CallVerb}
 use Rattle.log_read.specs.declared.calls.CallVerb.TheVariants as call_verbs
 use Rattle.log_read.specs.declared.kinds.Opening.{Opening}
@@ -115,20 +112,23 @@ TakesCpu cpu_verbs.End old new e =
     TakesAs (Both Any (Both Any Any)) (then (one loop_word)
     (then (one mask_word) (one note_word))) (λ p. cpus.End p.0 p.1.0 p.1.1) old new e
 
--- a thread's number tells whether its answer is that it handled something
+-- what a thread's handler answered follows its number, unless that tells
+abbrev pub returned_words : ℕ × Bool → List (List ℕ)
+returned_words p = decimal p.0 ∷ handled_words p.1 (nat_lt 0 p.0)
+
 abbrev pub TakesThread : ThreadVerb → Words → Words → ThreadEntry → Type 0
 TakesThread thread_verbs.Begin old new e = TakesAs Any no_words (λ u. threads.Begin) old new e
 TakesThread thread_verbs.Return old new e =
-    TakesAs IsSmall number_words (λ n. threads.Return (nat_lt 0 n) n) old new e
+    EndsAs (Both IsSmall Any) returned_words (λ p. threads.Return p.1 p.0) old new e
 TakesThread thread_verbs.Finish old new e
     = TakesAs (Both Any Any) (then (one bit_word) (one mask_word))
     (λ p. threads.Finish p.0 p.1) old new e
 TakesThread thread_verbs.Done old new e = TakesAs Any no_words (λ u. threads.Done) old new e
 
--- an ask has a row if it makes an edge
 abbrev pub TakesDriver : DriverVerb → Words → Words → DriverEntry → Type 0
 TakesDriver driver_verbs.Ask old new e =
-    TakesAs IsSmall number_words (λ n. drivers.Ask true (dev_no n)) old new e
+    EndsAs (Both IsSmall Any) (then number_words edge_words) (λ p. drivers.Ask p.1 (dev_no p.0))
+    old new e
 TakesDriver driver_verbs.Request old new e =
     TakesAs (Both IsSmall (Both Any IsLink)) (then number_words (then (one flags_word) link_said))
     (λ p. drivers.Request p.1.0 p.1.1.0 p.1.1.1 (dev_no p.0)) old new e
@@ -149,17 +149,26 @@ TakesCall call_verbs.Unlink old new e =
     (λ p. called.Unlink p.1 (dev_no p.0)) old new e
 TakesCall call_verbs.Freed old new e =
     TakesAs IsSmall number_words (λ n. called.Freed (dev_no n)) old new e
+TakesCall call_verbs.Wake old new e =
+    TakesAs (Both IsSmall Any) (then number_words (one yes_word))
+    (λ p. called.Wake p.1 (dev_no p.0)) old new e
+TakesCall call_verbs.Quiet old new e =
+    TakesAs IsSmall number_words (λ n. called.Quiet (dev_no n)) old new e
+TakesCall call_verbs.Arm old new e =
+    TakesAs (Both IsSmall Any) (then number_words (one yes_word))
+    (λ p. called.Arm p.1 (dev_no p.0)) old new e
+TakesCall call_verbs.Serve old new e =
+    TakesAs (Both IsSmall IsSmall) (then number_words number_words)
+    (λ p. called.Serve (dev_no p.0) p.1) old new e
 
--- what only a driver does, or a call that it makes
-abbrev pub TakesAct : DriverNo → DriverAct → Words → Words → Entry → Type 0
-TakesAct driver (acts.Own verb) old new e =
-    (own : DriverEntry) × TakesDriver verb old new own × (e ≡ by.Driver driver own)
-TakesAct driver (acts.Call verb) old new e =
-    (call : CallEntry) × TakesCall verb old new call × (e ≡ by.DriverCall driver call)
-
--- what a thread did has a row
-abbrev pub FitsThread : ThreadEntry → Type 0
-FitsThread e = IsPrintableThread e × HasSmallThread e
+-- a call, of which this is the first word, and the others are left
+pub record TakesCallFrom (word : List ℕ) (old new : Words) (e : CallEntry) : Type 0 where
+  pub sound : (rest : List (List ℕ)) → left_of new ≡ Some rest
+      → (x : CallEntry) × HasSmallCall x × (e ≡ x)
+      × (words : List (List ℕ)) × (left_of old ≡ Some words) × (word ∷ words ≡ call_words x ++ rest)
+  pub complete : (x : CallEntry) (rest words : List (List ℕ)) → HasSmallCall x
+      → left_of old ≡ Some words → word ∷ words ≡ call_words x ++ rest
+      → (e ≡ x) × (left_of new ≡ Some rest)
 
 -- this actor made the entry
 abbrev pub IsBy : Actor → Entry → Type 0

@@ -6,8 +6,6 @@ use Rattle.log_read.specs.declared.threads.ThreadVerb.{ThreadVerb}
 use Rattle.log_read.specs.declared.threads.ThreadVerb.TheVariants as thread_verbs
 use Rattle.log_read.specs.declared.drivers.DriverVerb.{DriverVerb}
 use Rattle.log_read.specs.declared.drivers.DriverVerb.TheVariants as driver_verbs
-use Rattle.log_read.specs.declared.drivers.DriverAct.{DriverAct}
-use Rattle.log_read.specs.declared.drivers.DriverAct.TheVariants as acts
 use Rattle.log_read.specs.declared.calls.CallVerb.{CallVerb}
 use Rattle.log_read.specs.declared.calls.CallVerb.TheVariants as call_verbs
 use Rattle.log_read.specs.declared.kinds.Opening.{Opening}
@@ -42,10 +40,10 @@ call_verb_word call_verbs.Synced = codes "synced"
 call_verb_word call_verbs.Enable = codes "enable"
 call_verb_word call_verbs.Unlink = codes "unlink"
 call_verb_word call_verbs.Freed = codes "freed"
-
-abbrev pub driver_act_word : DriverAct → List ℕ
-driver_act_word (acts.Own verb) = driver_verb_word verb
-driver_act_word (acts.Call verb) = call_verb_word verb
+call_verb_word call_verbs.Wake = codes "wake"
+call_verb_word call_verbs.Quiet = codes "quiet"
+call_verb_word call_verbs.Arm = codes "arm"
+call_verb_word call_verbs.Serve = codes "serve"
 
 abbrev pub opening_word : Opening → List ℕ
 opening_word openings.No = codes "no"

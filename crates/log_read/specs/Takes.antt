@@ -14,12 +14,23 @@ pub record TakesAs {X Y : Type 0} (Fits : X → Type 0) (write : X → List (Lis
   pub complete : (x : X) (rest : List (List ℕ)) → Fits x → left_of old ≡ Some (write x ++ rest)
       → (y ≡ make x) × (left_of new ≡ Some rest)
 
+-- the same of a piece that ends a row: no word is left behind it
+pub record EndsAs {X Y : Type 0} (Fits : X → Type 0) (write : X → List (List ℕ)) (make : X → Y)
+    (old new : Words) (y : Y) : Type 0 where
+  pub sound : left_of new ≡ Some []
+      → (x : X) × Fits x × (y ≡ make x) × (left_of old ≡ Some (write x))
+  pub complete : (x : X) → Fits x → left_of old ≡ Some (write x)
+      → (y ≡ make x) × (left_of new ≡ Some [])
+
 -- each value can be written
 abbrev pub Any : {X : Type 0} → X → Type 0
 Any x = Unit {0}
 
 abbrev pub Takes : {X : Type 0} → (X → List (List ℕ)) → Words → Words → X → Type 0
 Takes write old new x = TakesAs Any write (λ y. y) old new x
+
+abbrev pub Ends : {X : Type 0} → (X → List (List ℕ)) → Words → Words → X → Type 0
+Ends write old new x = EndsAs Any write (λ y. y) old new x
 
 -- a value as one word
 abbrev pub one : {X : Type 0} → (X → List ℕ) → X → List (List ℕ)

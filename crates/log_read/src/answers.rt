@@ -2,7 +2,7 @@
 ghost use Rattle.std.specs.Prelude.{◌≡◌};
 ghost use Rattle.log_text.specs.Words.{way_word, take_word, answer_word, loop_word, mask_word};
 ghost use Rattle.log_text.specs.Words.{note_word, bit_word, resend_word, error_word, flags_word};
-ghost use Rattle.log_text.specs.Words.{unlink_word};
+ghost use Rattle.log_text.specs.Words.{unlink_word, yes_word};
 ghost use Rattle.log_read.specs.Takes.{Any, Reads, Takes, one};
 
 use crate::words::Words;
@@ -111,6 +111,24 @@ fn note_of(word: &[u8]) -> Option<Note>
         b"quiet" => Some(Note::Quiet),
         b"counted" => Some(Note::Counted),
         b"killed" => Some(Note::Killed),
+        _ => None,
+    }
+}
+
+/// Yes or no.
+pub(crate) fn yes(words: &mut Words<'_>) -> bool
+    ensures { Takes (one yes_word) words.old words.new result }
+{
+    let word = words.next();
+    words.fit(yes_of(word), true)
+}
+
+fn yes_of(word: &[u8]) -> Option<bool>
+    ensures { Reads Any yes_word word.now result }
+{
+    match word {
+        b"yes" => Some(true),
+        b"no" => Some(false),
         _ => None,
     }
 }

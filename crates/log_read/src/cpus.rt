@@ -1,10 +1,8 @@
 //! The words of what a processor does.
 ghost use Rattle.std.specs.Prelude.{◌≡◌};
-ghost use Rattle.log_text.specs.EntryWords.{cpu_words};
-ghost use Rattle.log_text.specs.Formed.{HasSmallCpu};
 ghost use Rattle.log_read.specs.Forms.{TakesCpu};
 ghost use Rattle.log_read.specs.Kinds.{cpu_verb_word};
-ghost use Rattle.log_read.specs.Takes.{Any, Reads, Takes, TakesAs, one};
+ghost use Rattle.log_read.specs.Takes.{Any, Reads};
 ghost use Rattle.log_read.specs.declared.cpus.CpuVerb.TheVariants as cpu_verbs;
 
 use crate::answers::{again, answer, note, take_answer, unmask, way};
@@ -21,21 +19,7 @@ pub(crate) enum CpuVerb {
     End,
 }
 
-pub(crate) fn cpu_entry(words: &mut Words<'_>) -> CpuEntry
-    ensures { TakesAs HasSmallCpu cpu_words (λ e. e) words.old words.new result }
-{
-    let verb = cpu_verb(words);
-    cpu_entry_behind(words, verb)
-}
-
-fn cpu_verb(words: &mut Words<'_>) -> CpuVerb
-    ensures { Takes (one cpu_verb_word) words.old words.new result }
-{
-    let word = words.next();
-    words.fit(cpu_verb_of(word), CpuVerb::Take)
-}
-
-fn cpu_verb_of(word: &[u8]) -> Option<CpuVerb>
+pub(crate) fn cpu_verb_of(word: &[u8]) -> Option<CpuVerb>
     ensures { Reads Any cpu_verb_word word.now result }
 {
     match word {
@@ -47,7 +31,8 @@ fn cpu_verb_of(word: &[u8]) -> Option<CpuVerb>
     }
 }
 
-fn cpu_entry_behind(words: &mut Words<'_>, verb: CpuVerb) -> CpuEntry
+/// What follows the verb.
+pub(crate) fn cpu_entry(words: &mut Words<'_>, verb: CpuVerb) -> CpuEntry
     ensures { TakesCpu verb words.old words.new result }
 {
     match verb {

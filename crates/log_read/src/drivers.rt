@@ -1,12 +1,12 @@
 //! The words of what a driver does.
 ghost use Rattle.std.specs.Prelude.{◌≡◌};
 ghost use Rattle.log_read.specs.Forms.{TakesDriver};
-ghost use Rattle.log_read.specs.Kinds.{driver_verb_word, driver_act_word};
-ghost use Rattle.log_read.specs.Takes.{Any, Reads, Takes, one};
+ghost use Rattle.log_read.specs.Kinds.{driver_verb_word};
+ghost use Rattle.log_read.specs.Takes.{Any, Reads};
 ghost use Rattle.log_read.specs.declared.drivers.DriverVerb.TheVariants as driver_verbs;
 
 use crate::answers::flags;
-use crate::calls::{CallVerb, call_verb_of};
+use crate::lasts::edge;
 use crate::numbers::number;
 use crate::said::{linked, moved};
 use crate::words::Words;
@@ -21,32 +21,7 @@ pub(crate) enum DriverVerb {
     Moment,
 }
 
-/// The word that tells what follows a driver.
-#[derive(Clone, Copy)]
-pub(crate) enum DriverAct {
-    /// What only a driver does.
-    Own(DriverVerb),
-    /// A call, which others may make too.
-    Call(CallVerb),
-}
-
-pub(crate) fn driver_act(words: &mut Words<'_>) -> DriverAct
-    ensures { Takes (one driver_act_word) words.old words.new result }
-{
-    let word = words.next();
-    words.fit(driver_act_of(word), DriverAct::Own(DriverVerb::Ask))
-}
-
-fn driver_act_of(word: &[u8]) -> Option<DriverAct>
-    ensures { Reads Any driver_act_word word.now result }
-{
-    match driver_verb_of(word) {
-        Some(verb) => Some(DriverAct::Own(verb)),
-        None => Some(DriverAct::Call(call_verb_of(word)?)),
-    }
-}
-
-fn driver_verb_of(word: &[u8]) -> Option<DriverVerb>
+pub(crate) fn driver_verb_of(word: &[u8]) -> Option<DriverVerb>
     ensures { Reads Any driver_verb_word word.now result }
 {
     match word {
@@ -74,7 +49,8 @@ fn ask(words: &mut Words<'_>) -> DriverEntry
     ensures { TakesDriver driver_verbs.Ask words.old words.new result }
 {
     let dev = DevNo(number(words));
-    DriverEntry::Ask { edge: true, dev }
+    let edge = edge(words);
+    DriverEntry::Ask { edge, dev }
 }
 
 fn request(words: &mut Words<'_>) -> DriverEntry

@@ -2,27 +2,27 @@
 ghost use Rattle.irq_base.specs.declared.entries.Actor.TheVariants as actors;
 ghost use Rattle.log_text.specs.EntryWords.{entry_words, said_words};
 ghost use Rattle.log_text.specs.Formed.{IsWritable};
-ghost use Rattle.log_read.specs.Forms.{IsBy, TakesAct};
-ghost use Rattle.log_read.specs.Takes.{TakesAs};
+ghost use Rattle.log_read.specs.Forms.{IsBy};
+ghost use Rattle.log_read.specs.Takes.{EndsAs};
 
-use crate::calls::call_entry;
-use crate::cpus::cpu_entry;
-use crate::drivers::{DriverAct, driver_act, driver_entry};
+use crate::calls::call;
+use crate::cpus::{cpu_entry, cpu_verb_of};
+use crate::drivers::{driver_entry, driver_verb_of};
 use crate::numbers::made_by;
-use crate::threads::thread_entry;
+use crate::threads::{thread_entry, thread_verb_of};
 use crate::words::Words;
 use irq_base::{Actor, CpuNo, DevNo, DriverNo, Entry};
 
-/// An entry.
+/// An entry, which ends a row.
 pub(crate) fn entry(words: &mut Words<'_>) -> Entry
-    ensures { TakesAs IsWritable entry_words (λ e. e) words.old words.new result }
+    ensures { EndsAs IsWritable entry_words (λ e. e) words.old words.new result }
 {
     let actor = made_by(words);
     entry_by(words, actor)
 }
 
 fn entry_by(words: &mut Words<'_>, actor: Actor) -> Entry
-    ensures { TakesAs (IsBy actor) said_words (λ e. e) words.old words.new result }
+    ensures { EndsAs (IsBy actor) said_words (λ e. e) words.old words.new result }
 {
     match actor {
         Actor::Cpu(cpu) => by_cpu(words, cpu),
@@ -32,31 +32,31 @@ fn entry_by(words: &mut Words<'_>, actor: Actor) -> Entry
 }
 
 fn by_cpu(words: &mut Words<'_>, cpu: CpuNo) -> Entry
-    ensures { TakesAs (IsBy (actors.Cpu cpu)) said_words (λ e. e) words.old words.new result }
+    ensures { EndsAs (IsBy (actors.Cpu cpu)) said_words (λ e. e) words.old words.new result }
 {
-    let entry = cpu_entry(words);
-    Entry::Cpu(cpu, entry)
+    let word = words.next();
+    match cpu_verb_of(word) {
+        Some(verb) => Entry::Cpu(cpu, cpu_entry(words, verb)),
+        None => Entry::CpuCall(cpu, call(words, word)),
+    }
 }
 
 fn by_thread(words: &mut Words<'_>, dev: DevNo) -> Entry
-    ensures { TakesAs (IsBy (actors.Thread dev)) said_words (λ e. e) words.old words.new result }
+    ensures { EndsAs (IsBy (actors.Thread dev)) said_words (λ e. e) words.old words.new result }
 {
-    let entry = thread_entry(words);
-    Entry::Thread(dev, entry)
+    let word = words.next();
+    match thread_verb_of(word) {
+        Some(verb) => Entry::Thread(dev, thread_entry(words, verb)),
+        None => Entry::ThreadCall(dev, call(words, word)),
+    }
 }
 
 fn by_driver(words: &mut Words<'_>, driver: DriverNo) -> Entry
-    ensures { TakesAs (IsBy (actors.Driver driver)) said_words (λ e. e) words.old words.new result }
+    ensures { EndsAs (IsBy (actors.Driver driver)) said_words (λ e. e) words.old words.new result }
 {
-    let act = driver_act(words);
-    act_behind(words, driver, act)
-}
-
-fn act_behind(words: &mut Words<'_>, driver: DriverNo, act: DriverAct) -> Entry
-    ensures { TakesAct driver act words.old words.new result }
-{
-    match act {
-        DriverAct::Own(verb) => Entry::Driver(driver, driver_entry(words, verb)),
-        DriverAct::Call(verb) => Entry::DriverCall(driver, call_entry(words, verb)),
+    let word = words.next();
+    match driver_verb_of(word) {
+        Some(verb) => Entry::Driver(driver, driver_entry(words, verb)),
+        None => Entry::DriverCall(driver, call(words, word)),
     }
 }

@@ -12,13 +12,16 @@ mod cpus;
 mod drivers;
 mod entries;
 mod kinds;
+mod lasts;
 mod numbers;
 pub mod reading;
 pub mod rows;
 mod said;
 mod threads;
+mod versions;
 mod words;
 
 pub use numbers::number_of;
 pub use reading::{LogRefused, cut_row, place_of, read_log};
 pub use rows::read_row;
+pub use versions::may_have;

@@ -10,6 +10,7 @@ ghost use Rattle.log_read.specs.LogOf.{IsLogOf, IsRow};
 ghost use Rattle.log_read.specs.Adding.{Adds, IsPlaceOf, Judges};
 
 use crate::rows::read_row;
+use crate::versions::may_have;
 use board_def::Board;
 use irq_base::{Entry, History, LineNo, Logs, NoMemory};
 use memchr::memchr;
@@ -20,7 +21,7 @@ use thiserror::Error;
 #[derive(Clone, Copy, Debug, PartialEq, Eq, Error)]
 pub enum LogRefused {
     /// The first row, counted from 1, that is neither passed over nor the row of an entry of a line
-    /// of the board.
+    /// of the board; nor is it one if only logs of later versions have such rows.
     #[error("malformed {row}")]
     Malformed { row: u32 },
     /// Memory was needed and refused.
@@ -45,11 +46,12 @@ impl From<NoMemory> for LogRefused {
 /// # Errors
 ///
 /// `Malformed` with the number of the first row that isn't passed over and isn't the row of an
-/// entry of a line of the board. Rows are counted from 1, and those passed over count too.
+/// entry of a line of the board, or is one that only logs of later versions have. Rows are
+/// counted from 1, and those passed over count too.
 /// `NoMemory` if memory was refused.
 pub fn read_log(alloc: Global, board: &Board, bytes: &[u8]) -> Result<Logs, LogRefused>
     requires { length bytes.now ≤ 67108864 }
-    ensures log { IsLogOf board.now.lines bytes.now result }
+    ensures log { IsLogOf board.now bytes.now result }
     ensures each { IfOk result (λ logs. length logs ≡ length board.now.lines) }
     ensures few { IfOk result (λ logs. All (λ h. length h.entries ≤ length bytes.now) logs) }
 {
@@ -109,7 +111,7 @@ fn line_feed(text: &[u8]) -> Option<usize>
 fn add_row(logs: &mut Logs, board: &Board, row: &[u8]) -> Result<bool, NoMemory>
     requires { length logs.old ≡ length board.now.lines }
     ensures { IfOk result
-        (λ fine. Judges board.now.lines (row.now ++ codes "\n") fine (entries_of logs.old)
+        (λ fine. Judges board.now (row.now ++ codes "\n") fine (entries_of logs.old)
         (entries_of logs.new)) }
 {
     if begins_with_hash(row) {
@@ -118,6 +120,9 @@ fn add_row(logs: &mut Logs, board: &Board, row: &[u8]) -> Result<bool, NoMemory>
     let Some((line, entry)) = read_row(row) else {
         return Ok(false);
     };
+    if !may_have(board, &entry) {
+        return Ok(false);
+    }
     let Some(place) = place_of(board, line) else {
         return Ok(false);
     };

@@ -1,12 +1,12 @@
 //! The words of what a thread does.
 ghost use Rattle.std.specs.Prelude.{◌≡◌};
-ghost use Rattle.log_text.specs.EntryWords.{thread_words};
-ghost use Rattle.log_read.specs.Forms.{FitsThread, TakesThread};
+ghost use Rattle.log_read.specs.Forms.{TakesThread};
 ghost use Rattle.log_read.specs.Kinds.{thread_verb_word};
-ghost use Rattle.log_read.specs.Takes.{Any, Reads, Takes, TakesAs, one};
+ghost use Rattle.log_read.specs.Takes.{Any, Reads};
 ghost use Rattle.log_read.specs.declared.threads.ThreadVerb.TheVariants as thread_verbs;
 
 use crate::answers::{kept, unmask};
+use crate::lasts::handled;
 use crate::numbers::number;
 use crate::words::Words;
 use irq_base::ThreadEntry;
@@ -20,21 +20,7 @@ pub(crate) enum ThreadVerb {
     Done,
 }
 
-pub(crate) fn thread_entry(words: &mut Words<'_>) -> ThreadEntry
-    ensures { TakesAs FitsThread thread_words (λ e. e) words.old words.new result }
-{
-    let verb = thread_verb(words);
-    thread_entry_behind(words, verb)
-}
-
-fn thread_verb(words: &mut Words<'_>) -> ThreadVerb
-    ensures { Takes (one thread_verb_word) words.old words.new result }
-{
-    let word = words.next();
-    words.fit(thread_verb_of(word), ThreadVerb::Done)
-}
-
-fn thread_verb_of(word: &[u8]) -> Option<ThreadVerb>
+pub(crate) fn thread_verb_of(word: &[u8]) -> Option<ThreadVerb>
     ensures { Reads Any thread_verb_word word.now result }
 {
     match word {
@@ -46,7 +32,8 @@ fn thread_verb_of(word: &[u8]) -> Option<ThreadVerb>
     }
 }
 
-fn thread_entry_behind(words: &mut Words<'_>, verb: ThreadVerb) -> ThreadEntry
+/// What follows the verb.
+pub(crate) fn thread_entry(words: &mut Words<'_>, verb: ThreadVerb) -> ThreadEntry
     ensures { TakesThread verb words.old words.new result }
 {
     match verb {
@@ -57,15 +44,12 @@ fn thread_entry_behind(words: &mut Words<'_>, verb: ThreadVerb) -> ThreadEntry
     }
 }
 
-// The number tells whether the thread's answer is "handled".
 fn returned(words: &mut Words<'_>) -> ThreadEntry
     ensures { TakesThread thread_verbs.Return words.old words.new result }
 {
     let served = number(words);
-    ThreadEntry::Return {
-        handled: served > 0,
-        served,
-    }
+    let handled = handled(words, served > 0);
+    ThreadEntry::Return { handled, served }
 }
 
 fn finish(words: &mut Words<'_>) -> ThreadEntry

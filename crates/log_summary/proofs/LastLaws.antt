@@ -4,12 +4,14 @@ use Rattle.std.specs.List.{list_any}
 use Rattle.std.proofs.lemmas.Bool.{false≢true}
 use Rattle.irq_base.specs.declared.entries.Entry.{Entry}
 use Rattle.irq_base.specs.declared.entries.Entry.TheVariants as by
+use Rattle.irq_base.specs.declared.entries.Actor.{Actor}
+use Rattle.irq_base.specs.declared.entries.Actor.TheVariants as actors
+use Rattle.irq_base.specs.declared.entries.CallEntry.{CallEntry}
 use Rattle.irq_base.specs.declared.entries.CallEntry.TheVariants as called
 use Rattle.irq_base.specs.declared.entries.UnlinkAnswer.TheVariants as unlinks
 use Rattle.irq_base.specs.declared.lines.LineDef.{LineDef}
 use Rattle.irq_base.specs.declared.numbers.DevNo.{DevNo}
-use Rattle.irq_base.specs.declared.numbers.DriverNo.{DriverNo}
-use Rattle.irq_model.specs.Kinds.{same_dev}
+use Rattle.irq_model.specs.Kinds.{same_dev, made_by}
 use Rattle.irq_model.specs.Legal.{IsDue, IsLegal, IsLegalPast}
 use Rattle.irq_model.specs.Links.{is_none_linked, is_linked, requested, linked, is_empty}
 use Rattle.irq_model.specs.Next.{is_only}
@@ -18,7 +20,6 @@ use Rattle.irq_steps.proofs.LinkSteps.{linked_unlink}
 use Rattle.irq_steps.proofs.ListSteps.{count_filter, requested_once}
 use Rattle.irq_steps.proofs.Same.{same_self, same_both}
 use Rattle.irq_laws.proofs.ImpliesDriver.{unlink_due}
-use Rattle.irq_laws.proofs.OwnLaws.{no_cpu_call, no_thread_call}
 use Rattle.irq_laws.proofs.Requested.{of_linked}
 use Rattle.log_summary.specs.Lasts.{TellsLast, TellsLasts}
 
@@ -50,21 +51,27 @@ answer_of : (b last only : Bool) → unlinks.Unlinked last ≡ cond b (unlinks.U
 answer_of true last only h = (cc, refl)
 answer_of false last only h = cc
 
-last_told : (def : LineDef) (r : DriverNo) (d : DevNo) (last : Bool) (past : List Entry)
-    → IsDue def (by.DriverCall r (called.Unlink (unlinks.Unlinked last) d)) past
-    → is_none_linked (by.DriverCall r (called.Unlink (unlinks.Unlinked last) d) ∷ past) ≡ last
-last_told def r d last past due =
-    let answer = answer_of (is_linked past d) last (is_only d (linked past)) (unlink_due def r d (unlinks.Unlinked last) past due).answer_is in
+last_told : (def : LineDef) (a : Actor) (d : DevNo) (last : Bool) (past : List Entry)
+    → IsDue def (made_by a (called.Unlink (unlinks.Unlinked last) d)) past
+    → is_none_linked (by.DriverCall (record { 0 = 0 }) (called.Unlink (unlinks.Unlinked last) d) ∷ past) ≡ last
+last_told def a d last past due =
+    let answer = answer_of (is_linked past d) last (is_only d (linked past)) (unlink_due def a d (unlinks.Unlinked last) past due).answer_is in
     let there : list_any (same_dev d) (linked past) ≡ true = of_linked (same_dev d) past d answer.1 (same_self d) in
     let once : count_of (same_dev d) (linked past) ≤ 1
     = (let n = count_filter (same_dev d) (is_linked past) (requested past) in let m = requested_once d past in
     omega (arith, n, m)) in
-    ap is_empty (linked_unlink r d last past) ∙ left_without d (linked past) there once ∙ sym answer.0
+    ap is_empty (linked_unlink (record { 0 = 0 }) d last past) ∙ left_without d (linked past) there once ∙ sym answer.0
+
+-- whoever makes the call
+call_tells : (def : LineDef) (a : Actor) (call : CallEntry) (past : List Entry) → IsDue def (made_by a call) past
+    → TellsLast (by.DriverCall (record { 0 = 0 }) call) past
+call_tells def a (called.Unlink (unlinks.Unlinked last) d) past due = λ unlinks. last_told def a d last past due
+call_tells def a call past due = λ unlinks. absurd (false≢true unlinks)
 
 tells : (def : LineDef) (e : Entry) (past : List Entry) → IsDue def e past → TellsLast e past
-tells def (by.DriverCall r (called.Unlink (unlinks.Unlinked last) d)) past due = λ unlinks. last_told def r d last past due
-tells def (by.CpuCall c call) past due = no_cpu_call def c call past due
-tells def (by.ThreadCall c call) past due = no_thread_call def c call past due
+tells def (by.CpuCall c call) past due = call_tells def (actors.Cpu c) call past due
+tells def (by.ThreadCall d call) past due = call_tells def (actors.Thread d) call past due
+tells def (by.DriverCall r call) past due = call_tells def (actors.Driver r) call past due
 tells def e past due = λ unlinks. absurd (false≢true unlinks)
 
 each_tells : (def : LineDef) (past : List Entry) → IsLegalPast def past → EachEntry TellsLast past

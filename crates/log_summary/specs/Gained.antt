@@ -39,9 +39,10 @@ thread_runs_of _ = 0
 abbrev pub served_of : EntryKind → ℕ
 served_of (kinds.Return served) = served
 served_of (kinds.ThreadReturn served) = served
+served_of (kinds.Serve served) = served
 served_of _ = 0
 
--- the counts with one entry more
+-- the counts with one entry more, of this kind
 abbrev pub counts_with : Counts → EntryKind → Counts
 counts_with c k =
     record {

@@ -15,7 +15,7 @@ pub(crate) struct Counts {
     pub(crate) runs: u64,
     /// Runs of threads.
     pub(crate) threads: u64,
-    /// Asks that all these runs served.
+    /// Asks that all these runs, and calls, served.
     pub(crate) served: u64,
 }
 
@@ -46,9 +46,9 @@ impl Counts {
             EntryKind::Take => self.takes += 1,
             EntryKind::Begin => self.runs += 1,
             EntryKind::ThreadBegin => self.threads += 1,
-            EntryKind::Return { served } | EntryKind::ThreadReturn { served } => {
-                self.served += u64::from(served);
-            }
+            EntryKind::Return { served }
+            | EntryKind::ThreadReturn { served }
+            | EntryKind::Serve { served } => self.served += u64::from(served),
             EntryKind::Standing | EntryKind::Other => {}
         }
     }

@@ -1,5 +1,5 @@
 //! The row of a line's summary, and the row of the total.
-ghost use Rattle.std.specs.Prelude.{◌≡◌, ◌+◌, ◌<◌, ◌≤◌, Some, [], ◌∷◌, ◌++◌, length, slice_get};
+ghost use Rattle.std.specs.Prelude.{◌≡◌, ◌+◌, ◌<◌, ◌≤◌, [], ◌∷◌, ◌++◌, length, Some, slice_get};
 ghost use Rattle.std.specs.Prelude.{reverse, codes, decimal};
 ghost use Rattle.log_text.specs.Spaced.{spaced};
 ghost use Rattle.log_summary.specs.Gained.{AreCountsOf, count_words};

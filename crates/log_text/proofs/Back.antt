@@ -30,7 +30,7 @@ use Rattle.irq_base.specs.declared.entries.AffinityAnswer.TheVariants as affinit
 use Rattle.log_text.specs.Formed.{IsSmall}
 use Rattle.log_text.specs.Words.{way_word, take_word, answer_word, loop_word}
 use Rattle.log_text.specs.Words.{mask_word, note_word, bit_word, resend_word, error_word, flags_word, enable_words}
-use Rattle.log_text.specs.Words.{opened_words, link_words, unlink_word, affinity_words}
+use Rattle.log_text.specs.Words.{opened_words, link_words, unlink_word, affinity_words, yes_word, edge_words, handled_words}
 
 abbrev pub is : List ℕ → List ℕ → Bool
 is word text = bytes_eq word text
@@ -59,6 +59,18 @@ note_at word = cond (is word (codes "quiet")) notes.Quiet (cond (is word (codes 
 
 abbrev pub bit_at : List ℕ → Bool
 bit_at word = is word (codes "kept")
+
+abbrev pub yes_at : List ℕ → Bool
+yes_at word = is word (codes "yes")
+
+-- whether an ask made an edge, by the word behind its device
+abbrev pub edge_at : List (List ℕ) → Bool
+edge_at words = cond (is (at words 0) (codes "no")) false true
+
+-- what a thread's handler answered, by the word behind its number, and whether it served
+abbrev pub handled_at : List (List ℕ) → Bool → Bool
+handled_at words served =
+    cond (is (at words 0) (codes "handled")) true (cond (is (at words 0) (codes "nothing")) false served)
 
 abbrev pub resend_at : List ℕ → Resend
 resend_at word = cond (is word (codes "no")) resends.No (cond (is word (codes "chip")) resends.Chip resends.Soft)
@@ -127,6 +139,20 @@ note_back notes.Killed = refl
 pub bit_back : (x : Bool) → bit_at (bit_word x) ≡ x
 bit_back true = refl
 bit_back false = refl
+
+pub yes_back : (x : Bool) → yes_at (yes_word x) ≡ x
+yes_back true = refl
+yes_back false = refl
+
+pub edge_back : (x : Bool) → edge_at (edge_words x) ≡ x
+edge_back true = refl
+edge_back false = refl
+
+pub handled_back : (x served : Bool) → handled_at (handled_words x served) served ≡ x
+handled_back true true = refl
+handled_back true false = refl
+handled_back false true = refl
+handled_back false false = refl
 
 pub resend_back : (x : Resend) → resend_at (resend_word x) ≡ x
 resend_back resends.No = refl

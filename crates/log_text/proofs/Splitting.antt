@@ -1,6 +1,6 @@
 -- A row cut at its spaces gives its words back, and a text cut at line feeds gives back the rows
 -- that were put together.
-use Rattle.std.proofs.Common.{◌≡◌, ℕ, ◌+◌, ◌%◌, Bool, true, false, eqb, ltb}
+use Rattle.std.proofs.Common.{◌≡◌, ℕ, ◌+◌, ◌%◌, Bool, true, false, eqb, ltb, nat_lt}
 use Rattle.std.proofs.Common.{List, [], ◌∷◌, ◌++◌, codes, decimal, refl, ap, ◌∙◌, arith}
 use Rattle.std.specs.List.{join_with_byte, slice_split, onto_first, list_all}
 use Rattle.std.proofs.lemmas.Bool.{and_from, and_parts, ltb-true, lt-ltb, ne_eqb}
@@ -15,6 +15,7 @@ use Rattle.irq_base.specs.declared.entries.Entry.TheVariants as by
 use Rattle.irq_base.specs.declared.entries.CpuEntry.TheVariants as cpus
 use Rattle.irq_base.specs.declared.entries.ThreadEntry.TheVariants as threads
 use Rattle.irq_base.specs.declared.entries.DriverEntry.TheVariants as drivers
+use Rattle.irq_base.specs.declared.entries.CallEntry.{CallEntry}
 use Rattle.irq_base.specs.declared.entries.CallEntry.TheVariants as called
 use Rattle.irq_base.specs.declared.entries.Errno.{Errno}
 use Rattle.irq_base.specs.declared.entries.Errno.TheVariants as errnos
@@ -37,11 +38,11 @@ use Rattle.irq_base.specs.declared.entries.UnlinkAnswer.TheVariants as unlinks
 use Rattle.irq_base.specs.declared.entries.AffinityAnswer.{AffinityAnswer}
 use Rattle.irq_base.specs.declared.entries.AffinityAnswer.TheVariants as affinities
 use Rattle.irq_base.specs.declared.numbers.LineNo.{LineNo}
-use Rattle.log_text.specs.EntryWords.{entry_words}
-use Rattle.log_text.specs.Formed.{IsSmall, IsWritable}
+use Rattle.log_text.specs.EntryWords.{entry_words, call_words}
+use Rattle.log_text.specs.Formed.{IsSmall, HasSmallCall, IsWritable}
 use Rattle.log_text.specs.Words.{way_word, take_word, answer_word, loop_word}
 use Rattle.log_text.specs.Words.{mask_word, note_word, bit_word, resend_word, error_word, flags_word, enable_words}
-use Rattle.log_text.specs.Words.{opened_words, link_words, unlink_word, affinity_words}
+use Rattle.log_text.specs.Words.{opened_words, link_words, unlink_word, affinity_words, yes_word, edge_words, handled_words}
 
 -- each byte is above n
 abbrev pub are_above : ℕ → List ℕ → Bool
@@ -142,6 +143,20 @@ unlink_is unlinks.NotThere = refl
 unlink_is (unlinks.Unlinked true) = refl
 unlink_is (unlinks.Unlinked false) = refl
 
+yes_is : (x : Bool) → are_above 32 (yes_word x) ≡ true
+yes_is true = refl
+yes_is false = refl
+
+edge_are : (x : Bool) → are_words (edge_words x) ≡ true
+edge_are true = refl
+edge_are false = refl
+
+handled_are : (x served : Bool) → are_words (handled_words x served) ≡ true
+handled_are true true = refl
+handled_are true false = refl
+handled_are false true = refl
+handled_are false false = refl
+
 resend_are : (x : Resend) → are_words (resend_word x ∷ []) ≡ true
 resend_are resends.No = refl
 resend_are resends.Chip = refl
@@ -194,8 +209,28 @@ who_is : (n letter : ℕ) (words : List (List ℕ)) → IsSmall n → ltb 32 let
 who_is n letter words small h verb v i = more (letter ∷ decimal n) (verb ∷ words)
     (and_from (ltb 32 letter) (are_above 32 (decimal n)) h (number_word n small)) (more verb words v i)
 
+-- a call, whoever makes it
+call_is : (call : CallEntry) → HasSmallCall call → AreWords (call_words call)
+call_is called.Disable s = one (codes "disable") refl
+call_is called.HardClear s = one (codes "hardclear") refl
+call_is called.Synced s = one (codes "synced") refl
+call_is (called.Enable answer) s = more (codes "enable") _ refl (record { are = enable_are answer })
+call_is (called.Unlink answer dev) s = more (codes "unlink") _ refl (number_is dev.0 _ s (one (unlink_word answer) (unlink_is answer)))
+call_is (called.Freed dev) s = more (codes "freed") _ refl (number_is dev.0 [] s none)
+call_is (called.Wake woken dev) s = more (codes "wake") _ refl (number_is dev.0 _ s (one (yes_word woken) (yes_is woken)))
+call_is (called.Quiet dev) s = more (codes "quiet") _ refl (number_is dev.0 [] s none)
+call_is (called.Arm edge dev) s = more (codes "arm") _ refl (number_is dev.0 _ s (one (yes_word edge) (yes_is edge)))
+call_is (called.Serve dev served) s = more (codes "serve") _ refl (number_is dev.0 _ s.0 (number_is served [] s.1 none))
+
+-- a letter and a number before a call
+caller_is : (n letter : ℕ) (call : CallEntry) → IsSmall n → ltb 32 letter ≡ true → HasSmallCall call
+    → AreWords ((letter ∷ decimal n) ∷ call_words call)
+caller_is n letter call small h s = more (letter ∷ decimal n) (call_words call)
+    (and_from (ltb 32 letter) (are_above 32 (decimal n)) h (number_word n small)) (call_is call s)
+
 entry_is : (e : Entry) → IsWritable e → AreWords (entry_words e)
-entry_is (by.Driver driver (drivers.Ask edge dev)) w = who_is driver.0 100 _ w.small.0 refl (codes "ask") refl (number_is dev.0 [] w.small.1 none)
+entry_is (by.Driver driver (drivers.Ask edge dev)) w = who_is driver.0 100 _ w.small.0 refl (codes "ask") refl
+    (number_is dev.0 _ w.small.1 (record { are = edge_are edge }))
 entry_is (by.Cpu cpu (cpus.Take way answer)) w = who_is cpu.0 99 _ w.small.0 refl (codes "take") refl
     (more (way_word way) _ (way_is way) (one (take_word answer) (take_is answer)))
 entry_is (by.Cpu cpu (cpus.Begin dev)) w = who_is cpu.0 99 _ w.small.0 refl (codes "begin") refl (number_is dev.0 [] w.small.1 none)
@@ -207,30 +242,21 @@ entry_is (by.Cpu cpu (cpus.End again unmask note)) w =
     who_is cpu.0 99 _ w.small.0 refl (codes "end") refl (more (loop_word again) _ (loop_is again)
     (more (mask_word unmask) _ (mask_is unmask) (one (note_word note) (note_is note))))
 entry_is (by.Thread dev threads.Begin) w = who_is dev.0 116 _ w.small.0 refl (codes "begin") refl none
-entry_is (by.Thread dev (threads.Return handled served)) w = who_is dev.0 116 _ w.small.0 refl (codes "return") refl (number_is served [] w.small.1 none)
+entry_is (by.Thread dev (threads.Return handled served)) w = who_is dev.0 116 _ w.small.0 refl (codes "return") refl
+    (number_is served _ w.small.1 (record { are = handled_are handled (nat_lt 0 served) }))
 entry_is (by.Thread dev (threads.Finish kept unmask)) w = who_is dev.0 116 _ w.small.0 refl (codes "finish") refl
     (more (bit_word kept) _ (bit_is kept) (one (mask_word unmask) (mask_is unmask)))
 entry_is (by.Thread dev threads.Done) w = who_is dev.0 116 _ w.small.0 refl (codes "done") refl none
-entry_is (by.DriverCall driver called.Disable) w = who_is driver.0 100 _ w.small.0 refl (codes "disable") refl none
-entry_is (by.DriverCall driver called.HardClear) w = who_is driver.0 100 _ w.small.0 refl (codes "hardclear") refl none
-entry_is (by.DriverCall driver called.Synced) w = who_is driver.0 100 _ w.small.0 refl (codes "synced") refl none
-entry_is (by.DriverCall driver (called.Enable answer)) w = who_is driver.0 100 _ w.small.0 refl (codes "enable") refl (record { are = enable_are answer })
 entry_is (by.Driver driver (drivers.Request flags answer opened dev)) w =
     who_is driver.0 100 _ w.small.0 refl (codes "request") refl
     (number_is dev.0 _ w.small.1 (more (flags_word flags) _ (flags_is flags)
     (record { are = link_are answer opened })))
-entry_is (by.DriverCall driver (called.Unlink answer dev)) w = who_is driver.0 100 _ w.small.0 refl (codes "unlink") refl
-    (number_is dev.0 _ w.small.1 (one (unlink_word answer) (unlink_is answer)))
-entry_is (by.DriverCall driver (called.Freed dev)) w = who_is driver.0 100 _ w.small.0 refl (codes "freed") refl (number_is dev.0 [] w.small.1 none)
 entry_is (by.Driver driver (drivers.Affinity answer mask)) w = who_is driver.0 100 _ w.small.0 refl (codes "affinity") refl
     (number_is mask _ w.small.1 (record { are = affinity_are answer }))
 entry_is (by.Driver driver (drivers.Moment moment)) w = who_is driver.0 100 _ w.small.0 refl (codes "moment") refl (number_is moment [] w.small.1 none)
-entry_is (by.CpuCall cpu call) w = absurd w.printable
-entry_is (by.ThreadCall dev call) w = absurd w.printable
-entry_is (by.DriverCall driver (called.Wake woken dev)) w = absurd w.printable
-entry_is (by.DriverCall driver (called.Quiet dev)) w = absurd w.printable
-entry_is (by.DriverCall driver (called.Arm edge dev)) w = absurd w.printable
-entry_is (by.DriverCall driver (called.Serve dev served)) w = absurd w.printable
+entry_is (by.CpuCall cpu call) w = caller_is cpu.0 99 call w.small.0 refl w.small.1
+entry_is (by.ThreadCall dev call) w = caller_is dev.0 116 call w.small.0 refl w.small.1
+entry_is (by.DriverCall driver call) w = caller_is driver.0 100 call w.small.0 refl w.small.1
 
 -- the words of a row, with the line's number
 abbrev pub row_words : LineNo → Entry → List (List ℕ)

@@ -1,5 +1,5 @@
 -- An entry as the words of its row, and which entries have one.
-use Rattle.std.specs.Prelude.{◌≡◌, ℕ, nat_lt, true, List, [], ◌∷◌, codes, decimal}
+use Rattle.std.specs.Prelude.{◌≡◌, ℕ, nat_lt, List, [], ◌∷◌, codes, decimal}
 use Rattle.irq_base.specs.declared.entries.Actor.{Actor}
 use Rattle.irq_base.specs.declared.entries.Actor.TheVariants as actors
 use Rattle.irq_base.specs.declared.entries.CpuEntry.{CpuEntry}
@@ -20,7 +20,7 @@ use Rattle.irq_base.specs.Who.{actor_of}
 use Rattle.log_text.specs.Words.{driver_word, cpu_word, thread_word, way_word, take_word}
 use Rattle.log_text.specs.Words.{answer_word, loop_word, mask_word, note_word, bit_word}
 use Rattle.log_text.specs.Words.{flags_word, enable_words, link_words, unlink_word}
-use Rattle.log_text.specs.Words.{affinity_words, yes_word}
+use Rattle.log_text.specs.Words.{affinity_words, yes_word, edge_words, handled_words}
 
 -- who made the entry
 abbrev pub actor_word : Actor → List ℕ
@@ -38,13 +38,14 @@ cpu_words (cpus.End again unmask note) =
 
 abbrev pub thread_words : ThreadEntry → List (List ℕ)
 thread_words threads.Begin = codes "begin" ∷ []
-thread_words (threads.Return handled served) = codes "return" ∷ decimal served ∷ []
+thread_words (threads.Return handled served) =
+    codes "return" ∷ decimal served ∷ handled_words handled (nat_lt 0 served)
 thread_words (threads.Finish kept unmask) =
     codes "finish" ∷ bit_word kept ∷ mask_word unmask ∷ []
 thread_words threads.Done = codes "done" ∷ []
 
 abbrev pub driver_words : DriverEntry → List (List ℕ)
-driver_words (drivers.Ask edge dev) = codes "ask" ∷ decimal dev.0 ∷ []
+driver_words (drivers.Ask edge dev) = codes "ask" ∷ decimal dev.0 ∷ edge_words edge
 driver_words (drivers.Request flags answer opened dev) =
     codes "request" ∷ decimal dev.0 ∷ flags_word flags ∷ link_words answer opened
 driver_words (drivers.Affinity answer mask) =
@@ -78,29 +79,12 @@ abbrev pub entry_words : Entry → List (List ℕ)
 entry_words e = actor_word (actor_of e) ∷ said_words e
 
 -- Which entries have a row. A refused request must have opened nothing, and a mask must have been
--- refused as invalid. What no step makes has none: an ask without an edge, a thread's answer that
--- its number doesn't tell, a call by a handler or a thread, and the calls of devices' own.
+-- refused as invalid.
 abbrev pub IsPrintableDriver : DriverEntry → Type 0
-IsPrintableDriver (drivers.Ask edge dev) = edge ≡ true
 IsPrintableDriver (drivers.Request flags (links.Refused errno) opened dev) = opened ≡ openings.No
 IsPrintableDriver (drivers.Affinity (affinities.Refused errno) mask) = errno ≡ errnos.Inval
 IsPrintableDriver _ = Unit {0}
 
-abbrev pub IsPrintableThread : ThreadEntry → Type 0
-IsPrintableThread (threads.Return handled served) = handled ≡ nat_lt 0 served
-IsPrintableThread _ = Unit {0}
-
-abbrev pub IsPrintableCall : CallEntry → Type 0
-IsPrintableCall (called.Wake woken dev) = ⊥
-IsPrintableCall (called.Quiet dev) = ⊥
-IsPrintableCall (called.Arm edge dev) = ⊥
-IsPrintableCall (called.Serve dev served) = ⊥
-IsPrintableCall _ = Unit {0}
-
 abbrev pub IsPrintable : Entry → Type 0
-IsPrintable (by.Cpu cpu e) = Unit {0}
-IsPrintable (by.Thread dev e) = IsPrintableThread e
 IsPrintable (by.Driver driver e) = IsPrintableDriver e
-IsPrintable (by.CpuCall cpu call) = ⊥
-IsPrintable (by.ThreadCall dev call) = ⊥
-IsPrintable (by.DriverCall driver call) = IsPrintableCall call
+IsPrintable _ = Unit {0}

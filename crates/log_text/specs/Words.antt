@@ -71,6 +71,18 @@ abbrev pub yes_word : Bool → List ℕ
 yes_word true = codes "yes"
 yes_word false = codes "no"
 
+-- an ask that makes no edge on an edge line says so
+abbrev pub edge_words : Bool → List (List ℕ)
+edge_words true = []
+edge_words false = codes "no" ∷ []
+
+-- what a thread's handler answers, unless its number tells: whether it served
+abbrev pub handled_words : Bool → Bool → List (List ℕ)
+handled_words true true = []
+handled_words false false = []
+handled_words true false = codes "handled" ∷ []
+handled_words false true = codes "nothing" ∷ []
+
 -- whether the thread's bit is kept
 abbrev pub bit_word : Bool → List ℕ
 bit_word true = codes "kept"

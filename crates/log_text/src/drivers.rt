@@ -16,9 +16,12 @@ pub(crate) fn push_driver_entry(row: &mut TextRow, entry: DriverEntry)
     ensures short { length row.new ≤ 100 }
 {
     match entry {
-        DriverEntry::Ask { dev, .. } => {
+        DriverEntry::Ask { edge, dev } => {
             push_word(row, b"ask");
             push_number(row, dev.0);
+            if !edge {
+                push_word(row, b"no");
+            }
         }
         DriverEntry::Request {
             flags,

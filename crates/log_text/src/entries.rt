@@ -18,8 +18,8 @@ pub const MAX_ENTRY_ROW: usize = 101;
 /// Writes the row of an entry of the line: the line's number and the entry's words, with one space
 /// between each two, ended by a line feed. What the row held before is gone.
 ///
-/// The format has no row for a refused request that opened the line, for a mask refused as busy, nor
-/// for what no step makes.
+/// The format has no row for a refused request that opened the line, nor for a mask refused as
+/// busy.
 pub fn entry_row(row: &mut TextRow, line: LineNo, entry: &Entry)
     requires { IsPrintable entry.now }
     ensures text { row.new ≡ entry_text line entry.now }

@@ -1,6 +1,7 @@
 //! The words of what a thread does.
 ghost use Rattle.std.specs.Prelude.{◌≡◌, ◌≤◌, ◌++◌, length};
 ghost use Rattle.log_text.specs.EntryWords.{thread_words};
+ghost use Rattle.log_text.specs.Words.{handled_words};
 ghost use Rattle.log_text.specs.Spaced.{spaced};
 
 use crate::pieces::{push_number, push_word};
@@ -15,9 +16,10 @@ pub(crate) fn push_thread_entry(row: &mut TextRow, entry: ThreadEntry)
 {
     match entry {
         ThreadEntry::Begin => push_word(row, b"begin"),
-        ThreadEntry::Return { served, .. } => {
+        ThreadEntry::Return { handled, served } => {
             push_word(row, b"return");
             push_number(row, served);
+            push_handled(row, handled, served > 0);
         }
         ThreadEntry::Finish { kept, unmask } => {
             push_word(row, b"finish");
@@ -25,5 +27,18 @@ pub(crate) fn push_thread_entry(row: &mut TextRow, entry: ThreadEntry)
             push_word(row, words::of_mask(unmask));
         }
         ThreadEntry::Done => push_word(row, b"done"),
+    }
+}
+
+/// Adds what the thread's handler answered, unless its number tells. `served`: whether it served.
+fn push_handled(row: &mut TextRow, handled: bool, served: bool)
+    requires { length row.old ≤ 64 }
+    ensures text { row.new ≡ row.old ++ spaced (handled_words handled served) }
+    ensures short { length row.new ≤ 100 }
+{
+    match (handled, served) {
+        (true, true) | (false, false) => {}
+        (true, false) => push_word(row, b"handled"),
+        (false, true) => push_word(row, b"nothing"),
     }
 }

@@ -24,6 +24,14 @@ asked_line =
       limit = 99900;
       log = 28;
       devices =
-          record { dev = record { 0 = 3 }; line = record { 0 = 7 }; kind = kinds.Direct } ∷ [];
+          record {
+            dev = record { 0 = 3 };
+            line = record { 0 = 7 };
+            kind = kinds.Direct;
+            held = false;
+            forgets = false;
+          } ∷ [];
       calls = (record { 0 = 1 }, calls.Ask (record { 0 = 3 })) ∷ [];
+      runs = [];
+      told = [];
     }

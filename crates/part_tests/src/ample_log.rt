@@ -5,7 +5,7 @@ ghost use Rattle.part_tests.specs.AskedLine.{asked_line};
 use callbacks::ByKind;
 use irq_base::{
     Actor, Call, CallList, CpuNo, DevNo, DeviceDef, DeviceList, DriverEntry, DriverNo, Entry,
-    FlowKind, Kind, LineDef, LineNo, NoMemory, Trigger,
+    FlowKind, Kind, LineDef, LineNo, NoMemory, RunCallList, ToldList, Trigger,
 };
 use irq_line::Stepped;
 use line_storms::step_within_bound;
@@ -29,6 +29,8 @@ fn asked(alloc: Global) -> Result<LineDef, NoMemory>
         dev: DEV,
         line: LINE,
         kind: Kind::Direct,
+        held: false,
+        forgets: false,
     })?;
     let mut calls = CallList::new(alloc);
     calls.push((DRIVER, Call::Ask { dev: DEV }))?;
@@ -48,11 +50,13 @@ fn asked(alloc: Global) -> Result<LineDef, NoMemory>
         log: 28,
         devices,
         calls,
+        runs: RunCallList::new(alloc),
+        told: ToldList::new(alloc),
     })
 }
 
 #[test]
-#[tactic(auto, using(crate::proofs::AskedLine::asked_is_valid, crate::proofs::AskedLine::asked_is_ample))]
+#[tactic(auto, using(crate::proofs::AskedLine::asked_is_valid, crate::proofs::AskedLine::asked_has_valid_runs, crate::proofs::AskedLine::asked_never_waits, crate::proofs::AskedLine::asked_is_bounded, crate::proofs::AskedLine::asked_is_ample))]
 fn a_step_comes(rt: HostRuntime) -> Result<(), Fail> {
     let def = asked(rt.alloc())?;
     let mut line = PlainLine::new(rt.alloc(), &def)?;

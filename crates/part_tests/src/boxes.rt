@@ -15,9 +15,12 @@ const RUN: Run = Run {
         dev: DevNo(3),
         line: LineNo(1),
         kind: Kind::Check,
+        held: false,
+        forgets: false,
     },
     part: Part::Primary,
     unserved: 1,
+    told: None,
 };
 
 /// Handlers that count how often they are called.

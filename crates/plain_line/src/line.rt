@@ -3,6 +3,7 @@ ghost use Rattle.std.specs.Prelude.{◌≡◌, ◌+◌, ◌<◌, ◌≤◌, [], 
 ghost use Rattle.std.specs.Prelude.{IsTrue, Some, reverse};
 ghost use Rattle.irq_model.specs.Legal.{IsDue};
 ghost use Rattle.irq_model.specs.Valid.{IsValid};
+ghost use Rattle.irq_model.specs.ValidRuns.{HasValidRuns, NeverWaits};
 ghost use Rattle.irq_line.specs.Room.{MakesRoom};
 ghost use Rattle.plain_line.specs.Line.{IsPlain};
 ghost use Rattle.plain_line.specs.Looked.{IsLooked};
@@ -44,7 +45,9 @@ impl Model for PlainLine {
 impl PlainLine {
     /// The line of this definition, to which nothing has happened. The only error is `NoMemory`.
     pub fn new(alloc: Global, def: &LineDef) -> Result<PlainLine, NoMemory>
-        requires { IsValid def.now }
+        requires valid { IsValid def.now }
+        requires runs { HasValidRuns def.now }
+        requires waits { NeverWaits def.now }
         ensures def { IfOk result (λ line. line.def ≡ def.now) }
         ensures empty { IfOk result (λ line. line.entries ≡ []) }
     {

@@ -3,11 +3,11 @@ ghost use Rattle.std.specs.Prelude.{◌≡◌, ◌≤◌, length, IfErr, OnErr, 
 ghost use Rattle.irq_base.specs.declared.devices.Run.{Run};
 ghost use Rattle.irq_base.specs.declared.numbers.CpuNo.{CpuNo};
 ghost use Rattle.callbacks.specs.Heard.{Heard, one_run};
-ghost use Rattle.irq_line.specs.Runs.{device_of, run_ended};
+ghost use Rattle.irq_line.specs.Runs.{device_of, run_at, run_ended};
 
 use callbacks::Hears;
 use irq_base::{CpuEntry, DevNo, DeviceDef, Entry, LineDef, Part, Run, ThreadEntry};
-use plain_next::{asks_of_handler, asks_of_thread, kind_of};
+use plain_next::{does_forget, is_held, kind_of, met_by, told_of};
 
 /// Has the answer of the run that the entry ends, if it ends one.
 ///
@@ -44,6 +44,21 @@ fn device(def: &LineDef, dev: DevNo) -> DeviceDef
         dev,
         line: def.line,
         kind: kind_of(def, dev),
+        held: is_held(def, dev),
+        forgets: does_forget(def, dev),
+    }
+}
+
+/// The run of that part of the device.
+fn run_at(def: &LineDef, part: Part, dev: DevNo, past: &[Entry]) -> Run
+    requires { length past.now ≤ 100000000 }
+    ensures { result ≡ run_at def.now part dev past.now }
+{
+    Run {
+        def: device(def, dev),
+        part,
+        unserved: met_by(def, part, dev, past),
+        told: told_of(def, part, dev, past),
     }
 }
 
@@ -53,11 +68,7 @@ fn run_of_cpu(def: &LineDef, past: &[Entry], entry: CpuEntry) -> Option<Run>
     ensures { (cpu : CpuNo) → result ≡ run_ended def.now past.now (Entry.Cpu cpu entry) }
 {
     match entry {
-        CpuEntry::Return { dev, .. } => Some(Run {
-            def: device(def, dev),
-            part: Part::Primary,
-            unserved: asks_of_handler(def, dev, past),
-        }),
+        CpuEntry::Return { dev, .. } => Some(run_at(def, Part::Primary, dev, past)),
         _ => None,
     }
 }
@@ -68,11 +79,7 @@ fn run_of_thread(def: &LineDef, past: &[Entry], dev: DevNo, entry: ThreadEntry) 
     ensures { result ≡ run_ended def.now past.now (Entry.Thread dev entry) }
 {
     match entry {
-        ThreadEntry::Return { .. } => Some(Run {
-            def: device(def, dev),
-            part: Part::Thread,
-            unserved: asks_of_thread(def, dev, past),
-        }),
+        ThreadEntry::Return { .. } => Some(run_at(def, Part::Thread, dev, past)),
         _ => None,
     }
 }

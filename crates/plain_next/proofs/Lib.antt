@@ -2,3 +2,4 @@ mod Counts
 mod EdgeWalk
 mod Linked
 mod Somewhere
+pub mod Told

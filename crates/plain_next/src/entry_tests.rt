@@ -4,17 +4,17 @@ ghost use Rattle.irq_base.specs.Cell.{is_edge_trigger};
 ghost use Rattle.irq_model.specs.Kinds.{is_handle, is_leave, is_again, is_off, is_busy, is_start};
 ghost use Rattle.irq_model.specs.Lines.{is_eoi_flow};
 ghost use Rattle.irq_model.specs.Waiting.{clears_pending};
-ghost use Rattle.irq_model.specs.Asks.{begins_serving, ends_serving};
+ghost use Rattle.irq_model.specs.Asks.{begins_run, returns_served};
 ghost use Rattle.plain_next.specs.Passes.{passes};
 
 use crate::kinds::{
-    is_again, is_ask, is_begin, is_begin_or_return, is_busy, is_cleared_finish, is_deepening,
-    is_done, is_finish, is_freed, is_freed_by, is_handle, is_kill, is_leave, is_linked_request,
-    is_lowering, is_off, is_resend_take, is_return, is_soft_start, is_start, is_take,
-    is_thread_begin, is_thread_return, links_dev, returns_handled, returns_wake, unlinks_dev,
-    wakes,
+    is_again, is_ask, is_begin, is_begin_or_return, is_busy, is_by_driver, is_cleared_finish,
+    is_cpu_call, is_deepening, is_done, is_finish, is_freed, is_freed_by, is_handle, is_kill,
+    is_leave, is_linked_request, is_lowering, is_off, is_resend_take, is_serve, is_soft_start,
+    is_start, is_take, is_thread_begin, is_thread_call, is_thread_return, links_dev,
+    returns_handled, returns_wake, turns_off, turns_on, unlinks_dev, wakes,
 };
-use irq_base::{Actor, DevNo, Entry, FlowKind, Kind, Trigger};
+use irq_base::{Actor, CpuEntry, DevNo, DriverNo, Entry, FlowKind, Part, ThreadEntry, Trigger};
 
 /// A test on one entry.
 #[derive(Clone, Copy)]
@@ -25,15 +25,25 @@ pub enum EntryTest {
     Begin(DevNo),
     /// A handler begins or returns.
     BeginOrReturn,
-    /// A serving run of the device, which is of this kind, begins.
-    BeginsServing(Kind, DevNo),
-    /// A serving run of the device, which is of this kind, returns.
-    EndsServing(Kind, DevNo),
+    /// A run of that part of the device begins.
+    BeginsRun(Part, DevNo),
+    /// A run of that part of the device returns and has served.
+    ReturnsServed(Part, DevNo),
+    /// A call serves the device.
+    Serve(DevNo),
+    /// The device's own interrupt is turned off.
+    TurnsOff(DevNo),
+    /// The device's own interrupt is turned on.
+    TurnsOn(DevNo),
+    /// A handler's step of a call.
+    CpuCall,
+    /// A step of a call by the handler of the device's thread.
+    ThreadCall(DevNo),
     /// A handler returns and wakes its thread.
     ReturnsWake,
     /// A handler returns and has handled.
     ReturnsHandled,
-    /// The device's handler returns and wakes its thread.
+    /// The device's thread is woken.
     Wakes(DevNo),
     /// The device's thread handler begins.
     ThreadBegin(DevNo),
@@ -75,6 +85,8 @@ pub enum EntryTest {
     Freed(DevNo),
     /// The actor's free of a device is at its end.
     FreedBy(Actor),
+    /// The driver made the entry.
+    ByDriver(DriverNo),
 }
 
 /// Whether the entry passes the test.
@@ -86,8 +98,13 @@ pub fn passes(test: EntryTest, entry: Entry) -> bool
         EntryTest::Ask(dev) => is_ask(dev, entry),
         EntryTest::Begin(dev) => is_begin(dev, entry),
         EntryTest::BeginOrReturn => is_begin_or_return(entry),
-        EntryTest::BeginsServing(kind, dev) => begins_serving(kind, dev, entry),
-        EntryTest::EndsServing(kind, dev) => ends_serving(kind, dev, entry),
+        EntryTest::BeginsRun(part, dev) => begins_run(part, dev, entry),
+        EntryTest::ReturnsServed(part, dev) => returns_served(part, dev, entry),
+        EntryTest::Serve(dev) => is_serve(dev, entry),
+        EntryTest::TurnsOff(dev) => turns_off(dev, entry),
+        EntryTest::TurnsOn(dev) => turns_on(dev, entry),
+        EntryTest::CpuCall => is_cpu_call(entry),
+        EntryTest::ThreadCall(dev) => is_thread_call(dev, entry),
         EntryTest::ReturnsWake => returns_wake(entry),
         EntryTest::ReturnsHandled => returns_handled(entry),
         EntryTest::Wakes(dev) => wakes(dev, entry),
@@ -111,28 +128,40 @@ pub fn passes(test: EntryTest, entry: Entry) -> bool
         EntryTest::Unlinks(dev) => unlinks_dev(dev, entry),
         EntryTest::Freed(dev) => is_freed(dev, entry),
         EntryTest::FreedBy(actor) => is_freed_by(actor, entry),
+        EntryTest::ByDriver(driver) => is_by_driver(driver, entry),
     }
 }
 
-/// The entry at which a serving run of the device begins.
-fn begins_serving(kind: Kind, dev: DevNo, entry: Entry) -> bool
-    ensures { result ≡ begins_serving kind dev entry }
+/// A run of that part of the device begins.
+fn begins_run(part: Part, dev: DevNo, entry: Entry) -> bool
+    ensures { result ≡ begins_run part dev entry }
 {
-    match kind {
-        Kind::Direct => is_begin(dev, entry),
-        Kind::Check | Kind::Null => is_thread_begin(dev, entry),
-        Kind::Stuck => false,
+    match part {
+        Part::Primary => is_begin(dev, entry),
+        Part::Thread => is_thread_begin(dev, entry),
     }
 }
 
-/// The entry at which a serving run of the device returns.
-fn ends_serving(kind: Kind, dev: DevNo, entry: Entry) -> bool
-    ensures { result ≡ ends_serving kind dev entry }
+/// A run of that part of the device returns and has served.
+fn returns_served(part: Part, dev: DevNo, entry: Entry) -> bool
+    ensures { result ≡ returns_served part dev entry }
 {
-    match kind {
-        Kind::Direct => is_return(dev, entry),
-        Kind::Check | Kind::Null => is_thread_return(dev, entry),
-        Kind::Stuck => false,
+    match (part, entry) {
+        (
+            Part::Primary,
+            Entry::Cpu(
+                _,
+                CpuEntry::Return {
+                    dev: other,
+                    served,
+                    ..
+                },
+            ),
+        ) => dev == other && served > 0,
+        (Part::Thread, Entry::Thread(other, ThreadEntry::Return { served, .. })) => {
+            dev == other && served > 0
+        }
+        _ => false,
     }
 }
 

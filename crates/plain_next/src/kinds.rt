@@ -1,6 +1,6 @@
 //! Tests on one entry.
 ghost use Rattle.std.specs.Prelude.{◌≡◌};
-ghost use Rattle.irq_model.specs.Kinds.{is_device_edge, is_ask, is_begin, is_return};
+ghost use Rattle.irq_model.specs.Kinds.{is_device_edge, is_ask, is_begin};
 ghost use Rattle.irq_model.specs.Kinds.{is_begin_or_return, returns_wake, returns_handled, wakes};
 ghost use Rattle.irq_model.specs.Kinds.{is_thread_begin, is_thread_return, is_finish};
 ghost use Rattle.irq_model.specs.Kinds.{is_cleared_finish, is_done, is_take, is_resend_take};
@@ -8,9 +8,11 @@ ghost use Rattle.irq_model.specs.Kinds.{is_handle, is_busy, is_off, is_again, is
 ghost use Rattle.irq_model.specs.Kinds.{is_reopening, is_linked_request, links_dev, unlinks_dev};
 ghost use Rattle.irq_model.specs.Kinds.{is_last_unlink, opened_by_enable, opened_of, is_start};
 ghost use Rattle.irq_model.specs.Kinds.{is_chip_start, is_soft_start, is_disable, is_by_driver};
-ghost use Rattle.irq_model.specs.Kinds.{is_unlink, is_freed, is_freed_by};
+ghost use Rattle.irq_model.specs.Kinds.{is_unlink, is_freed, is_freed_by, made_by};
+ghost use Rattle.irq_model.specs.Kinds.{turns_off, turns_on, is_serve, is_cpu_call, is_thread_call};
 ghost use Rattle.irq_model.specs.Links.{is_deepening, is_lowering};
 ghost use Rattle.plain_next.specs.Calls.{call_of, dev_linked, dev_unlinked};
+ghost use Rattle.plain_next.specs.Calls.{returns_and_wakes, wakes_by_some_call};
 
 use irq_base::{
     Actor, Answer, CallEntry, CpuEntry, DevNo, DriverEntry, DriverNo, EnableAnswer, Entry,
@@ -29,11 +31,26 @@ pub fn call_of(entry: Entry) -> Option<CallEntry>
     }
 }
 
-/// A device makes an edge, if the line is raised by edges.
+/// The actor's step of a call.
+pub fn made_by(actor: Actor, call: CallEntry) -> Entry
+    ensures { result ≡ made_by actor call }
+{
+    match actor {
+        Actor::Cpu(cpu) => Entry::CpuCall(cpu, call),
+        Actor::Thread(dev) => Entry::ThreadCall(dev, call),
+        Actor::Driver(driver) => Entry::DriverCall(driver, call),
+    }
+}
+
+/// A device makes an edge, if the line is raised by edges: by an ask, or as its own interrupt is
+/// turned on.
 pub fn is_device_edge(entry: Entry) -> bool
     ensures { result ≡ is_device_edge entry }
 {
-    matches!(entry, Entry::Driver(_, DriverEntry::Ask { edge: true, .. }))
+    if let Entry::Driver(_, DriverEntry::Ask { edge, .. }) = entry {
+        return edge;
+    }
+    matches!(call_of(entry), Some(CallEntry::Arm { edge: true, .. }))
 }
 
 /// The device asks for service.
@@ -48,13 +65,6 @@ pub fn is_begin(dev: DevNo, entry: Entry) -> bool
     ensures { result ≡ is_begin dev entry }
 {
     matches!(entry, Entry::Cpu(_, CpuEntry::Begin { dev: other }) if dev == other)
-}
-
-/// The device's handler returns.
-pub fn is_return(dev: DevNo, entry: Entry) -> bool
-    ensures { result ≡ is_return dev entry }
-{
-    matches!(entry, Entry::Cpu(_, CpuEntry::Return { dev: other, .. }) if dev == other)
 }
 
 /// A handler begins or returns.
@@ -100,13 +110,62 @@ pub fn returns_handled(entry: Entry) -> bool
 }
 
 /// The device's handler returns and wakes its thread.
-pub fn wakes(dev: DevNo, entry: Entry) -> bool
-    ensures { result ≡ wakes dev entry }
+fn returns_and_wakes(dev: DevNo, entry: Entry) -> bool
+    ensures { result ≡ returns_and_wakes dev entry }
 {
     matches!(
         entry,
         Entry::Cpu(_, CpuEntry::Return { dev: other, answer: Answer::Wake, .. }) if dev == other
     )
+}
+
+/// A call wakes the device's thread.
+fn wakes_by_call(dev: DevNo, call: Option<CallEntry>) -> bool
+    ensures { result ≡ wakes_by_some_call dev call }
+{
+    matches!(call, Some(CallEntry::Wake { woken: true, dev: other }) if dev == other)
+}
+
+/// The device's thread is woken, by its handler's return or by a call.
+pub fn wakes(dev: DevNo, entry: Entry) -> bool
+    ensures { result ≡ wakes dev entry }
+{
+    returns_and_wakes(dev, entry) || wakes_by_call(dev, call_of(entry))
+}
+
+/// The device's own interrupt is turned off.
+pub fn turns_off(dev: DevNo, entry: Entry) -> bool
+    ensures { result ≡ turns_off dev entry }
+{
+    matches!(call_of(entry), Some(CallEntry::Quiet { dev: other }) if dev == other)
+}
+
+/// The device's own interrupt is turned on.
+pub fn turns_on(dev: DevNo, entry: Entry) -> bool
+    ensures { result ≡ turns_on dev entry }
+{
+    matches!(call_of(entry), Some(CallEntry::Arm { dev: other, .. }) if dev == other)
+}
+
+/// A call serves the device.
+pub fn is_serve(dev: DevNo, entry: Entry) -> bool
+    ensures { result ≡ is_serve dev entry }
+{
+    matches!(call_of(entry), Some(CallEntry::Serve { dev: other, .. }) if dev == other)
+}
+
+/// A handler's step of a call.
+pub fn is_cpu_call(entry: Entry) -> bool
+    ensures { result ≡ is_cpu_call entry }
+{
+    matches!(entry, Entry::CpuCall(..))
+}
+
+/// A step of a call by the handler of the device's thread.
+pub fn is_thread_call(dev: DevNo, entry: Entry) -> bool
+    ensures { result ≡ is_thread_call dev entry }
+{
+    matches!(entry, Entry::ThreadCall(other, _) if dev == other)
 }
 
 /// The device's thread handler begins.

@@ -5,9 +5,10 @@ ghost use Rattle.irq_base.specs.declared.numbers.DevNo.{DevNo};
 ghost use Rattle.irq_model.specs.Places.{count_of};
 ghost use Rattle.plain_next.specs.Tests.{Computes};
 ghost use Rattle.irq_model.specs.Lines.{is_edge_line, is_level_line, is_eoi_flow, serves};
-ghost use Rattle.irq_model.specs.Lines.{has_device, kind_in, kind_of, is_in_mask};
+ghost use Rattle.irq_model.specs.Lines.{has_device, kind_in, kind_of, is_in_mask, same_part};
+ghost use Rattle.irq_model.specs.Lines.{is_held, does_forget};
 
-use irq_base::{DevNo, DeviceDef, DeviceList, FlowKind, Kind, LineDef, Trigger};
+use irq_base::{DevNo, DeviceDef, DeviceList, FlowKind, Kind, LineDef, Part, Trigger};
 
 /// The line is raised by edges.
 pub fn is_edge_line(def: &LineDef) -> bool
@@ -67,6 +68,39 @@ pub fn kind_of(def: &LineDef, dev: DevNo) -> Kind
     ensures { result ≡ kind_of def.now dev }
 {
     kind_in(&def.devices, dev)
+}
+
+/// Both are the same part.
+pub fn is_same_part(part: Part, other: Part) -> bool
+    ensures { result ≡ same_part part other }
+{
+    part == other
+}
+
+/// The device's signal stays until all is served.
+pub fn is_held(def: &LineDef, dev: DevNo) -> bool
+    ensures { result ≡ is_held def.now dev }
+{
+    for i in 0..def.devices.len() {
+        let device = device_at(&def.devices, i);
+        if dev == device.dev && device.held {
+            return true;
+        }
+    }
+    false
+}
+
+/// The device makes no edge as its own interrupt is turned on.
+pub fn does_forget(def: &LineDef, dev: DevNo) -> bool
+    ensures { result ≡ does_forget def.now dev }
+{
+    for i in 0..def.devices.len() {
+        let device = device_at(&def.devices, i);
+        if dev == device.dev && device.forgets {
+            return true;
+        }
+    }
+    false
 }
 
 /// The line has the device.

@@ -84,7 +84,8 @@ fn next_of_own_thread(
     dev: DevNo,
     past: &[Entry],
 ) -> Result<Option<Entry>, NoMemory>
-    requires { length past.now ≤ 100000000 }
+    requires few { length past.now ≤ 100000000 }
+    requires devices { length def.now.devices ≤ 256 }
     ensures { IfOk result (λ entry. entry ≡ next_past def.now past.now (Actor.Thread dev)) }
 {
     if !has_device(def, dev) {

@@ -1,70 +1,35 @@
 //! The rows of the table for processors.
 ghost use Rattle.std.specs.Prelude.{◌≡◌, ◌≤◌, length, IfOk};
-ghost use Rattle.irq_base.specs.Handlers.{answer_of};
 ghost use Rattle.irq_model.specs.Rounds.{is_cpu};
-ghost use Rattle.irq_model.specs.Next.{asks_of_handler, served_by_handler, return_of, is_off_now};
+ghost use Rattle.irq_model.specs.Runs.{due_in_run};
+ghost use Rattle.irq_model.specs.Next.{handler_or_return, return_of, is_off_now};
 ghost use Rattle.irq_model.specs.Next.{end_edge, end_level, end_by_flow, end_of, begin_or_end};
 ghost use Rattle.irq_model.specs.Next.{next_in_flow, take_answer, next_take, next_of_cpu};
 
-use crate::asks::unserved_asks;
-use crate::entry_tests::EntryTest;
-use crate::lines::{is_edge_line, kind_of};
+use crate::lines::is_edge_line;
 use crate::links::{is_disabled, is_none_linked, is_oneshot, linked};
 use crate::masks::is_masked;
-use crate::places::before;
+use crate::next_call::{by_actor, next_step};
 use crate::rounds::{at_work, first_left, flow, has_flow};
+use crate::runs::{answer_of_run_now, due_in_run, served_by_run};
 use crate::signal::{signals, target};
 use crate::spurious::note_of;
 use crate::threads::is_some_unfinished;
 use crate::waiting::{is_pending, is_soft};
 use irq_base::{
-    Answer, CpuEntry, CpuNo, DevNo, Entry, FlowKind, Kind, LineDef, NoMemory, Note, Part,
-    TakeAnswer, Way,
+    Actor, CpuEntry, CpuNo, DevNo, Entry, FlowKind, LineDef, NoMemory, Note, Part, TakeAnswer, Way,
 };
 use std::alloc::Global;
 
 // ---- in the flow
-
-/// How many asks were unserved as the handler was called.
-#[tactic(auto, unfolding(crate::specs::Passes::passes))]
-pub fn asks_of_handler(def: &LineDef, dev: DevNo, past: &[Entry]) -> u32
-    requires { length past.now ≤ 100000000 }
-    ensures { result ≡ asks_of_handler def.now dev past.now }
-{
-    unserved_asks(def, dev, before(past, EntryTest::Begin(dev)))
-}
-
-/// The answer of a handler that begins with `unserved` unserved asks.
-fn primary_answer(kind: Kind, unserved: u32) -> Answer
-    ensures { result ≡ answer_of kind Part.Primary unserved }
-{
-    match kind {
-        Kind::Direct if unserved > 0 => Answer::Handled,
-        Kind::Check if unserved > 0 => Answer::Wake,
-        Kind::Null => Answer::Wake,
-        _ => Answer::Nothing,
-    }
-}
-
-/// How many asks a handler serves; only a direct device's handler does.
-fn served_by_handler(kind: Kind, unserved: u32) -> u32
-    ensures { result ≡ served_by_handler kind unserved }
-{
-    match kind {
-        Kind::Direct => unserved,
-        _ => 0,
-    }
-}
 
 /// The return of the device's handler.
 fn return_of(def: &LineDef, cpu: CpuNo, dev: DevNo, past: &[Entry]) -> Entry
     requires { length past.now ≤ 100000000 }
     ensures { result ≡ return_of def.now cpu dev past.now }
 {
-    let kind = kind_of(def, dev);
-    let unserved = asks_of_handler(def, dev, past);
-    let answer = primary_answer(kind, unserved);
-    let served = served_by_handler(kind, unserved);
+    let answer = answer_of_run_now(def, Part::Primary, dev, past);
+    let served = served_by_run(def, Part::Primary, dev, past);
     Entry::Cpu(
         cpu,
         CpuEntry::Return {
@@ -73,6 +38,26 @@ fn return_of(def: &LineDef, cpu: CpuNo, dev: DevNo, past: &[Entry]) -> Entry
             served,
         },
     )
+}
+
+/// The handler makes its next call, or returns.
+fn handler_or_return(
+    alloc: Global,
+    def: &LineDef,
+    cpu: CpuNo,
+    dev: DevNo,
+    past: &[Entry],
+) -> Result<Option<Entry>, NoMemory>
+    requires few { length past.now ≤ 100000000 }
+    requires devices { length def.now.devices ≤ 256 }
+    ensures { IfOk result (λ entry. entry ≡ handler_or_return def.now cpu dev past.now
+        (due_in_run def.now Part.Primary dev past.now)) }
+{
+    let Some((call, n)) = due_in_run(alloc, def, Part::Primary, dev, past)? else {
+        return Ok(Some(return_of(def, cpu, dev, past)));
+    };
+    let step = next_step(alloc, def, past, call, n)?;
+    Ok(by_actor(Actor::Cpu(cpu), step))
 }
 
 /// Disabled already, or by this very note.
@@ -167,23 +152,25 @@ fn begin_or_end(
     }
 }
 
-/// A handler that is at work returns; else the first handler that is left is called; else the round
-/// ends.
+/// A handler that is at work makes its next call, or returns; else the first handler that is left
+/// is called; else the round ends.
 fn next_in_flow(
     alloc: Global,
     def: &LineDef,
     cpu: CpuNo,
     past: &[Entry],
     working: Option<DevNo>,
-) -> Result<Entry, NoMemory>
-    requires { length past.now ≤ 100000000 }
+) -> Result<Option<Entry>, NoMemory>
+    requires few { length past.now ≤ 100000000 }
+    requires devices { length def.now.devices ≤ 256 }
     ensures { IfOk result (λ entry. entry ≡ next_in_flow def.now cpu past.now working) }
 {
     if let Some(d) = working {
-        return Ok(return_of(def, cpu, d, past));
+        return handler_or_return(alloc, def, cpu, d, past);
     }
     let devices = linked(alloc, past)?;
-    begin_or_end(alloc, def, cpu, past, first_left(def, past, &devices))
+    let left = first_left(def, past, &devices);
+    Ok(Some(begin_or_end(alloc, def, cpu, past, left)?))
 }
 
 // ---- taking an interrupt
@@ -246,10 +233,11 @@ pub fn next_of_cpu(
 ) -> Result<Option<Entry>, NoMemory>
     requires few { length past.now ≤ 100000000 }
     requires cpus { def.now.cpus ≤ 32 }
+    requires devices { length def.now.devices ≤ 256 }
     ensures { IfOk result (λ entry. entry ≡ next_of_cpu def.now cpu past.now) }
 {
     if is_cpu(cpu, flow(def, past)) {
-        return Ok(Some(next_in_flow(alloc, def, cpu, past, at_work(past))?));
+        return next_in_flow(alloc, def, cpu, past, at_work(past));
     }
     next_take(alloc, def, cpu, past)
 }

@@ -1,20 +1,22 @@
 //! The rows of the table for drivers.
-ghost use Rattle.std.specs.Prelude.{◌≡◌, ◌≤◌, length, IfOk, Some, option_map};
+ghost use Rattle.std.specs.Prelude.{◌≡◌, ◌≤◌, length, IfOk};
 ghost use Rattle.std.specs.List.{list_any};
 ghost use Rattle.irq_model.specs.Next.{flags_differ, same_flag, link_answer, opened_by_request};
 ghost use Rattle.irq_model.specs.Next.{request_of, affinity_answer, next_of_request, next_of_call};
+ghost use Rattle.irq_model.specs.Next.{ask_makes_edge, next_of_driver};
 ghost use Rattle.irq_model.specs.Due.{due_call};
 ghost use Rattle.irq_model.specs.Links.{linking_flags};
 
+use crate::asks::{is_quiet, unserved_asks};
 use crate::due::{due_call, holds_mutex};
 use crate::kinds::opened_by_enable;
-use crate::lines::kind_of;
+use crate::lines::{is_edge_line, is_held, kind_of};
 use crate::links::{has_spurious_mark, is_none_linked, linked, linking_flags};
-use crate::next_call::{enable_answer, next_of_disable, next_of_free, next_of_sync, resend_of};
+use crate::next_call::{by_actor, enable_answer, next_step, resend_of};
 use crate::signal::lowest_in;
 use irq_base::{
-    AffinityAnswer, Call, CallEntry, DevNo, DriverEntry, DriverNo, Entry, Errno, Flags, Kind,
-    LineDef, LinkAnswer, NoMemory, Opened,
+    Actor, AffinityAnswer, Call, DevNo, DriverEntry, DriverNo, Entry, Errno, Flags, Kind, LineDef,
+    LinkAnswer, NoMemory, Opened,
 };
 use std::alloc::Global;
 
@@ -29,7 +31,8 @@ pub fn next_of_driver(
     requires cpus { def.now.cpus ≤ 32 }
     requires devices { length def.now.devices ≤ 256 }
     ensures { IfOk result
-        (λ entry. entry ≡ next_of_call def.now driver past.now (due_call def.now driver past.now)) }
+        (λ entry. entry ≡ next_of_driver def.now driver past.now
+        (due_call def.now driver past.now)) }
 {
     match due_call(alloc, def, driver, past)? {
         Some((call, n)) => next_of_call(alloc, def, driver, past, call, n),
@@ -171,11 +174,15 @@ fn next_of_request(
     Ok(Some(request_of(alloc, def, driver, dev, flags, past)?))
 }
 
-/// The step, made by the driver.
-fn by_driver(driver: DriverNo, step: Option<CallEntry>) -> Option<Entry>
-    ensures { result ≡ option_map (Entry.DriverCall driver) step }
+/// Whether an ask of the device makes an edge; on a level line each counts as one that does.
+fn ask_makes_edge(def: &LineDef, dev: DevNo, past: &[Entry]) -> bool
+    requires { length past.now ≤ 100000000 }
+    ensures { result ≡ ask_makes_edge def.now dev past.now }
 {
-    Some(Entry::DriverCall(driver, step?))
+    if !is_edge_line(def) {
+        return true;
+    }
+    !is_quiet(past, dev) && (!is_held(def, dev) || unserved_asks(def, dev, past) == 0)
 }
 
 /// The next entry of the driver's due call, which has made `n` entries.
@@ -190,23 +197,23 @@ fn next_of_call(
     requires few { length past.now ≤ 100000000 }
     requires cpus { def.now.cpus ≤ 32 }
     requires devices { length def.now.devices ≤ 256 }
-    ensures { IfOk result (λ entry. entry ≡ next_of_call def.now driver past.now (Some (call, n))) }
+    ensures { IfOk result
+        (λ entry. entry ≡ next_of_call def.now (Actor.Driver driver) past.now (call, n)) }
 {
     Ok(match call {
-        Call::Ask { dev } => Some(Entry::Driver(driver, DriverEntry::Ask { edge: true, dev })),
-        Call::Request { dev, flags } => next_of_request(alloc, def, driver, dev, flags, past)?,
-        Call::Free { dev } => by_driver(driver, next_of_free(alloc, def, dev, n, past)?),
-        Call::Disable => by_driver(driver, next_of_disable(def, n, past)),
-        Call::DisableNosync => Some(Entry::DriverCall(driver, CallEntry::Disable)),
-        Call::Enable => {
-            let answer = enable_answer(alloc, def, past)?;
-            Some(Entry::DriverCall(driver, CallEntry::Enable { answer }))
+        Call::Ask { dev } => {
+            let edge = ask_makes_edge(def, dev, past);
+            Some(Entry::Driver(driver, DriverEntry::Ask { edge, dev }))
         }
-        Call::Sync => by_driver(driver, next_of_sync(def, n, past)),
+        Call::Request { dev, flags } => next_of_request(alloc, def, driver, dev, flags, past)?,
         Call::Affinity { mask } => {
             let answer = affinity_answer(def, mask);
             Some(Entry::Driver(driver, DriverEntry::Affinity { answer, mask }))
         }
         Call::Moment { at } => Some(Entry::Driver(driver, DriverEntry::Moment { at })),
+        _ => {
+            let step = next_step(alloc, def, past, call, n)?;
+            by_actor(Actor::Driver(driver), step)
+        }
     })
 }

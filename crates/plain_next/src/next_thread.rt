@@ -3,27 +3,20 @@ ghost use Rattle.std.specs.Prelude.{◌≡◌, ◌≤◌, length, IfOk};
 ghost use Rattle.std.specs.List.{list_any};
 ghost use Rattle.irq_model.specs.Places.{since};
 ghost use Rattle.irq_model.specs.Kinds.{is_finish, is_thread_begin, is_thread_return};
-ghost use Rattle.irq_model.specs.Next.{asks_of_thread, finish_unmasks, finish_or_done};
-ghost use Rattle.irq_model.specs.Next.{next_of_thread, thread_return};
+ghost use Rattle.irq_model.specs.Next.{thread_return_of, finish_unmasks, finish_or_done};
+ghost use Rattle.irq_model.specs.Next.{call_or_return, next_of_thread};
+ghost use Rattle.irq_model.specs.Runs.{due_in_run};
 
-use crate::asks::unserved_asks;
 use crate::entry_tests::EntryTest;
 use crate::links::{is_disabled, is_oneshot};
 use crate::masks::is_masked;
-use crate::places::{before, has, since};
+use crate::next_call::{by_actor, next_step};
+use crate::places::{has, since};
 use crate::rounds::has_flow;
+use crate::runs::{answer_of_run_now, due_in_run, served_by_run};
 use crate::threads::{is_other_unfinished, is_running, is_woken};
-use irq_base::{DevNo, Entry, LineDef, NoMemory, ThreadEntry};
+use irq_base::{Actor, Answer, DevNo, Entry, LineDef, NoMemory, Part, ThreadEntry};
 use std::alloc::Global;
-
-/// How many asks were unserved as the thread's run began.
-#[tactic(auto, unfolding(crate::specs::Passes::passes))]
-pub fn asks_of_thread(def: &LineDef, dev: DevNo, past: &[Entry]) -> u32
-    requires { length past.now ≤ 100000000 }
-    ensures { result ≡ asks_of_thread def.now dev past.now }
-{
-    unserved_asks(def, dev, before(past, EntryTest::ThreadBegin(dev)))
-}
 
 /// The thread's handler returned in this run.
 #[tactic(auto, unfolding(crate::specs::Passes::passes))]
@@ -43,12 +36,34 @@ fn has_finished(past: &[Entry], dev: DevNo) -> bool
     has(returned, EntryTest::Finish(dev))
 }
 
-/// The return of the thread's handler, whose answer is IRQ_HANDLED if the run served.
-fn thread_return(dev: DevNo, served: u32) -> Entry
-    ensures { result ≡ thread_return dev served }
+/// The return of the thread's handler.
+fn thread_return_of(def: &LineDef, dev: DevNo, past: &[Entry]) -> Entry
+    requires { length past.now ≤ 100000000 }
+    ensures { result ≡ thread_return_of def.now dev past.now }
 {
-    let handled = served > 0;
+    let answer = answer_of_run_now(def, Part::Thread, dev, past);
+    let handled = matches!(answer, Answer::Handled);
+    let served = served_by_run(def, Part::Thread, dev, past);
     Entry::Thread(dev, ThreadEntry::Return { handled, served })
+}
+
+/// A run that has calls left makes the next one; else it returns.
+fn call_or_return(
+    alloc: Global,
+    def: &LineDef,
+    dev: DevNo,
+    past: &[Entry],
+) -> Result<Option<Entry>, NoMemory>
+    requires few { length past.now ≤ 100000000 }
+    requires devices { length def.now.devices ≤ 256 }
+    ensures { IfOk result (λ entry. entry ≡ call_or_return def.now dev past.now
+        (due_in_run def.now Part.Thread dev past.now)) }
+{
+    let Some((call, n)) = due_in_run(alloc, def, Part::Thread, dev, past)? else {
+        return Ok(Some(thread_return_of(def, dev, past)));
+    };
+    let step = next_step(alloc, def, past, call, n)?;
+    Ok(by_actor(Actor::Thread(dev), step))
 }
 
 /// Whether a finish unmasks the line.
@@ -99,15 +114,15 @@ pub fn next_of_thread(
     dev: DevNo,
     past: &[Entry],
 ) -> Result<Option<Entry>, NoMemory>
-    requires { length past.now ≤ 100000000 }
+    requires few { length past.now ≤ 100000000 }
+    requires devices { length def.now.devices ≤ 256 }
     ensures { IfOk result (λ entry. entry ≡ next_of_thread def.now dev past.now) }
 {
     if !is_running(past, dev) {
         return Ok(is_woken(past, dev).then_some(Entry::Thread(dev, ThreadEntry::Begin)));
     }
     if !has_returned(past, dev) {
-        let served = asks_of_thread(def, dev, past);
-        return Ok(Some(thread_return(dev, served)));
+        return call_or_return(alloc, def, dev, past);
     }
     finish_or_done(alloc, def, dev, past)
 }

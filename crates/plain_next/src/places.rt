@@ -1,11 +1,12 @@
 //! Walks over a list of entries, the newest first.
-ghost use Rattle.std.specs.Prelude.{◌≡◌, ◌≤◌, length};
+ghost use Rattle.std.specs.Prelude.{◌≡◌, ◌≤◌, length, filter, reverse, IfOk};
 ghost use Rattle.std.specs.List.{list_any};
 ghost use Rattle.irq_model.specs.Places.{stands, since, before, count_of, last_of};
 ghost use Rattle.plain_next.specs.Passes.{passes};
 
 use crate::entry_tests::{EntryTest, passes};
-use irq_base::Entry;
+use irq_base::{Entry, NoMemory};
+use std::alloc::Global;
 
 /// Whether some entry sets (`sets`), and no entry after it clears (`clears`).
 pub fn stands(past: &[Entry], sets: EntryTest, clears: EntryTest) -> bool
@@ -78,6 +79,19 @@ pub fn last_of(past: &[Entry], test: EntryTest) -> Option<Entry>
         rest = older;
     }
     None
+}
+
+/// The entries that pass the test, the oldest first.
+pub fn oldest_first(alloc: Global, past: &[Entry], test: EntryTest) -> Result<Vec<Entry>, NoMemory>
+    ensures { IfOk result (λ entries. entries.items ≡ reverse (filter (passes test) past.now)) }
+{
+    let mut entries = Vec::new(alloc);
+    for i in (0..past.len()).rev() {
+        if passes(test, past[i]) {
+            entries.push(past[i])?;
+        }
+    }
+    Ok(entries)
 }
 
 /// How many entries pass the test.

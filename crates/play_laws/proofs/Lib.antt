@@ -1,2 +1,4 @@
 pub mod Listed
+pub mod NobodyHangs
+pub mod Moves
 pub mod Rest

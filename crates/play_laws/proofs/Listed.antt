@@ -1,6 +1,6 @@
 -- Only the line's own actors ever have a due entry.
 use Rattle.std.proofs.Common.{◌≡◌, ℕ, zero, suc, ◌+◌, ◌==◌, ◌⊎◌, inl, inr, Bool, true, false, ◌||◌, ◌&&◌, cond, nat_lt}
-use Rattle.std.proofs.Common.{Option, Some, None, List, [], ◌∷◌, ◌++◌, map, refl, sym, ap, ◌∙◌, subst, eqb-true}
+use Rattle.std.proofs.Common.{Option, Some, None, is_some, List, [], ◌∷◌, ◌++◌, map, refl, sym, ap, ◌∙◌, subst, eqb-true}
 use Rattle.std.proofs.lemmas.Bool.{or_cases, or_left, or_right}
 use Rattle.std.specs.List.{list_any}
 use Rattle.irq_base.specs.declared.numbers.CpuNo.{CpuNo}
@@ -20,21 +20,21 @@ use Rattle.irq_model.specs.Lines.{is_device, has_device, is_in_mask, is_eoi_flow
 use Rattle.irq_model.specs.Links.{is_linked}
 use Rattle.irq_model.specs.Places.{last_of}
 use Rattle.irq_model.specs.Links.{is_oneshot}
-use Rattle.irq_model.specs.Waiting.{is_soft}
-use Rattle.irq_model.specs.Rounds.{closes, cpu_of_handle, flow, has_flow, is_cpu, at_work}
-use Rattle.irq_model.specs.Signal.{lowest_from, mask_in_force, target, signals}
+use Rattle.irq_model.specs.Rounds.{closes, cpu_of_handle, flow, has_flow, is_cpu}
+use Rattle.irq_model.specs.Signal.{lowest_from, mask_in_force, target}
 use Rattle.irq_model.specs.Threads.{is_woken, is_running}
 use Rattle.irq_model.specs.Due.{calls_by, due_of, due_call, entries_by}
 use Rattle.irq_model.specs.Reason.{is_being_freed, is_called}
 use Rattle.irq_model.specs.Threads.{is_unfinished}
-use Rattle.irq_model.specs.Next.{next_in_flow, next_take, next_of_cpu, next_of_thread, next_of_call, next_past}
+use Rattle.irq_model.specs.Next.{next_of_thread, next_of_driver, next_past}
+use Rattle.irq_model.specs.Waits.{is_unfinished_actor}
 use Rattle.irq_model.specs.Legal.{IsDue, IsLegalPast}
 use Rattle.irq_model.specs.Valid.{IsValid}
 use Rattle.irq_steps.proofs.Same.{cpu_from_same}
 use Rattle.irq_laws.specs.Kept.{Kept}
-use Rattle.irq_laws.proofs.RestKept.{there_named}
+use Rattle.irq_laws.proofs.RestKept.{there_named, woken_there, running_there}
 use Rattle.irq_laws.proofs.Chosen.{chosen, the_same}
-use Rattle.irq_laws.proofs.ImpliesFlow.{take_due, cpu_cases, take_cases}
+use Rattle.irq_laws.proofs.ImpliesFlow.{take_due, CpuRow, calls, returns, begins, ends, takes, resent, cpu_row}
 use Rattle.irq_laws.proofs.ImpliesThread.{row, has_returned, has_finished}
 use Rattle.play_laws.specs.Actors.{put, rising, count_up, threads_of, cpus_of, drivers_of, actors_of, IsOneOf}
 
@@ -90,7 +90,7 @@ device_number d (x ∷ xs) h = by_case (or_cases (is_device d x) (list_any (is_d
     by_case (inl here) deeper = or_left (d.0 == x.dev.0) _ here
     by_case (inr there) deeper = or_right (d.0 == x.dev.0) _ (deeper there)
 
-idle_thread : (r w t o f h : Bool) (a b c d e : Entry) → row r w t o f h a b c d ≡ Some e → w ≡ false → r ≡ false → ⊥
+idle_thread : (r w t o f h : Bool) (a : Entry) (b : Option Entry) (c d e : Entry) → row r w t o f h a b c d ≡ Some e → w ≡ false → r ≡ false → ⊥
 idle_thread true w t o f h a b c d e is x y = cc
 idle_thread false true t o f h a b c d e is x y = cc
 idle_thread false false t o f h a b c d e is x y = cc
@@ -119,16 +119,19 @@ thread_device def past d e k h = by_there (is_linked past d || is_being_freed pa
         absurd (idle_thread (is_running past d) (is_woken past d) (has_returned past d) (is_oneshot past)
         (has_finished past d) (has_flow def past) _ _ _ _ e h m.0 m.1)
 
-thread_listed : (def : LineDef) (past : List Entry) (d : DevNo) (e : Entry)
-    → next_past def past (actors.Thread d) ≡ Some e → IsOneOf (actors.Thread d) (threads_of def)
-thread_listed def past d e h = by_line (chosen (has_device def d) (next_of_thread def d past) None e h)
+device_listed : (def : LineDef) (d : DevNo) → list_any (is_device d) def.devices ≡ true → IsOneOf (actors.Thread d) (threads_of def)
+device_listed def d h = named numbered d.0 (map (λ (x : DeviceDef). x.dev.0) def.devices) (device_number d def.devices h)
   where
     numbered : ℕ → Actor
     numbered n = actors.Thread (record { 0 = n })
 
+thread_listed : (def : LineDef) (past : List Entry) (d : DevNo) (e : Entry)
+    → next_past def past (actors.Thread d) ≡ Some e → IsOneOf (actors.Thread d) (threads_of def)
+thread_listed def past d e h = by_line (chosen (has_device def d) (next_of_thread def d past) None e h)
+  where
     by_line : ((has_device def d ≡ true) × (next_of_thread def d past ≡ Some e))
-        ⊎ ((has_device def d ≡ false) × (None ≡ Some e)) → IsOneOf (numbered d.0) (threads_of def)
-    by_line (inl h) = named numbered d.0 (map (λ (x : DeviceDef). x.dev.0) def.devices) (device_number d def.devices h.0)
+        ⊎ ((has_device def d ≡ false) × (None ≡ Some e)) → IsOneOf (actors.Thread d) (threads_of def)
+    by_line (inl h) = device_listed def d h.0
     by_line (inr h) = let n = h.1 in cc
 
 -- ---- processors
@@ -177,18 +180,22 @@ flow_listed def (e ∷ past) c legal is = by_test (is_handle e || closes def e) 
         (λ (b : Bool). cpu_of_handle (cond b (Some e) (last_of (λ e. is_handle e || closes def e) past))) t) ∙ is)
     by_test false t deeper = deeper (sym (ap (λ (b : Bool). cpu_of_handle (cond b (Some e) (last_of (λ e. is_handle e || closes def e) past))) t) ∙ is)
 
-cpu_listed : (def : LineDef) (past : List Entry) (c : CpuNo) (e : Entry) → IsLegalPast def past
-    → next_of_cpu def c past ≡ Some e → IsOneOf (actors.Cpu c) (cpus_of def)
-cpu_listed def past c e legal h = by_case (cpu_cases def c past e h)
+-- the flow is that of one of the line's processors
+pub flow_of_own : (def : LineDef) (past : List Entry) (c : CpuNo) → IsLegalPast def past
+    → is_cpu c (flow def past) ≡ true → IsOneOf (actors.Cpu c) (cpus_of def)
+flow_of_own def past c legal is = in_flow (flow def past) refl is
   where
     in_flow : (o : Option CpuNo) → flow def past ≡ o → is_cpu c o ≡ true → IsOneOf (actors.Cpu c) (cpus_of def)
     in_flow None at is = cc
     in_flow (Some k) at is = subst (λ (x : CpuNo). IsOneOf (actors.Cpu x) (cpus_of def)) (sym (cpu_from_same c k is)) (flow_listed def past k legal at)
 
-    by_case : ((is_cpu c (flow def past) ≡ true) × (next_in_flow def c past (at_work past) ≡ e))
-        ⊎ ((is_cpu c (flow def past) ≡ false) × (next_take def c past ≡ Some e)) → IsOneOf (actors.Cpu c) (cpus_of def)
-    by_case (inl h) = in_flow (flow def past) refl h.0
-    by_case (inr h) = target_listed def past c (take_cases (is_cpu c (target def past)) (signals def past) (is_soft past) _ _ e h.1).0
+cpu_listed : (def : LineDef) (past : List Entry) (c : CpuNo) (e : Entry) → IsLegalPast def past → CpuRow def c past e → IsOneOf (actors.Cpu c) (cpus_of def)
+cpu_listed def past c e legal (calls call u same) = flow_of_own def past c legal u.of_flow
+cpu_listed def past c e legal (returns d f w n same) = flow_of_own def past c legal f
+cpu_listed def past c e legal (begins d f w l same) = flow_of_own def past c legal f
+cpu_listed def past c e legal (ends f w l same) = flow_of_own def past c legal f
+cpu_listed def past c e legal (takes f t s same) = target_listed def past c t
+cpu_listed def past c e legal (resent f t s o same) = target_listed def past c t
 
 -- ---- drivers
 
@@ -203,16 +210,20 @@ call_number r (c ∷ cs) es x h = by_test (same_driver r c.0) refl (call_number 
     by_test true is deeper = or_left (r.0 == c.0.0) _ is
     by_test false is deeper = or_right (r.0 == c.0.0) _ (deeper (sym (ap (λ (b : Bool). due_of (cond b (c.1 ∷ calls_by r cs) (calls_by r cs)) es) is) ∙ h))
 
-driver_listed : (def : LineDef) (past : List Entry) (r : DriverNo) (e : Entry)
-    → next_of_call def r past (due_call def r past) ≡ Some e → IsOneOf (actors.Driver r) (drivers_of def)
-driver_listed def past r e h = by_due (due_call def r past) refl h
+-- a driver with a due call
+pub due_listed : (def : LineDef) (past : List Entry) (r : DriverNo) (x : Call × ℕ) → due_call def r past ≡ Some x → IsOneOf (actors.Driver r) (drivers_of def)
+due_listed def past r x is = named numbered r.0 (map (λ (c : DriverNo × Call). c.0.0) def.calls) (call_number r def.calls (entries_by r past) x is)
   where
     numbered : ℕ → Actor
     numbered n = actors.Driver (record { 0 = n })
 
-    by_due : (o : Option (Call × ℕ)) → due_call def r past ≡ o → next_of_call def r past o ≡ Some e → IsOneOf (numbered r.0) (drivers_of def)
+driver_listed : (def : LineDef) (past : List Entry) (r : DriverNo) (e : Entry)
+    → next_of_driver def r past (due_call def r past) ≡ Some e → IsOneOf (actors.Driver r) (drivers_of def)
+driver_listed def past r e h = by_due (due_call def r past) refl h
+  where
+    by_due : (o : Option (Call × ℕ)) → due_call def r past ≡ o → next_of_driver def r past o ≡ Some e → IsOneOf (actors.Driver r) (drivers_of def)
     by_due None is h = cc
-    by_due (Some x) is h = named numbered r.0 (map (λ (c : DriverNo × Call). c.0.0) def.calls) (call_number r def.calls (entries_by r past) x is)
+    by_due (Some x) is h = due_listed def past r x is
 
 -- ---- all of them
 
@@ -222,7 +233,27 @@ mover_listed def past (actors.Thread d) e valid legal h =
     in_first (actors.Thread d) (threads_of def) (cpus_of def ++ drivers_of def) (thread_listed def past d e h)
 mover_listed def past (actors.Cpu c) e valid legal h =
     in_second (actors.Cpu c) (threads_of def) (cpus_of def ++ drivers_of def)
-    (in_first (actors.Cpu c) (cpus_of def) (drivers_of def) (cpu_listed def past c e legal h))
+    (in_first (actors.Cpu c) (cpus_of def) (drivers_of def) (cpu_listed def past c e legal (cpu_row def c past e h)))
 mover_listed def past (actors.Driver r) e valid legal h =
     in_second (actors.Driver r) (threads_of def) (cpus_of def ++ drivers_of def)
     (in_second (actors.Driver r) (cpus_of def) (drivers_of def) (driver_listed def past r e h))
+
+-- who has begun something, or has something left to do
+pub unfinished_listed : (def : LineDef) (past : List Entry) (a : Actor) → IsLegalPast def past → Kept def past
+    → is_unfinished_actor def past a ≡ true → IsOneOf a (actors_of def)
+unfinished_listed def past (actors.Thread d) legal k h =
+    in_first (actors.Thread d) (threads_of def) (cpus_of def ++ drivers_of def) (device_listed def d (there (or_cases (is_woken past d) (is_running past d) h)))
+  where
+    there : (is_woken past d ≡ true) ⊎ (is_running past d ≡ true) → list_any (is_device d) def.devices ≡ true
+    there (inl woken) = there_named def past k d (woken_there def past k d woken)
+    there (inr running) = there_named def past k d (running_there def past k d running)
+unfinished_listed def past (actors.Cpu c) legal k h =
+    in_second (actors.Cpu c) (threads_of def) (cpus_of def ++ drivers_of def)
+    (in_first (actors.Cpu c) (cpus_of def) (drivers_of def) (flow_of_own def past c legal h))
+unfinished_listed def past (actors.Driver r) legal k h = by_due (due_call def r past) refl
+  where
+    by_due : (o : Option (Call × ℕ)) → due_call def r past ≡ o → IsOneOf (actors.Driver r) (actors_of def)
+    by_due None is = let n : true ≡ false = sym h ∙ ap is_some is in cc
+    by_due (Some x) is =
+        in_second (actors.Driver r) (threads_of def) (cpus_of def ++ drivers_of def)
+        (in_second (actors.Driver r) (cpus_of def) (drivers_of def) (due_listed def past r x is))

@@ -3,14 +3,20 @@
 //! lemma.
 #![tactic(auto)]
 
-ghost use Rattle.std.specs.Prelude.{◌≡◌, None, List};
+ghost use Rattle.std.specs.Prelude.{◌≡◌, false, ◌||◌, IsSome, Some, None, List, reverse};
 ghost use Rattle.irq_base.specs.declared.lines.LineDef.{LineDef};
+ghost use Rattle.irq_base.specs.declared.numbers.CpuNo.{CpuNo};
+ghost use Rattle.irq_base.specs.declared.numbers.DevNo.{DevNo};
 ghost use Rattle.irq_base.specs.declared.entries.Actor.{Actor};
+ghost use Rattle.irq_base.specs.declared.entries.Actor.TheVariants as actors;
 ghost use Rattle.irq_base.specs.declared.entries.Entry.{Entry};
 ghost use Rattle.irq_model.specs.Next.{next};
 ghost use Rattle.irq_model.specs.Legal.{IsLegal};
-ghost use Rattle.irq_model.specs.Settled.{IsSettled};
+ghost use Rattle.irq_model.specs.Rounds.{flow, has_flow};
+ghost use Rattle.irq_model.specs.Threads.{is_woken, is_running};
 ghost use Rattle.irq_model.specs.Valid.{IsValid};
+ghost use Rattle.irq_model.specs.ValidRuns.{HasValidRuns, NeverWaits};
+ghost use Rattle.irq_model.specs.Waits.{IsAtRest, IsHungPast};
 ghost use Rattle.play_laws.specs.Actors.{actors_of, IsOneOf};
 
 /// Only the line's own actors ever have a due entry.
@@ -19,9 +25,45 @@ pub fn others_rest()
         → (IsOneOf a (actors_of def) → ⊥) → next def h a ≡ None }
 {}
 
-/// No standstill: if after a legal history none of the line's own actors has a due entry, the line
-/// is settled.
-pub fn rest_is_settled()
+/// If after a legal history none of the line's own actors has a due entry, no actor has.
+pub fn rest_is_still()
     ensures law { (def : LineDef) (h : List Entry) → IsValid def → IsLegal def h
-        → ((a : Actor) → IsOneOf a (actors_of def) → next def h a ≡ None) → IsSettled def h }
+        → ((a : Actor) → IsOneOf a (actors_of def) → next def h a ≡ None) → (a : Actor)
+        → next def h a ≡ None }
+{}
+
+/// No standstill: if after a legal history none of the line's own actors has a due entry, and none
+/// of them is hung, the line is at rest. The scripts of runs are as a board may have them.
+pub fn rest_is_at_rest()
+    ensures law { (def : LineDef) (h : List Entry) → IsValid def → HasValidRuns def
+        → IsLegal def h → ((a : Actor) → IsOneOf a (actors_of def) → next def h a ≡ None)
+        → ((a : Actor) → IsOneOf a (actors_of def) → IsHungPast def (reverse h) a → ⊥)
+        → IsAtRest def h }
+{}
+
+/// Where no run waits nobody hangs: if after a legal history none of the line's own actors has a
+/// due entry, the line is at rest.
+pub fn unwaiting_rests()
+    ensures law { (def : LineDef) (h : List Entry) → IsValid def → HasValidRuns def
+        → NeverWaits def → IsLegal def h
+        → ((a : Actor) → IsOneOf a (actors_of def) → next def h a ≡ None) → IsAtRest def h }
+    ensures unhung { (def : LineDef) (h : List Entry) (a : Actor) → IsValid def
+        → HasValidRuns def → NeverWaits def → IsLegal def h → IsHungPast def (reverse h) a → ⊥ }
+{}
+
+/// Where no run waits, the processor of the flow in progress always has a due entry.
+pub fn flow_goes_on()
+    ensures law { (def : LineDef) (h : List Entry) (c : CpuNo) → HasValidRuns def
+        → NeverWaits def → flow def (reverse h) ≡ Some c → IsSome (next def h (actors.Cpu c)) }
+{}
+
+/// Where no run waits: if after a legal history neither a processor nor a thread has a due entry,
+/// no flow is in progress, and no thread is woken or in a run.
+pub fn still_is_idle()
+    ensures no_flow { (def : LineDef) (h : List Entry) → HasValidRuns def → NeverWaits def
+        → ((c : CpuNo) → next def h (actors.Cpu c) ≡ None) → has_flow def (reverse h) ≡ false }
+    ensures no_thread { (def : LineDef) (h : List Entry) → IsValid def → HasValidRuns def
+        → NeverWaits def → IsLegal def h → has_flow def (reverse h) ≡ false
+        → ((d : DevNo) → next def h (actors.Thread d) ≡ None) → (d : DevNo)
+        → (is_woken (reverse h) d || is_running (reverse h) d) ≡ false }
 {}

@@ -8,8 +8,9 @@ use thiserror::Error;
 /// Why a board wasn't played to its end, or the play not printed whole.
 #[derive(Clone, Copy, PartialEq, Eq, Error)]
 pub enum PlayFailed {
-    /// Memory was refused for anything but a step: before the first one, for the reports, or to take
-    /// the lines of a run back from its threads. No report is handed out, and nothing is printed.
+    /// Memory was refused for anything but a step: before the first one, for the reports, or to
+    /// take the lines of a run back from its threads. No report is handed out, and nothing is
+    /// printed.
     #[error("out of memory")]
     NoMemory,
     /// The step that was due next was refused. Nothing is printed.

@@ -14,7 +14,9 @@ use Rattle.irq_base.specs.declared.entries.Entry.TheVariants as by
 use Rattle.irq_base.specs.declared.entries.CpuEntry.TheVariants as cpus
 use Rattle.irq_base.specs.declared.entries.ThreadEntry.TheVariants as threads
 use Rattle.irq_base.specs.declared.entries.DriverEntry.TheVariants as drivers
+use Rattle.irq_base.specs.declared.entries.CallEntry.{CallEntry}
 use Rattle.irq_base.specs.declared.entries.CallEntry.TheVariants as called
+use Rattle.irq_base.specs.declared.entries.Actor.TheVariants as actors
 use Rattle.irq_base.specs.declared.entries.Note.{Note}
 use Rattle.irq_base.specs.declared.entries.TakeAnswer.TheVariants as takes
 use Rattle.irq_base.specs.declared.entries.LinkAnswer.{LinkAnswer}
@@ -23,7 +25,8 @@ use Rattle.irq_base.specs.declared.entries.UnlinkAnswer.TheVariants as unlinks
 use Rattle.irq_base.specs.declared.entries.Opened.TheVariants as opens
 use Rattle.irq_model.specs.Places.{EachEntry, count_of}
 use Rattle.irq_model.specs.Kinds.{same_driver, is_take, is_again, is_disable, is_kill, is_start, is_started_opened}
-use Rattle.irq_model.specs.Kinds.{is_lowering_opened, is_hard_clear, is_synced}
+use Rattle.irq_model.specs.Kinds.{is_lowering_opened, is_hard_clear, is_synced, disables, unlinks_one, unlinks_last, opened_by_call}
+use Rattle.irq_laws.specs.Actors.{by_someone}
 use Rattle.irq_model.specs.Lines.{is_edge_line}
 use Rattle.irq_model.specs.Links.{linked, is_none_linked, depth, is_disabled, is_reset, is_deepening, is_lowering}
 use Rattle.irq_model.specs.Rounds.{flow, has_flow}
@@ -40,14 +43,14 @@ use Rattle.irq_steps.proofs.DepthSteps.{raised, lowered, raised_more}
 use Rattle.irq_steps.proofs.WaitSteps.{pending_by_clearing}
 use Rattle.irq_steps.proofs.Same.{driver_from_same}
 use Rattle.irq_laws.proofs.Lists.{both_ways}
-use Rattle.irq_laws.proofs.OwnLaws.{no_cpu_call, no_thread_call}
 use Rattle.irq_laws.proofs.KeptAlways.{kept}
 use Rattle.irq_laws.proofs.RunsKept.{handle_idle}
 use Rattle.irq_laws.proofs.RunLaws.{synchronised}
-use Rattle.irq_laws.proofs.ImpliesFlow.{again_by, has_a_flow, take_due, return_due, end_due}
-use Rattle.irq_laws.proofs.ImpliesThread.{thread_begin_due, done_due}
+use Rattle.irq_laws.proofs.ImpliesFlow.{again_by, has_a_flow, take_due, return_due, end_due, handler_call_due}
+use Rattle.irq_laws.proofs.ImpliesThread.{thread_begin_due, done_due, thread_call_due}
 use Rattle.irq_laws.proofs.ImpliesDriver.{opened_with, request_due, hard_clear_due}
-use Rattle.sleep_laws.specs.Sleeping.{is_disable_by, is_synced_by, is_enable_by, disturbs, since_disable, before_disable, is_suspended, is_left_alone}
+use Rattle.sleep_laws.specs.Sleeping.{enables, wakes_by_driver, is_disable_by, is_synced_by, is_enable_by, disturbs}
+use Rattle.sleep_laws.specs.Sleeping.{since_disable, before_disable, is_suspended, is_left_alone}
 use Rattle.sleep_laws.proofs.Waits.{is_hard_clear_by, cleared_before}
 
 -- `older`: what stood before the disable; `newer`: what came since
@@ -71,9 +74,16 @@ pub record LeavesAlone (e : Entry) (past : List Entry) : Type 0 where
   pub no_disable : is_disable e ≡ false
   pub same_links : linked (e ∷ past) ≡ linked past
 
+call_quiet : (call : CallEntry) (past : List Entry) → (disables call || (enables call || (false || (unlinks_one call || false)))) ≡ false
+    → (unlinks_last call ≡ false) × (is_lowering_opened (opened_by_call call) ≡ false) × (is_started_opened (opened_by_call call) ≡ false)
+    × (disables call ≡ false) × (linked (by_someone call ∷ past) ≡ linked past)
+call_quiet called.Disable past none = cc
+call_quiet (called.Enable answer) past none = cc
+call_quiet (called.Unlink (unlinks.Unlinked last) x) past none = cc
+call_quiet (called.Unlink unlinks.NotThere x) past none = (refl, refl, refl, refl, linked_not_there (record { 0 = 0 }) x past)
+call_quiet call past none = (refl, refl, refl, refl, refl)
+
 pub quiet : (def : LineDef) (e : Entry) (past : List Entry) → IsDue def e past → disturbs e ≡ false → LeavesAlone e past
-quiet def (by.DriverCall s called.Disable) past due none = cc
-quiet def (by.DriverCall s (called.Enable answer)) past due none = cc
 quiet def (by.Driver s (drivers.Request flags links.Linked opened x)) past due none = cc
 quiet def (by.Driver s (drivers.Request flags (links.Refused error) opened x)) past due none =
     let u = request_due def s x flags (links.Refused error) opened past due in
@@ -86,11 +96,17 @@ quiet def (by.Driver s (drivers.Request flags (links.Refused error) opened x)) p
           = refl;
       same_links = linked_refused s x flags error opened past;
     }
-quiet def (by.DriverCall s (called.Unlink (unlinks.Unlinked last) x)) past due none = cc
-quiet def (by.DriverCall s (called.Unlink unlinks.NotThere x)) past due none =
-    record { no_reset = refl; no_lowering = refl; no_start = refl; no_disable = refl; same_links = linked_not_there s x past }
-quiet def (by.CpuCall c call) past due none = no_cpu_call def c call past due
-quiet def (by.ThreadCall x call) past due none = no_thread_call def x call past due
+quiet def (by.CpuCall c call) past due none = let q = call_quiet call past none in
+    record { no_reset = or_from _ _ q.0 refl; no_lowering = q.1; no_start = q.2; no_disable = q.3; same_links = q.4 }
+quiet def (by.ThreadCall x call) past due none = let q = call_quiet call past none in
+    record { no_reset = or_from _ _ q.0 refl; no_lowering = q.1; no_start = q.2; no_disable = q.3; same_links = q.4 }
+quiet def (by.DriverCall s call) past due none = let q
+    = call_quiet call past (but_wakes (disables call) (enables call) (unlinks_one call)
+    (wakes_by_driver (by.DriverCall s call)) none) in
+    record { no_reset = or_from _ _ q.0 refl; no_lowering = q.1; no_start = q.2; no_disable = q.3; same_links = q.4 }
+  where
+    but_wakes : (d e u w : Bool) → (d || (e || (false || (u || w)))) ≡ false → (d || (e || (false || (u || false)))) ≡ false
+    but_wakes d e u w h = grind arith
 quiet def e past due none = record { no_reset = refl; no_lowering = refl; no_start = refl; no_disable = refl; same_links = refl }
 
 -- it makes the line deeper exactly if it kills it
@@ -157,16 +173,21 @@ take_pends def e past due deep edge took = cc
 
 -- ---- the threads rest
 
-threads_rest : (def : LineDef) (e : Entry) (past : List Entry) → IsDue def e past → has_flow def past ≡ false
+threads_rest : (def : LineDef) (e : Entry) (past : List Entry) → IsDue def e past → has_flow def past ≡ false → disturbs e ≡ false
     → ((d : DevNo) → (is_woken past d || is_running past d) ≡ false)
     → (d : DevNo) → (is_woken (e ∷ past) d || is_running (e ∷ past) d) ≡ false
-threads_rest def (by.Cpu c (cpus.Return answer x served)) past due idle rest d =
+threads_rest def (by.Cpu c (cpus.Return answer x served)) past due idle none rest d =
     both_ways (has_flow def past) (has_a_flow c (flow def past) (return_due def c x answer served past due).of_flow) idle
-threads_rest def (by.Thread x threads.Begin) past due idle rest d =
+threads_rest def (by.Thread x threads.Begin) past due idle none rest d =
     both_ways (is_woken past x) (thread_begin_due def x past due).woken (or_parts (is_woken past x) (is_running past x) (rest x)).0
-threads_rest def (by.Thread x threads.Done) past due idle rest d =
+threads_rest def (by.Thread x threads.Done) past due idle none rest d =
     both_ways (is_running past x) (done_due def x past due).running (or_parts (is_woken past x) (is_running past x) (rest x)).1
-threads_rest def e past due idle rest d = rest d
+threads_rest def (by.CpuCall c call) past due idle none rest d =
+    both_ways (has_flow def past) (has_a_flow c (flow def past) (handler_call_due def c call past due).of_flow) idle
+threads_rest def (by.ThreadCall x call) past due idle none rest d =
+    both_ways (is_running past x) (thread_call_due def x call past due).running (or_parts (is_woken past x) (is_running past x) (rest x)).1
+threads_rest def (by.DriverCall s (called.Wake true x)) past due idle none rest d = cc
+threads_rest def e past due idle none rest d = rest d
 
 -- at a synced no thread is woken or in a run
 abbrev Synchronised : Entry → List Entry → Type 0
@@ -191,7 +212,7 @@ cleared_more : (def : LineDef) (r : DriverNo) (e : Entry) (past newer : List Ent
     → (list_any (is_hard_clear_by r) newer ≡ true → has_flow def past ≡ false)
     → list_any (is_hard_clear_by r) (e ∷ newer) ≡ true → has_flow def (e ∷ past) ≡ false
 cleared_more def r (by.DriverCall s called.HardClear) past newer due deep was h =
-    ap is_some (flow_quiet def (by.DriverCall s called.HardClear) past refl refl refl) ∙ (hard_clear_due def s past due).no_flow
+    ap is_some (flow_quiet def (by.DriverCall s called.HardClear) past refl refl refl) ∙ hard_clear_due def (actors.Driver s) past due
 cleared_more def r e past newer due deep was h = flow_stays def e past due deep (was h)
 
 waited_more : (def : LineDef) (r : DriverNo) (e : Entry) (past : List Entry) → IsLegalPast def (e ∷ past)
@@ -205,11 +226,11 @@ waited_more def r (by.DriverCall s called.Synced) past legal was h = by_case (or
     by_case (inr there) = was there
 waited_more def r e past legal was h = or_right (is_hard_clear_by r e) _ (was h)
 
-rested_more : (def : LineDef) (r : DriverNo) (e : Entry) (past newer : List Entry) → IsValid def → IsLegalPast def (e ∷ past)
+rested_more : (def : LineDef) (r : DriverNo) (e : Entry) (past newer : List Entry) → IsValid def → IsLegalPast def (e ∷ past) → disturbs e ≡ false
     → (list_any (is_synced_by r) newer ≡ true → (has_flow def past ≡ false) × ((d : DevNo) → (is_woken past d || is_running past d) ≡ false))
     → list_any (is_synced_by r) (e ∷ newer) ≡ true → (d : DevNo) → (is_woken (e ∷ past) d || is_running (e ∷ past) d) ≡ false
-rested_more def r (by.DriverCall s called.Synced) past newer valid legal was h d = all_idle def s past valid legal d
-rested_more def r e past newer valid legal was h d = let w = was h in threads_rest def e past legal.0 w.0 w.1 d
+rested_more def r (by.DriverCall s called.Synced) past newer valid legal none was h d = all_idle def s past valid legal d
+rested_more def r e past newer valid legal none was h d = let w = was h in threads_rest def e past legal.0 w.0 none w.1 d
 
 pending_more : (def : LineDef) (e : Entry) (past newer : List Entry) → IsDue def e past → 0 < depth past → LeavesAlone e past → is_edge_line def ≡ true
     → (list_any is_take newer ≡ true → is_pending def past ≡ true) → list_any is_take (e ∷ newer) ≡ true → is_pending def (e ∷ past) ≡ true
@@ -237,7 +258,7 @@ more def r e past valid legal none k =
       links = q.same_links ∙ k.links;
       cleared = cleared_more def r e past (since_disable r past) legal.0 deep k.cleared;
       waited = waited_more def r e past legal k.waited;
-      rested = rested_more def r e past (since_disable r past) valid legal (λ h. (k.cleared (k.waited h), k.rested h));
+      rested = rested_more def r e past (since_disable r past) valid legal none (λ h. (k.cleared (k.waited h), k.rested h));
       pending = λ edge. pending_more def e past (since_disable r past) legal.0 deep q edge (k.pending edge);
     }
 

@@ -16,14 +16,15 @@ use Rattle.irq_model.specs.Kinds.{same_driver, is_by_driver}
 use Rattle.irq_model.specs.Rounds.{has_flow}
 use Rattle.irq_model.specs.Threads.{active_count}
 use Rattle.irq_model.specs.Due.{calls_by, entries_by, due_of, due_call}
-use Rattle.irq_model.specs.Next.{enable_answer, next_of_call}
+use Rattle.irq_model.specs.Next.{enable_answer, next_of_driver}
 use Rattle.irq_model.specs.Legal.{IsDue, IsLegal, IsLegalPast}
 use Rattle.irq_steps.proofs.Same.{same_self_driver}
 use Rattle.irq_steps.proofs.DueSteps.{entries_more, entries_same}
 use Rattle.irq_laws.proofs.Chosen.{the_same}
 use Rattle.irq_laws.proofs.Lists.{both_ways}
-use Rattle.irq_laws.proofs.OwnLaws.{no_cpu_call, no_thread_call}
-use Rattle.sleep_laws.specs.Sleeping.{is_disable_by, is_enable_by, disturbs, is_other_call, since_disable, is_suspended, is_left_alone, others_only_ask}
+use Rattle.sleep_laws.specs.Sleeping.{has_calm_runs, is_disable_by, is_enable_by, disturbs, is_other_call}
+use Rattle.sleep_laws.specs.Sleeping.{since_disable, is_suspended, is_left_alone, others_only_ask}
+use Rattle.sleep_laws.proofs.Calm.{handler_moves_not, thread_moves_not}
 use Rattle.sleep_laws.proofs.Waits.{own_due, not_own, made_unless, made_when}
 
 abbrev pub disturbs_by : DriverNo → Entry → Bool
@@ -71,9 +72,9 @@ past_other r e past other (at_enable a b c d is awake) = at_enable a b c d (entr
 
 -- the entry is the next of the call that is due after those
 own_next : (def : LineDef) (r : DriverNo) (e : Entry) (past es : List Entry) → calls_by r def.calls ≡ script
-    → entries_by r past ≡ es → next_of_call def r past (due_call def r past) ≡ Some e
-    → next_of_call def r past (due_of script es) ≡ Some e
-own_next def r e past es of_script is due = subst (λ (o : Option (Call × ℕ)). next_of_call def r past o ≡ Some e)
+    → entries_by r past ≡ es → next_of_driver def r past (due_call def r past) ≡ Some e
+    → next_of_driver def r past (due_of script es) ≡ Some e
+own_next def r e past es of_script is due = subst (λ (o : Option (Call × ℕ)). next_of_driver def r past o ≡ Some e)
     (ap₂ (λ (cs : List Call) (xs : List Entry). due_of cs xs) of_script is) due
 
 one_more : (r : DriverNo) (e : Entry) (past es : List Entry) → is_by_driver r e ≡ true → entries_by r past ≡ es → entries_by r (e ∷ past) ≡ es ++ e ∷ []
@@ -93,7 +94,7 @@ awake_at : (def : LineDef) (r : DriverNo) (past : List Entry) → is_suspended r
 awake_at def r past = ap (λ (b : Bool). false || (not b && is_suspended r past)) (same_self_driver r)
 
 past_own : (def : LineDef) (r : DriverNo) (e : Entry) (past : List Entry) → calls_by r def.calls ≡ script
-    → is_by_driver r e ≡ true → next_of_call def r past (due_call def r past) ≡ Some e → Position r past
+    → is_by_driver r e ≡ true → next_of_driver def r past (due_call def r past) ≡ Some e → Position r past
     → Position r (e ∷ past)
 past_own def r e past of_script mine due (at_none is awake) =
     let same : by.DriverCall r called.Disable ≡ e = the_same (by.DriverCall r called.Disable) e (own_next def r e past [] of_script is due) in
@@ -127,20 +128,23 @@ neither : (b m : Bool) → (b && m) ≡ false → (not b && true) ≡ false → 
 neither true m own other = own
 neither false m own other = cc
 
-undisturbed : (def : LineDef) (r : DriverNo) (e : Entry) (past : List Entry) → IsDue def e past → disturbs_by r e ≡ false
-    → is_other_call r e ≡ false → disturbs e ≡ false
-undisturbed def r (by.CpuCall c call) past due own other = no_cpu_call def c call past due
-undisturbed def r (by.ThreadCall x call) past due own other = no_thread_call def x call past due
-undisturbed def r (by.DriverCall s call) past due own other = neither (same_driver r s) (disturbs (by.DriverCall s call)) own other
-undisturbed def r (by.Driver s (drivers.Request flags answer opened x)) past due own other
-    = neither (same_driver r s) (disturbs (by.Driver s (drivers.Request flags answer opened x))) own other
-undisturbed def r e past due own other = refl
+calm : (d e u : Bool) → (d ≡ false) × (e ≡ false) × (u ≡ false) → (d || (e || (false || (u || false)))) ≡ false
+calm d e u h = let a = h.0 in let b = h.1 in let c = h.2 in grind arith
 
-none_disturbs : (def : LineDef) (r : DriverNo) (p : Entry → Bool) (past : List Entry) → IsLegalPast def past
+undisturbed : (def : LineDef) (r : DriverNo) (e : Entry) (past : List Entry) → IsDue def e past → has_calm_runs def ≡ true → disturbs_by r e ≡ false
+    → is_other_call r e ≡ false → disturbs e ≡ false
+undisturbed def r (by.CpuCall c call) past due runs own other = calm _ _ _ (handler_moves_not def c call past runs due)
+undisturbed def r (by.ThreadCall x call) past due runs own other = calm _ _ _ (thread_moves_not def x call past runs due)
+undisturbed def r (by.DriverCall s call) past due runs own other = neither (same_driver r s) (disturbs (by.DriverCall s call)) own other
+undisturbed def r (by.Driver s (drivers.Request flags answer opened x)) past due runs own other
+    = neither (same_driver r s) (disturbs (by.Driver s (drivers.Request flags answer opened x))) own other
+undisturbed def r e past due runs own other = refl
+
+none_disturbs : (def : LineDef) (r : DriverNo) (p : Entry → Bool) (past : List Entry) → IsLegalPast def past → has_calm_runs def ≡ true
     → list_any (disturbs_by r) (since p past) ≡ false → list_any (is_other_call r) (since p past) ≡ false
     → list_any disturbs (since p past) ≡ false
-none_disturbs def r p [] legal own other = refl
-none_disturbs def r p (e ∷ past) legal own other = by_test (p e) own other (none_disturbs def r p past legal.1)
+none_disturbs def r p [] legal runs own other = refl
+none_disturbs def r p (e ∷ past) legal runs own other = by_test (p e) own other (none_disturbs def r p past legal.1 runs)
   where
     by_test : (b : Bool) → list_any (disturbs_by r) (cond b [] (e ∷ since p past)) ≡ false
         → list_any (is_other_call r) (cond b [] (e ∷ since p past)) ≡ false
@@ -151,7 +155,7 @@ none_disturbs def r p (e ∷ past) legal own other = by_test (p e) own other (no
     by_test false own other deeper =
         let o = or_parts (disturbs_by r e) (list_any (disturbs_by r) (since p past)) own in
         let n = or_parts (is_other_call r e) (list_any (is_other_call r) (since p past)) other in
-        or_from (disturbs e) (list_any disturbs (since p past)) (undisturbed def r e past legal.0 o.0 n.0) (deeper o.1 n.1)
+        or_from (disturbs e) (list_any disturbs (since p past)) (undisturbed def r e past legal.0 runs o.0 n.0) (deeper o.1 n.1)
 
 own_left : (r : DriverNo) (past : List Entry) → is_suspended r past ≡ true → Position r past → IsOwnLeft r past
 own_left r past stands (at_none is awake) = both_ways (is_suspended r past) stands awake
@@ -164,9 +168,9 @@ not_false : (b : Bool) → not b ≡ true → b ≡ false
 not_false true h = cc
 not_false false h = refl
 
-pub left_alone : (def : LineDef) (r : DriverNo) (h : List Entry) → IsLegal def h
+pub left_alone : (def : LineDef) (r : DriverNo) (h : List Entry) → IsLegal def h → has_calm_runs def ≡ true
     → calls_by r def.calls ≡ calls.Disable ∷ calls.Enable ∷ [] → is_suspended r (reverse h) ≡ true
     → others_only_ask r (reverse h) ≡ true → is_left_alone r (reverse h) ≡ true
-left_alone def r h legal of_script stands others =
+left_alone def r h legal runs of_script stands others =
     let own = own_left r (reverse h) stands (position def r (reverse h) of_script legal) in
-    ap not (none_disturbs def r (is_disable_by r) (reverse h) legal own (not_false (list_any (is_other_call r) (since_disable r (reverse h))) others))
+    ap not (none_disturbs def r (is_disable_by r) (reverse h) legal runs own (not_false (list_any (is_other_call r) (since_disable r (reverse h))) others))

@@ -1,3 +1,4 @@
+pub mod Calm
 pub mod Waits
 pub mod Held
 pub mod SleepLaws

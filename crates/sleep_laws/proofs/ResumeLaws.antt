@@ -8,6 +8,7 @@ use Rattle.irq_base.specs.declared.devices.DeviceDef.{DeviceDef}
 use Rattle.irq_base.specs.declared.numbers.DevNo.{DevNo}
 use Rattle.irq_base.specs.declared.numbers.DriverNo.{DriverNo}
 use Rattle.irq_base.specs.declared.lines.LineDef.{LineDef}
+use Rattle.irq_base.specs.declared.entries.Actor.TheVariants as actors
 use Rattle.irq_base.specs.declared.entries.Entry.{Entry}
 use Rattle.irq_base.specs.declared.entries.Entry.TheVariants as by
 use Rattle.irq_base.specs.declared.entries.CallEntry.TheVariants as called
@@ -106,7 +107,7 @@ restores_at def r (by.DriverCall s (called.Enable answer)) past due mine k some 
     let lowering = lowers (is_none_linked past) (depth past == 0) (depth past == 1) (resend_of def past) some
     (not_zero (depth past) (some_deep def r past k)) in
     restored s answer past (depth (before_disable r past) + count_of is_kill (since_disable r past))
-    (ap (λ (a : EnableAnswer). is_lowering_opened (opened_by_enable a)) (enable_due def s answer past due).answer_is ∙ lowering)
+    (ap (λ (a : EnableAnswer). is_lowering_opened (opened_by_enable a)) (enable_due def (actors.Driver s) answer past due) ∙ lowering)
     (moved (depth (before_disable r past)) (count_of is_kill (since_disable r past)) (depth past) k.deeper)
 restores_at def r e past due mine k some = cc
 
@@ -114,7 +115,7 @@ unlinked_at : (def : LineDef) (r : DriverNo) (e : Entry) (past : List Entry) →
     → is_enable_by r e ≡ true → is_none_linked past ≡ true → depth (e ∷ past) ≡ depth past
 unlinked_at def r (by.DriverCall s (called.Enable answer)) past due mine none =
     unchanged s answer past
-    (ap (λ (a : EnableAnswer). is_lowering_opened (opened_by_enable a)) (enable_due def s answer past due).answer_is
+    (ap (λ (a : EnableAnswer). is_lowering_opened (opened_by_enable a)) (enable_due def (actors.Driver s) answer past due)
     ∙ lowers_none (is_none_linked past) (depth past == 0) (depth past == 1) (resend_of def past) none)
 unlinked_at def r e past due mine none = cc
 
@@ -152,7 +153,7 @@ started : (def : LineDef) (s : DriverNo) (answer : EnableAnswer) (past : List En
     → IsDue def (by.DriverCall s (called.Enable answer)) past → WasOpen past → answer ≡ enables.Started (resend_of def past)
 started def s answer past due w =
     let is = w.one in
-    (enable_due def s answer past due).answer_is
+    (enable_due def (actors.Driver s) answer past due)
     ∙ starts (is_none_linked past) (depth past == 0) (depth past == 1) (resend_of def past) w.some
     (not_zero (depth past) (omega (arith, is))) (eq-eqb (depth past) 1 is)
 

@@ -48,7 +48,7 @@ abbrev driver : ℕ → DriverNo
 driver n = record { 0 = n }
 
 abbrev device : ℕ → Kind → DeviceDef
-device n kind = record { dev = dev n; line = line; kind = kind }
+device n kind = record { dev = dev n; line = line; kind = kind; held = false; forgets = false }
 
 abbrev no_flags : Flags
 no_flags = record { shared = false; oneshot = false; noauto = false }
@@ -72,6 +72,8 @@ latch =
       log = 10000;
       devices = [];
       calls = [];
+      runs = [];
+      told = [];
     }
 
 -- a level line with the level flow

@@ -4,6 +4,9 @@
 use Rattle.std.specs.Prelude.{Bool, true, false, not, ◌||◌, ◌&&◌, List}
 use Rattle.std.specs.List.{list_any}
 use Rattle.irq_base.specs.Who.{actor_of}
+use Rattle.irq_base.specs.declared.calls.Call.{Call}
+use Rattle.irq_base.specs.declared.calls.Call.TheVariants as calls
+use Rattle.irq_base.specs.declared.lines.LineDef.{LineDef}
 use Rattle.irq_base.specs.declared.numbers.DriverNo.{DriverNo}
 use Rattle.irq_base.specs.declared.entries.Actor.{Actor}
 use Rattle.irq_base.specs.declared.entries.Actor.TheVariants as actors
@@ -58,10 +61,16 @@ enables _ = false
 abbrev pub is_any_enable : Entry → Bool
 is_any_enable e = is_call enables e
 
--- somebody disables or enables the line, or links or unlinks a device (`disable_irq`, `enable_irq`,
--- `request_threaded_irq`, `free_irq`)
+-- a driver wakes a thread; a handler can only within a flow, and so before the line sleeps
+abbrev pub wakes_by_driver : Entry → Bool
+wakes_by_driver (by.DriverCall driver (called.Wake woken dev)) = woken
+wakes_by_driver _ = false
+
+-- somebody disables or enables the line, or links or unlinks a device, or a driver wakes a thread
+-- (`disable_irq`, `enable_irq`, `request_threaded_irq`, `free_irq`, `irq_wake_thread`)
 abbrev pub disturbs : Entry → Bool
-disturbs e = is_disable e || (is_any_enable e || (is_linked_request e || is_unlink e))
+disturbs e = is_disable e
+    || (is_any_enable e || (is_linked_request e || (is_unlink e || wakes_by_driver e)))
 
 -- since r's disable nobody disturbed the line
 abbrev pub is_left_alone : DriverNo → List Entry → Bool
@@ -79,3 +88,20 @@ is_other_call r e = is_other_driver r (actor_of e) && not (is_any_ask e)
 -- suspended (`kernel/power/process.c`); devices go on.
 abbrev pub others_only_ask : DriverNo → List Entry → Bool
 others_only_ask r past = not (list_any (is_other_call r) (since_disable r past))
+
+-- ---- lines whose runs leave them alone
+
+-- a call that moves the line, or that waits
+abbrev pub moves_or_waits : Call → Bool
+moves_or_waits calls.Disable = true
+moves_or_waits calls.DisableNosync = true
+moves_or_waits calls.DisableHard = true
+moves_or_waits calls.Enable = true
+moves_or_waits (calls.Free dev) = true
+moves_or_waits calls.Sync = true
+moves_or_waits calls.SyncHard = true
+moves_or_waits _ = false
+
+-- no run disables or enables the line, frees a device or waits
+abbrev pub has_calm_runs : LineDef → Bool
+has_calm_runs def = not (list_any (λ c. moves_or_waits c.2) def.runs)

@@ -17,7 +17,9 @@ ghost use Rattle.irq_model.specs.Due.{calls_by, due_call};
 ghost use Rattle.irq_model.specs.Legal.{IsLegal};
 ghost use Rattle.irq_model.specs.Next.{next};
 ghost use Rattle.irq_model.specs.Valid.{IsValid};
+ghost use Rattle.irq_model.specs.ValidRuns.{HasValidRuns};
 ghost use Rattle.sleep_laws.specs.Sleeping.{is_suspended, is_left_alone, others_only_ask};
+ghost use Rattle.sleep_laws.specs.Sleeping.{has_calm_runs};
 ghost use Rattle.sleep_laws.specs.Slept.{SleepsSoundly, ResumesAsItWas};
 
 /// While a line sleeps it is disabled and at rest: no handler is called, no thread begins a run,
@@ -35,18 +37,23 @@ pub fn resumes_as_it_was()
 {}
 
 /// A driver whose calls on the line are one disable and one enable disturbs nothing between the
-/// two, so a line is left alone as long as the other drivers only ask.
+/// two, so a line is left alone as long as the other drivers only ask, if no run of its devices
+/// disables, enables, frees or waits.
 pub fn left_alone()
     ensures law { (def : LineDef) (r : DriverNo) (h : List Entry) → IsLegal def h
+        → has_calm_runs def ≡ true
         → calls_by r def.calls ≡ calls.Disable ∷ calls.Enable ∷ []
         → is_suspended r (reverse h) ≡ true → others_only_ask r (reverse h) ≡ true
         → is_left_alone r (reverse h) ≡ true }
 {}
 
 /// Falling asleep never gets stuck: once no thread and no processor of the line may add an entry, a
-/// driver whose disable isn't complete may.
+/// driver whose disable isn't complete may, if no run of the line's devices disables, enables,
+/// frees
+/// or waits. The scripts of runs are as a board may have them.
 pub fn falls_asleep()
     ensures law { (def : LineDef) (h : List Entry) (r : DriverNo) (n : ℕ)
+        → HasValidRuns def → has_calm_runs def ≡ true
         → ((d : DevNo) → next def h (actors.Thread d) ≡ None)
         → ((c : CpuNo) → next def h (actors.Cpu c) ≡ None)
         → due_call def r (reverse h) ≡ Some (calls.Disable, n)

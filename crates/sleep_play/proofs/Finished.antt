@@ -43,7 +43,7 @@ use Rattle.play_report.specs.Printing.{StepHasRow}
 use Rattle.irq_pm.specs.Phases.{Next, Phase, Picking, sleep_next, sleep_order}
 use Rattle.irq_pm.specs.SleepLog.{moves_of, told}
 use Rattle.irq_pm.specs.Slept.{Sleeps, SleepsThrough}
-use Rattle.irq_pm.specs.SleptBoard.{can_all_wake, has_room_for_sleep, is_for_sleep, slept}
+use Rattle.irq_pm.specs.SleptBoard.{are_runs_calm, can_all_wake, has_room_for_sleep, is_for_sleep, slept}
 use Rattle.irq_pm.specs.declared.entries.SleepEntry.{SleepEntry}
 use Rattle.irq_pm.proofs.Order.{first_is}
 use Rattle.irq_pm.proofs.Through.{comes_to_rest, moves_are, names_waker, state, through}
@@ -66,7 +66,13 @@ not_free true c h = cc
 not_free false c h = refl
 
 pub is_free : (b : BoardSeen) (armed : List LineNo) → is_for_sleep b armed ≡ true → has_driver b.drivers last_driver ≡ false
-is_free b armed fits = not_free (has_driver b.drivers last_driver) _ (and_parts (can_all_wake b armed) (has_room_for_sleep b) fits).1
+is_free b armed fits = not_free (has_driver b.drivers last_driver) _ (and_parts (has_room_for_sleep b) (are_runs_calm b)
+    (and_parts (can_all_wake b armed) (has_room_for_sleep b && are_runs_calm b) fits).1).0
+
+-- and no run moves a line or waits
+is_calm : (b : BoardSeen) (armed : List LineNo) → is_for_sleep b armed ≡ true → are_runs_calm b ≡ true
+is_calm b armed fits = (and_parts (has_room_for_sleep b) (are_runs_calm b)
+    (and_parts (can_all_wake b armed) (has_room_for_sleep b && are_runs_calm b) fits).1).1
 
 some_is_not_none : (m : Move) → ◌≡◌ {A = Option Move} (Some m) None → ⊥
 some_is_not_none m is = cc
@@ -76,6 +82,9 @@ some_is_not_none m is = cc
 module _ (b : BoardSeen) (armed : List LineNo) (is : IsBoard b) (long : IsBoard (slept b)) (fits : is_for_sleep b armed ≡ true) where
   free : has_driver b.drivers last_driver ≡ false
   free = is_free b armed fits
+
+  calm : are_runs_calm b ≡ true
+  calm = is_calm b armed fits
 
   module _ (log : List SleepEntry) (at : Phase) (made : IsMade (sleep_order (slept b) armed) (Picking b.picks) (reverse log) at) where
     abbrev lines : List BoardLine
@@ -88,7 +97,7 @@ module _ (b : BoardSeen) (armed : List LineNo) (is : IsBoard b) (long : IsBoard 
     sleeps_on i x there =
         let d = def_at (slept b) lines kept i x there in
         subst (λ (p : List Entry). SleepsThrough p) (sym (past_at (defs_of (slept b)) (moves_of (reverse log)) i x there))
-        (through b is long free armed i x.def d (reverse log) at made)
+        (through b is long free armed i x.def d calm (reverse log) at made)
 
     of_row : (i : ℕ) (row : LineRow) (virq : ℕ) (path : List (ℕ × ℕ)) → slice_get b.lines i ≡ Some row
         → slice_get (layout_of b) i ≡ Some (placements.Mapped virq path) → SleepsThrough (reverse (entries_in lines row.line))
@@ -115,7 +124,7 @@ module _ (b : BoardSeen) (armed : List LineNo) (is : IsBoard b) (long : IsBoard 
         none_moves None first some none = cc
         none_moves (Some m) first some none =
             let f = first_is (slept b) lines (actors_of (slept b)) m first in
-            some_is_not_none m (sym f.moves ∙ comes_to_rest b is long free armed (reverse log) (at, made, none) f.actor f.listed)
+            some_is_not_none m (sym f.moves ∙ comes_to_rest b is long free armed calm (reverse log) (at, made, none) f.actor f.listed)
 
         by_next : (o : Option Next) → sleep_next (slept b) armed (moves_of (reverse log)) at ≡ o → IsSome o
         by_next None none = absurd (none_moves (first_move (slept b) lines (actors_of (slept b))) refl some none)
@@ -156,7 +165,7 @@ module _ (b : BoardSeen) (armed : List LineNo) (s : SleeperSeen) (of : IsSleepOf
     kept = λ at made. subst (AreKept (slept b)) same_lines (state b of.longer.board long (is_free b armed of.longer.fits) armed g at made).kept;
     keeps = λ at made. keeps_sleep b armed of.longer.board long of.longer.fits (log_of s) at made;
     rests = λ played. subst (AreAtRest (slept b)) same_lines
-        (λ a at. comes_to_rest b of.longer.board long (is_free b armed of.longer.fits) armed g played a at);
+        (λ a at. comes_to_rest b of.longer.board long (is_free b armed of.longer.fits) armed (is_calm b armed of.longer.fits) g played a at);
   }
 
   -- what was played of the sleeper's board is played of the board that sleeps

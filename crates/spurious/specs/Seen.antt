@@ -16,7 +16,7 @@ noted_at now wake handled c = noted c.window c.limit now wake handled c.counts
 abbrev pub after_note : ℕ → Bool → Bool → CountsSeen → CountsSeen
 after_note now wake handled c = record c { counts = (noted_at now wake handled c).counts }
 
--- a thread has served
+-- a thread's handler answered IRQ_HANDLED
 abbrev pub after_thread : CountsSeen → CountsSeen
 after_thread c =
     record c { counts = record c.counts { threads_handled = c.counts.threads_handled + 1 } }

@@ -83,7 +83,8 @@ impl Counts {
         noted.note
     }
 
-    /// A thread has served (`irq_thread_fn`, `kernel/irq/manage.c`).
+    /// A thread's handler answered IRQ_HANDLED, whatever it served (`irq_thread_fn`,
+    /// `kernel/irq/manage.c`).
     pub fn thread_handled(&mut self)
         requires { self.old.counts.threads_handled < 2 ^ 32 - 1 }
         ensures { self.new ≡ after_thread self.old }

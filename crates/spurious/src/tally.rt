@@ -12,7 +12,7 @@ pub struct Tally {
     pub irq_count: u32,
     /// The rounds of the open window that nobody handled.
     pub irqs_unhandled: u32,
-    /// The runs of threads that served.
+    /// The runs of threads that answered IRQ_HANDLED.
     pub threads_handled: u32,
     /// A round woke threads alone, and waits to be judged by what they did.
     pub deferred: bool,
@@ -72,8 +72,8 @@ impl Tally {
         self.judged(window, limit, now, handled)
     }
 
-    /// A round that woke threads alone, after another such one: it is handled if a thread has
-    /// served since.
+    /// A round that woke threads alone, after another such one: it is handled if a run of a thread
+    /// has answered IRQ_HANDLED since.
     fn judged_by_threads(self, window: u32, limit: u32, now: u32) -> Noted
         requires { IsWithin window self }
         ensures rule { IsNoted result (judged_by_threads window limit now (rule_counts self)) }

@@ -32,6 +32,8 @@ const DEVICE: DeviceDef = DeviceDef {
     dev: DevNo(1),
     line: LineNo(1),
     kind: Kind::Check,
+    held: false,
+    forgets: false,
 };
 
 /// What a step should answer.
@@ -68,6 +70,7 @@ fn run(unserved: u32) -> Run {
         def: DEVICE,
         part: Part::Primary,
         unserved,
+        told: None,
     }
 }
 

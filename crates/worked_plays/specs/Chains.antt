@@ -27,6 +27,7 @@ use Rattle.irq_chained.specs.declared.chain.ChainEntry.TheVariants as steps
 -- one child, taken in its chain; the free comes after the exit
 abbrev pub one_child : BoardSeen
 one_child = record {
+  version = 1;
   cpus = 1;
   window = 100000;
   limit = 99900;
@@ -34,6 +35,8 @@ one_child = record {
   domains = domain 4 levels.Latch ∷ [];
   lines = row 1 2 ∷ [];
   devices = device 1 1 kinds.Direct ∷ [];
+  told = [];
+  runs = [];
   drivers = driver 1 ∷ [];
   calls = call 1 1 (calls.Request (dev 1) no_flags) ∷
       call 1 1 (calls.Ask (dev 1)) ∷
@@ -62,6 +65,7 @@ one_child_rows =
 -- two children in one chain, the lower place first
 abbrev pub two_children : BoardSeen
 two_children = record {
+  version = 1;
   cpus = 1;
   window = 100000;
   limit = 99900;
@@ -69,6 +73,8 @@ two_children = record {
   domains = domain 4 levels.Level ∷ [];
   lines = row 1 2 ∷ row 2 3 ∷ [];
   devices = device 1 1 kinds.Direct ∷ device 2 2 kinds.Direct ∷ [];
+  told = [];
+  runs = [];
   drivers = driver 1 ∷ [];
   calls = call 1 1 (calls.Request (dev 1) no_flags) ∷
       call 1 2 (calls.Request (dev 2) no_flags) ∷
@@ -102,6 +108,7 @@ two_children_rows =
 -- a child asks again while the chain is open, and is taken in the next
 abbrev pub asks_again : BoardSeen
 asks_again = record {
+  version = 1;
   cpus = 1;
   window = 100000;
   limit = 99900;
@@ -109,6 +116,8 @@ asks_again = record {
   domains = domain 4 levels.Level ∷ [];
   lines = row 1 2 ∷ row 2 3 ∷ [];
   devices = device 1 1 kinds.Direct ∷ device 2 2 kinds.Direct ∷ [];
+  told = [];
+  runs = [];
   drivers = driver 1 ∷ driver 2 ∷ [];
   calls = call 1 1 (calls.Request (dev 1) no_flags) ∷
       call 1 2 (calls.Request (dev 2) no_flags) ∷
@@ -151,6 +160,7 @@ asks_again_rows =
 -- an edge within the handler opens a chain of its own
 abbrev pub edge_within : BoardSeen
 edge_within = record {
+  version = 1;
   cpus = 1;
   window = 100000;
   limit = 99900;
@@ -158,6 +168,8 @@ edge_within = record {
   domains = domain 4 levels.Latch ∷ [];
   lines = row 1 2 ∷ [];
   devices = device 1 1 kinds.Direct ∷ [];
+  told = [];
+  runs = [];
   drivers = driver 1 ∷ [];
   calls = call 1 1 (calls.Request (dev 1) no_flags) ∷
       call 1 1 (calls.Ask (dev 1)) ∷
@@ -190,6 +202,7 @@ edge_within_rows =
 -- a level within a handler of a fast eoi controller
 abbrev pub level_within : BoardSeen
 level_within = record {
+  version = 1;
   cpus = 1;
   window = 100000;
   limit = 99900;
@@ -197,6 +210,8 @@ level_within = record {
   domains = domain 4 levels.Eoi ∷ [];
   lines = row 1 2 ∷ [];
   devices = device 1 1 kinds.Direct ∷ [];
+  told = [];
+  runs = [];
   drivers = driver 1 ∷ [];
   calls = call 1 1 (calls.Request (dev 1) no_flags) ∷
       call 1 1 (calls.Ask (dev 1)) ∷
@@ -229,6 +244,7 @@ level_within_rows =
 -- a thread steps before the exit
 abbrev pub threads_first : BoardSeen
 threads_first = record {
+  version = 1;
   cpus = 1;
   window = 100000;
   limit = 99900;
@@ -236,6 +252,8 @@ threads_first = record {
   domains = domain 4 levels.Level ∷ [];
   lines = row 1 2 ∷ [];
   devices = device 1 1 kinds.Null ∷ [];
+  told = [];
+  runs = [];
   drivers = driver 1 ∷ [];
   calls = call 1 1 (calls.Request (dev 1) oneshot_flag) ∷
       call 1 1 (calls.Ask (dev 1)) ∷
@@ -263,6 +281,7 @@ threads_first_rows =
 -- an enable that has the software resend raises the parent
 abbrev pub soft_resend : BoardSeen
 soft_resend = record {
+  version = 1;
   cpus = 1;
   window = 100000;
   limit = 99900;
@@ -270,6 +289,8 @@ soft_resend = record {
   domains = domain 4 levels.Plain ∷ [];
   lines = row 1 2 ∷ [];
   devices = device 1 1 kinds.Direct ∷ [];
+  told = [];
+  runs = [];
   drivers = driver 1 ∷ [];
   calls = call 1 1 (calls.Request (dev 1) no_flags) ∷
       call 1 1 calls.DisableNosync ∷
@@ -300,6 +321,7 @@ soft_resend_rows =
 -- a sibling of the status is disabled before it is taken
 abbrev pub sibling_disabled : BoardSeen
 sibling_disabled = record {
+  version = 1;
   cpus = 1;
   window = 100000;
   limit = 99900;
@@ -307,6 +329,8 @@ sibling_disabled = record {
   domains = domain 4 levels.Level ∷ [];
   lines = row 1 2 ∷ row 2 3 ∷ [];
   devices = device 1 1 kinds.Direct ∷ device 2 2 kinds.Direct ∷ [];
+  told = [];
+  runs = [];
   drivers = driver 1 ∷ [];
   calls = call 1 1 (calls.Request (dev 1) no_flags) ∷
       call 1 2 (calls.Request (dev 2) no_flags) ∷

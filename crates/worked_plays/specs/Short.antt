@@ -52,7 +52,13 @@ row n hw = record {
 }
 
 abbrev pub device : ℕ → ℕ → Kind → DeviceDef
-device n of_line kind = record { dev = dev n; line = line of_line; kind = kind }
+device n of_line kind = record {
+  dev = dev n;
+  line = line of_line;
+  kind = kind;
+  held = false;
+  forgets = false;
+}
 
 abbrev pub call : ℕ → ℕ → Call → ScriptCall
 call by of_line called = record { driver = driver by; line = line of_line; call = called }

@@ -25,6 +25,7 @@ use Rattle.irq_pm.specs.declared.entries.SleepEntry.TheVariants as sleeps
 -- an interrupt of the armed line wakes the machine
 abbrev pub armed : BoardSeen
 armed = record {
+  version = 1;
   cpus = 1;
   window = 100000;
   limit = 99900;
@@ -32,6 +33,8 @@ armed = record {
   domains = domain 4 levels.Latch ∷ [];
   lines = row 1 2 ∷ [];
   devices = device 1 1 kinds.Direct ∷ [];
+  told = [];
+  runs = [];
   drivers = driver 1 ∷ [];
   calls = call 1 1 (calls.Request (dev 1) no_flags) ∷
       call 1 1 (calls.Ask (dev 1)) ∷
@@ -61,6 +64,7 @@ armed_rows =
 -- an interrupt of a line that is not armed does not
 abbrev pub unarmed : BoardSeen
 unarmed = record {
+  version = 1;
   cpus = 1;
   window = 100000;
   limit = 99900;
@@ -68,6 +72,8 @@ unarmed = record {
   domains = domain 4 levels.Latch ∷ [];
   lines = row 1 2 ∷ [];
   devices = device 1 1 kinds.Direct ∷ [];
+  told = [];
+  runs = [];
   drivers = driver 1 ∷ [];
   calls = call 1 1 (calls.Request (dev 1) no_flags) ∷
       call 1 1 (calls.Ask (dev 1)) ∷

@@ -174,7 +174,7 @@ module _ {board : BoardSeen} {lines : List LockSeen} (boards : AreBoards board l
           within = let w = within board.calls j.at c at_p in let n = ap (λ (x : JobSeen). x.at) now in fits last n w;
           rests = λ h. cc;
           refused = tt;
-          room = room_as (Ok (Some e)) j mid new (ap (λ (x : JobSeen). x.posts) now)
+          room = room_as (Ok (Some e)) j mid new (ap (λ (x : JobSeen). x.posts) now) (ap (λ (x : JobSeen). x.left) now)
               (subst (λ (t : Result (Option Entry) StepRefused). RoomAfter t j mid) is (room_after terms lines place tried j mid d.posted s));
         }
       where
@@ -226,7 +226,7 @@ module _ {board : BoardSeen} {lines : List LockSeen} {r : DriverNo} {j : JobSeen
         within = e.within;
         rests = λ h. inl (let n = nothing_there board.calls q none in let a = ap (λ (x : JobSeen). x.at) is in omega (arith, n, a));
         refused = tt;
-        room = stays j now (ap (λ (x : JobSeen). x.posts) is);
+        room = stays j now (ap (λ (x : JobSeen). x.posts) is) (ap (λ (x : JobSeen). x.left) is);
       }
     where
       nothing_there : (cs : List ScriptCall) (k : ℕ) → slice_get cs k ≡ None → length cs ≤ k
@@ -245,6 +245,5 @@ module _ {board : BoardSeen} {lines : List LockSeen} {r : DriverNo} {j : JobSeen
         rests
             = t.rests;
         refused = t.refused;
-        room = room_from tried j now new (stays j now (ap (λ (x : JobSeen). x.posts) is))
-            t.room;
+        room = room_from tried j now new (stays j now (ap (λ (x : JobSeen). x.posts) is) (ap (λ (x : JobSeen). x.left) is)) t.room;
       })

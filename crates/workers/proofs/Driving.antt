@@ -12,7 +12,7 @@ use Rattle.irq_base.specs.declared.numbers.DriverNo.{DriverNo}
 use Rattle.irq_base.specs.declared.numbers.LineNo.{LineNo}
 use Rattle.irq_model.specs.Due.{calls_by, entries_by, due_of, due_call}
 use Rattle.irq_model.specs.Kinds.{same_line, same_driver, is_driver, is_by_driver}
-use Rattle.irq_model.specs.Next.{next, next_of_call}
+use Rattle.irq_model.specs.Next.{next, next_of_driver}
 use Rattle.irq_steps.proofs.Same.{driver_from_same, line_from_same, same_self_line, same_self_driver}
 use Rattle.irq_laws.proofs.Chosen.{the_same}
 use Rattle.irq_laws.proofs.OwnLaws.{due_is_own}
@@ -165,7 +165,7 @@ module _ (board : BoardSeen) (isb : IsBoard board) (own : List BoardLine)
     its_last : completes c.call e ≡ completes_at c.call d.0 e
     its_last =
         last_is y.def r (reverse h) c.call d.0 e
-        (ap (λ (o : Option (Call × ℕ)). next_of_call y.def r (reverse h) o)
+        (ap (λ (o : Option (Call × ℕ)). next_of_driver y.def r (reverse h) o)
         (sym d.1 ∙ ap (λ (es : List Entry). due_of (calls_by r y.def.calls) es) alike) ∙ due)
 
     m : Move

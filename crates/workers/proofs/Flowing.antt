@@ -230,7 +230,8 @@ module _ (terms : Terms) (lines : List LockSeen) (place : ℕ) (old mid : JobSee
         still = λ h. cc;
         others = others;
         refused = tt;
-        room = room_as (Ok (Some e)) old mid new (ap (λ (j : JobSeen). j.posts) is) (room_after terms lines place (Ok (Some e)) old mid posted s);
+        room = room_as (Ok (Some e)) old mid new (ap (λ (j : JobSeen). j.posts) is) (ap (λ (j : JobSeen). j.left) is)
+            (room_after terms lines place (Ok (Some e)) old mid posted s);
       }
     where
       post_at : (i : ℕ) (t : PostSeen) → slice_get new.posts i ≡ Some t → ((i ≡ place) × (t ≡ s.after)) ⊎ ((i ≡ place → ⊥) × (slice_get old.posts i ≡ Some t))

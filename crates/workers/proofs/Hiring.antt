@@ -299,10 +299,10 @@ pub hires_one : (lines here : List LockSeen) (s : JobsSeen) (board : BoardSeen) 
     (firsts new : List PassSeen) (who : Actor) (first end : ℕ) (posts : List PostSeen)
     → here ≡ lines → record { board = board; jobs = jobs; firsts = firsts } ≡ s → AreFirsts lines s.jobs s.firsts
     → IsSpan board lines who first end → Forks here first end who firsts new posts
-    → (after : List JobSeen) → after ≡ jobs ++ record { actor = who; first = first; posts = posts; flow = None; at = 0; end = Ok works.Idle } ∷ []
+    → (after : List JobSeen) → after ≡ jobs ++ record { actor = who; first = first; posts = posts; flow = None; at = 0; left = 0; end = Ok works.Idle } ∷ []
     → Hires lines who s (record { board = board; jobs = after; firsts = new })
 hires_one lines here s board jobs firsts new who first end posts same is are span f after grown =
-    let j : JobSeen = record { actor = who; first = first; posts = posts; flow = None; at = 0; end = Ok works.Idle } in
+    let j : JobSeen = record { actor = who; first = first; posts = posts; flow = None; at = 0; left = 0; end = Ok works.Idle } in
     let forks : Forks lines first end who firsts new posts = subst (λ (ls : List LockSeen). Forks ls first end who firsts new posts) same f in
     record {
       job = j;
@@ -321,13 +321,13 @@ hires_one lines here s board jobs firsts new who first end posts same is are spa
 pub new_one : (lines here : List LockSeen) (s : JobsSeen) (board : BoardSeen) (jobs : List JobSeen) (firsts new : List PassSeen)
     (who : Actor) (first end : ℕ) (posts : List PostSeen) → record { board = board; jobs = jobs; firsts = firsts } ≡ s
     → Forks here first end who firsts new posts → (after : List JobSeen)
-    → after ≡ jobs ++ record { actor = who; first = first; posts = posts; flow = None; at = 0; end = Ok works.Idle } ∷ []
+    → after ≡ jobs ++ record { actor = who; first = first; posts = posts; flow = None; at = 0; left = 0; end = Ok works.Idle } ∷ []
     → AreNew s → AreNew (record { board = board; jobs = after; firsts = new })
 new_one lines here s board jobs firsts new who first end posts is f after grown old =
     let nothing : HaveSeenNothing firsts = subst HaveSeenNothing (ap (λ (x : JobsSeen). x.firsts) (sym is)) old.firsts in
     record {
       jobs = new_with here who first end firsts new posts f nothing jobs after
-          (record { actor = who; first = first; posts = posts; flow = None; at = 0; end = Ok works.Idle }) grown refl refl refl
+          (record { actor = who; first = first; posts = posts; flow = None; at = 0; left = 0; end = Ok works.Idle }) grown refl refl refl
           (subst (λ (js : List JobSeen). (i : ℕ) (x : JobSeen) → slice_get js i ≡ Some x → IsNewJob x)
           (ap (λ (x : JobsSeen). x.jobs) (sym is)) old.jobs);
       firsts = nothing_seen here who first end firsts new posts f nothing;

@@ -1,5 +1,5 @@
 -- A processor that is within a flow by its own entries is so by all of them, and has an entry due.
-use Rattle.std.proofs.Common.{◌≡◌, ℕ, suc, Bool, true, false, ◌||◌, ◌&&◌, cond, IsSome, Option, Some, None, is_some}
+use Rattle.std.proofs.Common.{◌≡◌, ℕ, suc, Bool, true, false, ◌||◌, ◌&&◌, cond, Option, Some, None, is_some}
 use Rattle.std.proofs.Common.{List, [], ◌∷◌, map, filter, reverse, refl, sym, ap, ◌∙◌, subst}
 use Rattle.irq_base.specs.Who.{actor_of}
 use Rattle.irq_base.specs.declared.entries.Actor.{Actor}
@@ -12,7 +12,6 @@ use Rattle.irq_base.specs.declared.lines.LineDef.{LineDef}
 use Rattle.irq_base.specs.declared.numbers.CpuNo.{CpuNo}
 use Rattle.irq_laws.proofs.ImpliesFlow.{take_due, end_due}
 use Rattle.irq_laws.proofs.Lists.{both_ways}
-use Rattle.irq_laws.proofs.OwnLaws.{flow_moves}
 use Rattle.irq_model.specs.Kinds.{same_cpu, is_by, is_handle}
 use Rattle.irq_model.specs.Legal.{IsDue, IsLegalPast, IsLegal}
 use Rattle.irq_model.specs.Lines.{is_eoi_flow}
@@ -20,7 +19,9 @@ use Rattle.irq_model.specs.Links.{is_disabled, is_none_linked}
 use Rattle.irq_model.specs.Next.{next}
 use Rattle.irq_model.specs.Places.{last_of}
 use Rattle.irq_model.specs.Rounds.{closes, cpu_of_handle, flow, has_flow, is_cpu}
+use Rattle.irq_model.specs.ValidRuns.{HasValidRuns, NeverWaits}
 use Rattle.irq_steps.proofs.Same.{cpu_from_same, same_self_cpu}
+use Rattle.play_laws.proofs.Moves.{flow_goes_on}
 use Rattle.line_lock.specs.Placed.{placed, placed_from}
 use Rattle.line_lock.specs.declared.view.Placed.{Placed}
 use Rattle.workers.specs.Fit.{own_past}
@@ -77,16 +78,19 @@ own_flow def c (e ∷ past) legal is = by_tests (is_by (actors.Cpu c) e) (is_han
     by_tests false true mine marks now deeper = both_ways (is_handle e || closes def e) marks (others_stay def c e past legal.0 (deeper now) mine)
     by_tests false false mine marks now deeper = deeper now
 
--- within a flow the processor has an entry due
-pub moves_within : (def : LineDef) (c : CpuNo) (h : List Entry) (mine : List Placed) → IsLegal def h
-    → mine ≡ placed (actors.Cpu c) h → flow def (own_past mine) ≡ Some c → next def h (actors.Cpu c) ≡ None → ⊥
-moves_within def c h mine legal are own none =
-    nothing (next def h (actors.Cpu c)) (flow_moves def h c (own_flow def c (reverse h) legal (ap (λ (es : List Entry). flow def es) (sym same) ∙ own))) none
+-- within a flow the processor has an entry due, since no run waits
+pub moves_within : (def : LineDef) (c : CpuNo) (h : List Entry) (mine : List Placed) → HasValidRuns def
+    → NeverWaits def → IsLegal def h → mine ≡ placed (actors.Cpu c) h → flow def (own_past mine) ≡ Some c → next def h (actors.Cpu c) ≡ None → ⊥
+moves_within def c h mine runs waits legal are own none =
+    nothing (next def h (actors.Cpu c)) (flow_goes_on def (reverse h) runs waits c (ap (is_cpu c) in_flow ∙ same_self_cpu c)) none
   where
     same : own_past mine ≡ filter (is_by (actors.Cpu c)) (reverse h)
     same = ap own_past are ∙ (ap reverse (by_actor (actors.Cpu c) 0 h) ∙ sym (filter-reverse (is_by (actors.Cpu c)) h))
 
-    nothing : (o : Option Entry) → IsSome o → o ≡ None → ⊥
+    in_flow : flow def (reverse h) ≡ Some c
+    in_flow = own_flow def c (reverse h) legal (ap (λ (es : List Entry). flow def es) (sym same) ∙ own)
+
+    nothing : (o : Option Entry) → is_some o ≡ true → o ≡ None → ⊥
     nothing None some is = cc
     nothing (Some e) some is = cc
 

@@ -20,7 +20,7 @@ use Rattle.board_play.specs.Lines.{defs_of}
 use Rattle.line_lock.specs.Passes.{LockSeen, PassSeen}
 use Rattle.workers.specs.Fit.{IsPost, ArePosted, IsPlaceOfDevice, IsManned, IsJob, works_on, actors_on, workers_of, IsFirst, AreFirsts, Fit}
 use Rattle.workers.specs.Room.{RoomAfterPart, room_of_jobs}
-use Rattle.workers.specs.Grown.{JobsGrow}
+use Rattle.workers.specs.Grown.{JobsGrow, made_by}
 use Rattle.workers.specs.Shifts.{IsAtRest, WorksOn, ComesTo, AttemptsJob, EndIsSo, WorksJob, KeepsJobs}
 use Rattle.workers.specs.Shifts.{IsSomeEnd, NoneFull, NoneRefused, MadeNone}
 use Rattle.workers.specs.Shifts.{EachEndedSo, worse, IsLowestFull, SumsUp, Ends}
@@ -132,6 +132,23 @@ module _ (terms : Terms) (board : BoardSeen) (lines : List LockSeen)
         room = t.room;
       }
 
+-- ---- how many more steps the worker may make
+
+module _ (board : BoardSeen) (lines : List LockSeen) (now : JobSeen) (n : ℕ) where
+  manned_left : (a : Actor) → IsManned board lines now a → IsManned board lines (record now { left = n }) a
+  manned_left (actors.Thread dev) m = m
+  manned_left (actors.Cpu c) m = m
+  manned_left (actors.Driver r) m = m
+
+  pub job_left : IsJob board lines now → IsJob board lines (record now { left = n })
+  job_left j = record { posted = j.posted; manned = manned_left now.actor j.manned }
+
+  pub works_left : (terms : Terms) (old : JobSeen) → WorksOn terms board lines old now → WorksOn terms board lines old (record now { left = n })
+  works_left terms old w = record { actor = w.actor; first = w.first; as_many = w.as_many; job = job_left w.job; grew = w.grew }
+
+  pub works_renewed : (terms : Terms) (new : JobSeen) → WorksOn terms board lines (record now { left = n }) new → WorksOn terms board lines now new
+  works_renewed terms new w = record { actor = w.actor; first = w.first; as_many = w.as_many; job = w.job; grew = w.grew }
+
 -- ---- one attempt after another
 
 pub works_first : {terms : Terms} (board : BoardSeen) (lines : List LockSeen) (j : JobSeen) → IsJob board lines j → WorksOn terms board lines j j
@@ -183,9 +200,9 @@ module _ (board : BoardSeen) (lines : List LockSeen) (now : JobSeen) (end : Resu
   job_ended j = record { posted = j.posted; manned = manned_ended now.actor j.manned }
 
   pub ended_at : (terms : Terms) (old new : JobSeen) → WorksOn terms board lines old now
-      → EndIsSo terms board now end → RoomAfterPart end old now → new ≡ record now { end = end }
-      → WorksJob terms board lines old new
-  ended_at terms old new w is room same =
+      → EndIsSo terms board now end → RoomAfterPart end old now → now.left + made_by now.posts ≤ made_by old.posts + 65536
+      → new ≡ record now { end = end } → WorksJob terms board lines old new
+  ended_at terms old new w is room few same =
       subst (λ (j : JobSeen). WorksJob terms board lines old j) (sym same)
       (record {
         works = record {
@@ -198,6 +215,7 @@ module _ (board : BoardSeen) (lines : List LockSeen) (now : JobSeen) (end : Resu
         end
             = end_so terms end is;
         room = room_after_part end old now (record now { end = end }) refl room;
+        few = few;
       })
 
 -- ---- all jobs

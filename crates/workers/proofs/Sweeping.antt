@@ -1,5 +1,5 @@
 -- One sweep of a shift after another.
-use Rattle.std.proofs.Common.{◌≡◌, ℕ, ◌+◌, ◌<◌, ◌≤◌, inl, inr, All, List, length, get_or, set, sym, ◌∙◌, subst, arith, Result, Ok, Err}
+use Rattle.std.proofs.Common.{◌≡◌, ℕ, ◌+◌, ◌<◌, ◌≤◌, inl, inr, All, List, length, get_or, set, refl, sym, ◌∙◌, subst, arith, Result, Ok, Err}
 use Rattle.std.proofs.lemmas.List.{get_or-set_same, get_or-set_other, get_or_default}
 use Rattle.irq_line.specs.declared.answers.StepRefused.{StepRefused}
 use Rattle.workers.specs.declared.job.Work.{Work}
@@ -7,7 +7,7 @@ use Rattle.workers.specs.declared.job.Work.TheVariants as works
 use Rattle.board_def.specs.Seen.{BoardSeen}
 use Rattle.line_lock.specs.Passes.{LockSeen}
 use Rattle.workers.specs.Fit.{IsJob}
-use Rattle.workers.specs.Room.{RoomAfterPart, room_of_posts}
+use Rattle.workers.specs.Room.{AreCounted, RoomAfterPart, room_of_posts}
 use Rattle.workers.specs.Grown.{made_by}
 use Rattle.workers.specs.Shifts.{WorksOn, EndIsSo, with_earlier, GoesOn, GoOnJobs, KeepsJobs}
 use Rattle.workers.specs.Seen.{JobSeen}
@@ -46,9 +46,9 @@ module _ (terms : Terms) (board : BoardSeen) (lines : List LockSeen) where
   so now before (Err refused) is = is
 
   pub goes_on : (old now new : JobSeen) (before : Work) (end : Result Work StepRefused) → old.end ≡ Ok before → WorksOn terms board lines old now
-      → EndIsSo terms board now end → RoomAfterPart end old now → new ≡ record now { end = with_earlier before end }
+      → EndIsSo terms board now end → RoomAfterPart end old now → AreCounted old now → new ≡ record now { end = with_earlier before end }
       → GoesOn terms board lines old new
-  goes_on old now new before end was w is room same =
+  goes_on old now new before end was w is room counted same =
       record {
         works = subst (WorksOn terms board lines old) (sym same)
             (record {
@@ -58,16 +58,22 @@ module _ (terms : Terms) (board : BoardSeen) (lines : List LockSeen) where
               job = job_ended board lines now (with_earlier before end) w.job;
               grew = w.grew;
             });
-        since = λ start first. ended_at board lines now (with_earlier before end) terms start new
+        counted = subst (AreCounted old) (sym same) counted;
+        since = λ start first. let few = first.few in ended_at board lines now (with_earlier before end) terms start new
             (works_more board lines start old now first.works w) (so now before end is)
-            (since_start start old now before end (subst (λ (l : Result Work StepRefused). RoomAfterPart l start old) was first.room) room) same;
+            (since_start start old now before end (subst (λ (l : Result Work StepRefused). RoomAfterPart l start old) was first.room) room)
+            (omega (arith, few, counted)) same;
       }
 
   pub goes_first : (j : JobSeen) → IsJob board lines j → GoesOn terms board lines j j
-  goes_first j job = record { works = works_first board lines j job; since = λ start before. before }
+  goes_first j job = record { works = works_first board lines j job; counted = refl; since = λ start before. before }
 
   pub goes_more : (a b c : JobSeen) → GoesOn terms board lines a b → GoesOn terms board lines b c → GoesOn terms board lines a c
-  goes_more a b c v w = record { works = works_more board lines a b c v.works w.works; since = λ start before. w.since start (v.since start before) }
+  goes_more a b c v w = record {
+    works = works_more board lines a b c v.works w.works;
+    counted = w.counted ∙ v.counted;
+    since = λ start before. w.since start (v.since start before);
+  }
 
   -- ---- all jobs of a thread
 

@@ -1,6 +1,7 @@
 -- One try of a worker: steps of the shared line until none of them needs an answer first.
-use Rattle.std.proofs.Common.{◌≡◌, ◌<◌, false, reverse, IfSome, IsSome, Option, Some, None, Result, Ok, Err, List, [], ◌∷◌, ◌++◌, length}
+use Rattle.std.proofs.Common.{◌≡◌, ◌<◌, ℕ, Bool, false, true, nat_eq, reverse, IfSome, IsSome, Option, Some, None, Result, Ok, Err, List, [], ◌∷◌, ◌++◌, length}
 use Rattle.std.proofs.Common.{refl, sym, ap, subst, arith, ◌∙◌, append_assoc}
+use Rattle.std.proofs.lemmas.Bool.Decides.{nat_tests}
 use Rattle.irq_base.specs.declared.devices.Answer.{Answer}
 use Rattle.irq_base.specs.declared.devices.Run.{Run}
 use Rattle.irq_base.specs.declared.entries.Actor.{Actor}
@@ -10,6 +11,7 @@ use Rattle.irq_base.specs.declared.lines.LineDef.{LineDef}
 use Rattle.irq_base.specs.declared.numbers.CpuNo.{CpuNo}
 use Rattle.irq_model.specs.Legal.{IsLegal}
 use Rattle.irq_model.specs.Next.{next}
+use Rattle.irq_model.specs.ValidRuns.{HasValidRuns, NeverWaits}
 use Rattle.callbacks.specs.Heard.{Heard, one_run}
 use Rattle.callbacks.specs.Seen.{IsSaidFor, SaidSeen, answer_to}
 use Rattle.callbacks.proofs.Calls.{was_heard}
@@ -19,7 +21,7 @@ use Rattle.irq_line.specs.declared.answers.StepRefused.{StepRefused}
 use Rattle.irq_line.specs.declared.answers.StepRefused.TheVariants as refusals
 use Rattle.irq_line.specs.declared.answers.Stepped.{Stepped}
 use Rattle.irq_line.specs.declared.answers.Stepped.TheVariants as stepped
-use Rattle.line_lock.specs.Knows.{BeginsWith}
+use Rattle.line_lock.specs.Knows.{BeginsWith, glanced}
 use Rattle.line_lock.specs.Passes.{LockSeen, PassSeen, IsPassOf}
 use Rattle.line_lock.specs.Placed.{placed}
 use Rattle.line_lock.specs.declared.view.Known.{Known}
@@ -27,7 +29,7 @@ use Rattle.line_lock.proofs.Placing.{begins_self, begins_more}
 use Rattle.line_shared.specs.Stepping.{Steps}
 use Rattle.workers.specs.Fit.{IsInFlow}
 use Rattle.workers.specs.Given.{IsGiven}
-use Rattle.workers.specs.Tries.{IsIdle, Tries}
+use Rattle.workers.specs.Tries.{CameTo, Glances, IsIdle, Tries, with_looks}
 use Rattle.workers.specs.Terms.{Terms, terms_of}
 use Rattle.workers.proofs.InFlow.{moves_within}
 
@@ -38,9 +40,17 @@ pub record Waits (line : LockSeen) (old now : PassSeen) : Type 0 where
   pub actor : now.knows.actor ≡ old.knows.actor
   pub mine : now.knows.mine ≡ old.knows.mine
   pub begins : BeginsWith now.knows.seen old.knows.seen
+  pub looks : (more : List ℕ) × (now.knows.looks ≡ more ++ old.knows.looks)
 
 pub waits_first : (line : LockSeen) (old : PassSeen) → IsPassOf line old → old.turn ≡ false → Waits line old old
-waits_first line old of_line idle = record { of_line = of_line; idle = idle; actor = refl; mine = refl; begins = begins_self old.knows.seen }
+waits_first line old of_line idle = record {
+  of_line = of_line;
+  idle = idle;
+  actor = refl;
+  mine = refl;
+  begins = begins_self old.knows.seen;
+  looks = ([], refl);
+}
 
 -- a step that left the history as it was
 module _ (def : LineDef) (who : Actor) (old mid new : Known) (begins : BeginsWith mid.seen old.seen)
@@ -121,6 +131,12 @@ module _ {T E : Type 0} (seen_of : T → LineSeen) (may_want : Option Entry → 
             ap (λ (h : List Entry). next line.def h who) s.gains.0
                 ∙ subst (λ (d : LineDef). next d s.line.entries who ≡ None) s.def s.answer.0,
             s.gains.1 ∙ w.mine,
+            record {
+              before = w.looks.0;
+              looks = ap (λ (k : Known). k.looks) s.seen
+                  ∙ (ap (λ (h : List Entry). length h ∷ mid.knows.looks) (sym (seen_is (Ok stepped.NotYet) s))
+                  ∙ ap (λ (ns : List ℕ). length new.knows.seen ∷ ns) w.looks.1);
+            },
           );
         }
 
@@ -128,7 +144,8 @@ module _ {T E : Type 0} (seen_of : T → LineSeen) (may_want : Option Entry → 
     pub flow_not_yet : StepsSo (Ok stepped.NotYet) → (c : CpuNo)
         → who ≡ actors.Cpu c → IsInFlow line.def c old.knows → ⊥
     flow_not_yet s c same own =
-        moves_within line.def c s.line.entries old.knows.mine (subst (λ (d : LineDef). IsLegal d s.line.entries) s.def s.sound.legal)
+        moves_within line.def c s.line.entries old.knows.mine (subst HasValidRuns s.def s.sound.runs)
+        (subst NeverWaits s.def s.sound.waits) (subst (λ (d : LineDef). IsLegal d s.line.entries) s.def s.sound.legal)
         (sym w.mine ∙ (s.mine ∙ ap (λ (a : Actor). placed a s.line.entries) same)) own
         (ap (λ (a : Actor). next line.def s.line.entries a) (sym same) ∙ subst (λ (d : LineDef). next d s.line.entries who ≡ None) s.def s.answer.0)
 
@@ -180,13 +197,73 @@ module _ {T E : Type 0} (seen_of : T → LineSeen) (may_want : Option Entry → 
           actor = actor ∙ w.actor;
           mine = s.gains.1 ∙ w.mine;
           begins = same_begins line.def who old.knows mid.knows new.knows w.begins s.line.entries s.begins s.gains.0;
+          looks = (
+            length s.after.entries ∷ w.looks.0,
+            ap (λ (k : Known). k.looks) s.seen ∙ ap (λ (ns : List ℕ). length s.after.entries ∷ ns) w.looks.1,
+          );
         }
 
 pub its_actor : (o : Option Actor) → IsSome o → (who : Actor) × (o ≡ Some who)
 its_actor None is = cc
 its_actor (Some who) is = (who, refl)
 
--- when nothing happened since nothing was due
-pub tries_still : (terms : Terms) (def : LineDef) (who : Actor) (k : Known) → IsIdle def who k
-    → Tries terms def who k (Ok None) k
-tries_still terms def who k idle = record { begins = begins_self k.seen; legal = λ was. was; own = λ was. was; came = (idle, refl) }
+-- when a look found that nothing happened since nothing was due
+pub tries_still : (terms : Terms) (def : LineDef) (who : Actor) (k new : Known) → IsIdle def who k → Glances k true new
+    → Tries terms def who k (Ok None) new
+tries_still terms def who k new idle glanced =
+    subst (λ (x : Known). Tries terms def who k (Ok None) x) (sym glanced) (record {
+      begins = begins_self k.seen;
+      legal = λ was. was;
+      own = λ was. was;
+      came = (idle, refl, record { before = []; looks = refl });
+    })
+
+-- looks before a try are no part of what it comes to
+pub after_looks : (terms : Terms) (def : LineDef) (who : Actor) (k mid new : Known) (tried : Result (Option Entry) StepRefused)
+    → Glances k false mid → Tries terms def who mid tried new → Tries terms def who k tried new
+after_looks terms def who k mid new tried glanced t =
+    of_looks (subst (λ (x : Known). Tries terms def who x tried new) glanced.1 t)
+  where
+    came_as : (r : Result (Option Entry) StepRefused) → CameTo terms def who (with_looks k glanced.0) r new → CameTo terms def who k r new
+    came_as (Ok (Some e)) g = record {
+      history = g.history;
+      onto = g.onto;
+      own = g.own;
+      due = g.due;
+      below = g.below;
+      seen = g.seen;
+      mine = g.mine;
+      given = g.given;
+    }
+    came_as (Ok None) came = (
+      came.0,
+      came.1,
+      record {
+        before = came.2.before ++ glanced.0;
+        looks = came.2.looks ∙ ap (λ (ns : List ℕ). length new.seen ∷ ns) (sym (append_assoc came.2.before glanced.0 k.looks));
+      },
+    )
+    came_as (Err (refusals.Full number len)) came = came
+    came_as (Err refusals.NoMemory) came = came
+
+    of_looks : Tries terms def who (with_looks k glanced.0) tried new → Tries terms def who k tried new
+    of_looks u = record { begins = u.begins; legal = u.legal; own = u.own; came = came_as tried u.came }
+
+pub actor_after_looks : (k mid : Known) → Glances k false mid → mid.actor ≡ k.actor
+actor_after_looks k mid glanced = ap (λ (x : Known). x.actor) glanced.1
+
+-- a look at the count
+pub glances_so : (k mid new : Known) (found front : ℕ) → mid ≡ k → new ≡ glanced mid found → front ≡ length new.seen
+    → Glances k (nat_eq found front) new
+glances_so k mid new found front same is all = by_test (nat_eq found front) refl
+  where
+    glanced_is : new ≡ with_looks k (found ∷ [])
+    glanced_is = is ∙ ap (λ (x : Known). with_looks x (found ∷ [])) same
+
+    front_is : front ≡ length k.seen
+    front_is = all ∙ ap (λ (x : Known). length x.seen) glanced_is
+
+    by_test : (b : Bool) → nat_eq found front ≡ b → Glances k b new
+    by_test true equal = let e : found ≡ front = grind (arith, nat_tests, equal) in
+        glanced_is ∙ ap (λ (n : ℕ). with_looks k (n ∷ [])) (e ∙ front_is)
+    by_test false apart = (found ∷ [], glanced_is)

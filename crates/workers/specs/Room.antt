@@ -21,13 +21,17 @@ abbrev pub room_of_jobs : List JobSeen → ℕ
 room_of_jobs [] = 0
 room_of_jobs (j ∷ rest) = room_of_posts j.posts + room_of_jobs rest
 
--- an attempt that added an entry leaves less room, and one more step is made; another leaves no
--- more room, and no step is made
+-- An attempt that added an entry leaves less room, and one more step is made. Another leaves no
+-- more room, and no step is made. How many more may be made in the shift, no attempt counts.
 abbrev pub RoomAfter : Result (Option Entry) StepRefused → JobSeen → JobSeen → Type 0
 RoomAfter (Ok (Some e)) old new = (room_of_posts new.posts < room_of_posts old.posts)
-    × (made_by old.posts < made_by new.posts)
+    × (made_by new.posts ≡ made_by old.posts + 1) × (new.left ≡ old.left)
 RoomAfter _ old new = (room_of_posts new.posts ≤ room_of_posts old.posts)
-    × (made_by new.posts ≡ made_by old.posts)
+    × (made_by new.posts ≡ made_by old.posts) × (new.left ≡ old.left)
+
+-- each step that was made was counted, and nothing else was
+abbrev pub AreCounted : JobSeen → JobSeen → Type 0
+AreCounted old new = new.left + made_by new.posts ≡ old.left + made_by old.posts
 
 -- a worker's part of a shift leaves no more room, and less if it made a step: some pass has seen
 -- more then; it made none if it ended idle

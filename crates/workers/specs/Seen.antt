@@ -13,13 +13,15 @@ pub record PostSeen : Type 0 where
 
 -- The job of an actor: its passes, of the line at index `first` and of the lines after it; for a
 -- processor the pass with which it has a flow in progress; for a driver how many of the board's
--- calls it is past; and how its part of the last shift ended.
+-- calls it is past; how many more steps it may make in this shift; and how its part of the last
+-- shift ended.
 pub record JobSeen : Type 0 where
   pub actor : Actor
   pub first : ℕ
   pub posts : List PostSeen
   pub flow : Option ℕ
   pub at : ℕ
+  pub left : ℕ
   pub end : Result Work StepRefused
 
 -- the board that is run, the jobs, and the first pass of each line

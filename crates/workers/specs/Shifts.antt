@@ -1,5 +1,5 @@
 -- What attempts, workers and shifts leave of jobs.
-use Rattle.std.specs.Prelude.{◌≡◌, ℕ, ◌<◌, ◌≤◌, ◌⊎◌, IsOk, Option, Some, None, Result, Ok, Err}
+use Rattle.std.specs.Prelude.{◌≡◌, ℕ, ◌+◌, ◌<◌, ◌≤◌, ◌⊎◌, IsOk, Option, Some, None, Result, Ok, Err}
 use Rattle.std.specs.Prelude.{List, length, slice_get, slice_index_or, nat_lt, if◌then◌else◌}
 use Rattle.irq_line.specs.declared.answers.StepRefused.TheVariants as refusals
 use Rattle.irq_line.specs.declared.answers.StepRefused.{StepRefused}
@@ -13,7 +13,7 @@ use Rattle.board_def.specs.Seen.{BoardSeen}
 use Rattle.line_lock.specs.Passes.{LockSeen}
 use Rattle.workers.specs.Fit.{IsJob}
 use Rattle.workers.specs.Grown.{PostsGrow, made_by}
-use Rattle.workers.specs.Room.{RoomAfter, RoomAfterPart}
+use Rattle.workers.specs.Room.{RoomAfter, RoomAfterPart, AreCounted}
 use Rattle.workers.specs.Seen.{PostSeen, JobSeen, JobsSeen}
 use Rattle.workers.specs.Tries.{IsIdle}
 use Rattle.workers.specs.Attempts.{WaitsAt, IsFullOn, IsRefusedOn, IsWantedOn}
@@ -66,10 +66,13 @@ module _ (terms : Terms) where
     pub works : WorksOn terms board lines old new
     pub end : EndIsSo board new new.end
     pub room : RoomAfterPart new.end old new
+    -- it made few steps, and a look is none
+    pub few : new.left + made_by new.posts ≤ made_by old.posts + 65536
 
   -- a worker's later part of a shift: what was true of its shift before is true of it still
   pub record GoesOn (board : BoardSeen) (lines : List LockSeen) (old new : JobSeen) : Type 0 where
     pub works : WorksOn terms board lines old new
+    pub counted : AreCounted old new
     pub since : (start : JobSeen) → WorksJob board lines start old → WorksJob board lines start new
 
   -- each job after a later sweep of a shift

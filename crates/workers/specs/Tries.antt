@@ -1,5 +1,6 @@
 -- What a try of a worker on one line comes to.
-use Rattle.std.specs.Prelude.{◌≡◌, ◌<◌, Bool, true, false, IsSome, Option, Some, None, Result, Ok}
+use Rattle.std.specs.Prelude.{◌≡◌, ◌<◌, ℕ, Bool, true, false, IsSome, Option, Some, None, Result}
+use Rattle.std.specs.Prelude.{Ok}
 use Rattle.std.specs.Prelude.{Err, List, [], ◌∷◌, ◌++◌, length, reverse}
 use Rattle.irq_base.specs.declared.devices.Answer.{Answer}
 use Rattle.irq_base.specs.declared.devices.Run.{Run}
@@ -31,6 +32,21 @@ pub record Gains (gave : Run → Answer → Type 0) (def : LineDef) (who : Actor
   pub mine : new.mine ≡ old.mine ++ record { place = length history; entry = e } ∷ []
   pub given : IsGiven gave def (reverse history) e
 
+-- the pass after it looked at how many entries there are, and found these numbers, the last first
+abbrev pub with_looks : Known → List ℕ → Known
+with_looks k found = record k { looks = found ++ k.looks }
+
+-- The pass has looked at the line since, and its last look found as many entries as it has seen: at
+-- that moment what it has seen was the line's history.
+pub record HasLooked (old new : Known) : Type 0 where
+  pub before : List ℕ
+  pub looks : new.looks ≡ length new.seen ∷ (before ++ old.looks)
+
+-- a look found as many entries as were seen; or one found another number, or none was made
+abbrev pub Glances : Known → Bool → Known → Type 0
+Glances old true new = new ≡ with_looks old (length old.seen ∷ [])
+Glances old false new = (found : List ℕ) × (new ≡ with_looks old found)
+
 -- nothing is due of the actor on what is seen
 abbrev pub IsIdle : LineDef → Actor → Known → Type 0
 IsIdle def who k = next def k.seen who ≡ None
@@ -45,7 +61,8 @@ pub record IsFull (def : LineDef) (who : Actor) (k : Known) : Type 0 where
 module _ (terms : Terms) where
   abbrev pub CameTo : LineDef → Actor → Known → Result (Option Entry) StepRefused → Known → Type 0
   CameTo def who old (Ok (Some e)) new = Gains terms.gave def who old e new
-  CameTo def who old (Ok None) new = IsIdle def who new × (new.mine ≡ old.mine)
+  CameTo def who old (Ok None) new =
+      IsIdle def who new × (new.mine ≡ old.mine) × HasLooked old new
   CameTo def who old (Err (refusals.Full number len)) new =
       IsFull def who new × (number ≡ def.line) × (len ≡ def.log) × (new.mine ≡ old.mine)
   CameTo def who old (Err refusals.NoMemory) new =

@@ -46,6 +46,7 @@ impl<L: IrqLine> Model for Job<L> {
       posts = j.posts.items;
       flow = j.flow;
       at = j.at;
+      left = j.left;
       end = j.end;
     } };
 }

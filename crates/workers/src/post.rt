@@ -2,7 +2,7 @@
 ghost use Rattle.std.specs.Prelude.{◌≡◌, true, false, Some, IsSome, IsTrue};
 ghost use Rattle.irq_base.specs.declared.entries.Actor.{Actor};
 ghost use Rattle.line_lock.specs.Passes.{IsPassOf};
-ghost use Rattle.workers.specs.Tries.{IsIdle, Tries, rests_after};
+ghost use Rattle.workers.specs.Tries.{Glances, IsIdle, Tries, rests_after};
 ghost use Rattle.workers.specs.Attempts.{FlowMoves};
 ghost use Rattle.workers.specs.Terms.{terms_of};
 
@@ -14,7 +14,7 @@ use std::marker::Model;
 use std::sync::Wait;
 
 /// A pass, and whether its actor is known to have nothing due on what the pass has seen. If so, and
-/// nothing has happened on the line since, the line needn't be asked again.
+/// nothing has happened on the line since, the line needn't be held again.
 #[derive(Drop)]
 pub(crate) struct Post<L: IrqLine> {
     pub(crate) pass: Pass<L>,
@@ -41,8 +41,8 @@ impl<L: IrqLine> Model for Post<L> {
 }
 
 impl<L: IrqLine> Post<L> {
-    /// Tries the actor's next step on the line, unless nothing was due last time and nothing is
-    /// known to have happened on the line since.
+    /// Tries the actor's next step on the line, unless nothing was due last time and a look finds
+    /// that nothing has happened on the line since.
     pub(crate) fn step<R: Wait, H: SharedHandler>(
         &mut self,
         rt: &R,
@@ -80,12 +80,32 @@ impl<L: IrqLine> Post<L> {
         self.rests && !self.near && reach == Reach::Near
     }
 
-    /// Whether nothing was due of the actor last time, and nothing is known to have happened on the
-    /// line since.
-    fn is_still(&self, line: &SharedLine<L>) -> bool
-        ensures { IsTrue result → self.now.rests ≡ true }
+    /// Whether nothing was due of the actor last time, and nothing has happened on the line since.
+    fn is_still(&mut self, line: &SharedLine<L>) -> bool
+        requires line { IsPassOf line.now self.old.pass }
+        requires idle { self.old.pass.turn ≡ false }
+        requires actor { IsSome self.old.pass.knows.actor }
+        ensures line { IsPassOf line.now self.new.pass }
+        ensures idle { self.new.pass.turn ≡ false }
+        ensures rests { self.new.rests ≡ self.old.rests }
+        ensures still { IsTrue result → self.old.rests ≡ true }
+        ensures looks { Glances self.old.pass.knows result self.new.pass.knows }
     {
-        self.rests && line.count() == self.pass.front()
+        self.rests && self.has_seen_all(line)
+    }
+
+    /// Whether the line has as many entries now as the pass has seen.
+    fn has_seen_all(&mut self, line: &SharedLine<L>) -> bool
+        requires line { IsPassOf line.now self.old.pass }
+        requires idle { self.old.pass.turn ≡ false }
+        requires actor { IsSome self.old.pass.knows.actor }
+        ensures line { IsPassOf line.now self.new.pass }
+        ensures idle { self.new.pass.turn ≡ false }
+        ensures rests { self.new.rests ≡ self.old.rests }
+        ensures looks { Glances self.old.pass.knows result self.new.pass.knows }
+    {
+        let count = line.look(&mut self.pass);
+        count == self.pass.front()
     }
 }
 

@@ -1,8 +1,8 @@
 //! What a thread does in a shift: it sweeps over its jobs, again and again.
-ghost use Rattle.std.specs.Prelude.{◌≡◌, ◌<◌, All};
+ghost use Rattle.std.specs.Prelude.{◌≡◌, ◌-◌, ◌<◌, ◌≤◌, All, IsFalse};
 ghost use Rattle.workers.specs.Fit.{IsJob};
 ghost use Rattle.workers.specs.Forks.{AreBoards};
-ghost use Rattle.workers.specs.Room.{RoomAfterPart};
+ghost use Rattle.workers.specs.Room.{AreCounted, RoomAfterPart};
 ghost use Rattle.workers.specs.Shifts.{GoesOn, GoOnJobs, KeepsJobs, EndIsSo, AttemptsJob};
 ghost use Rattle.workers.specs.Shifts.{WorksJob};
 ghost use Rattle.workers.specs.Shifts.{WorksOn, with_earlier};
@@ -96,11 +96,13 @@ impl<L: IrqLine> Job<L> {
         requires boards { AreBoards board.now lines.now }
         requires job { IsJob board.now lines.now self.old }
         requires some { 0 < most }
+        requires left { 0 < self.old.left }
         ensures works { WorksOn (terms_of L.seen L.may_want (H.gave handlers.now))
             board.now lines.now self.old self.new }
         ensures end { EndIsSo (terms_of L.seen L.may_want (H.gave handlers.now))
             board.now self.new result }
         ensures room { RoomAfterPart result self.old self.new }
+        ensures counted { AreCounted self.old self.new }
     {
         for steps in 0..most {
             match self.attempt_at_gate(rt, board, lines, reach, gate, handlers)? {
@@ -116,7 +118,8 @@ impl<L: IrqLine> Job<L> {
     /// Counts a step. Whether the worker makes no more for now: it has made all that it may in this
     /// shift, or its actor is a thread that is done, and waits to be woken.
     fn pauses_after(&mut self, entry: &Entry) -> bool
-        ensures { self.new ≡ self.old }
+        ensures counts { self.new ≡ record self.old { left = self.old.left - 1 } }
+        ensures goes_on { IsFalse result → 0 < self.new.left }
     {
         self.left = self.left.saturating_sub(1);
         self.left == 0 || matches!(entry, Entry::Thread(_, ThreadEntry::Done))
@@ -124,7 +127,7 @@ impl<L: IrqLine> Job<L> {
 
     /// Lets the worker make so many more steps.
     fn renew(&mut self, left: u32)
-        ensures { self.new ≡ self.old }
+        ensures { self.new ≡ record self.old { left = left } }
     {
         self.left = left;
     }
@@ -143,6 +146,7 @@ impl<L: IrqLine> Job<L> {
         requires boards { AreBoards board.now lines.now }
         requires job { IsJob board.now lines.now self.old }
         requires some { 0 < most }
+        requires left { (0 < left) × (left ≤ 65536) }
         ensures { WorksJob (terms_of L.seen L.may_want (H.gave handlers.now))
             board.now lines.now self.old self.new }
     {
@@ -281,6 +285,7 @@ fn sweep_first<R: Wait, L: IrqLine, G: Gate, H: SharedHandler>(
     requires boards { AreBoards board.now lines.now }
     requires jobs { All (IsJob board.now lines.now) jobs.old }
     requires some { 0 < at_once }
+    requires most { (0 < most) × (most ≤ 65536) }
     ensures { KeepsJobs (terms_of L.seen L.may_want (H.gave handlers.now))
         board.now lines.now jobs.old jobs.new }
 {

@@ -1,4 +1,4 @@
-use Rattle.irq_laws.proofs.OwnLaws.{flow_moves}
+use Rattle.irq_laws.proofs.Standstill.{flow_moves}
 use Rattle.irq_laws.proofs.flow_moves.Goals as goal
 
 pub returns : goal.returns

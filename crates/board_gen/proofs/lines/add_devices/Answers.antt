@@ -2,7 +2,7 @@ use Rattle.std.proofs.Common.{◌≡◌, ◌+◌, sym, ap, ◌∙◌}
 use Rattle.board_gen.specs.Drawing.{drawn, next_x, x_after, draw}
 use Rattle.board_gen.specs.Plans.{kind_of}
 use Rattle.board_gen.proofs.Counting.{x_more}
-use Rattle.board_gen.proofs.Growing.{device_grows, devices_next, rises_next}
+use Rattle.board_gen.proofs.Growing.{device_grows, drawn_fits, devices_next, rises_next}
 use Rattle.board_gen.proofs.lines.add_devices.Goals as goal
 
 pub add_device-requires : goal.add_device-requires
@@ -11,6 +11,7 @@ add_device-requires c =
     record {
       board = device_grows c.args.board.now c.loop-i.board c.args.line c.args.first c.args.devices c.loop-i.i
           c.args.draws.now.x c.kind.result k.devices c.is_board.ensures.board
+          (drawn_fits c.draw.result c.kind.result c.kind.ensures)
           c.requires.line c.requires.first c.requires.few c.loop-i-test.true c.requires.count k.rises;
     }
 

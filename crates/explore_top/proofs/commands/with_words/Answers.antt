@@ -2,15 +2,9 @@ use Rattle.std.proofs.Common.{ℕ, List, inl, map, sym, subst, Bor}
 use Rattle.explore_words.specs.Words.{Asks, AsksNothing}
 use Rattle.explore_top.proofs.commands.with_words.Goals as goal
 
-pub returns-in-Ok-clause-form : goal.returns-in-Ok-clause-form
-returns-in-Ok-clause-form g c = λ asked asks usage.
-    c.explore_main.ensures.usage.0 usage asked
-    (subst (λ (words : List (Bor (List ℕ))). Asks (map (λ (w : Bor (List ℕ)). w.now) words) asked) (sym c.as_slice.ensures.value)
-    (subst (λ (words : List (List ℕ)). Asks words asked) (sym c.in-Ok.ensures) asks))
-
 pub returns-in-Ok-clause-usage : goal.returns-in-Ok-clause-usage
 returns-in-Ok-clause-usage g c = λ none.
-    inl (c.explore_main.ensures.usage.1
+    inl (c.explore_main.ensures.usage
     (subst (λ (words : List (Bor (List ℕ))). AsksNothing (map (λ (w : Bor (List ℕ)). w.now) words)) (sym c.as_slice.ensures.value)
     (subst AsksNothing (sym c.in-Ok.ensures) none)))
 

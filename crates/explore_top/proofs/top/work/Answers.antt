@@ -9,3 +9,6 @@ returns-in-Some-clause-does g c =
     of_asked (λ (runs : List Run). Heard g.H.Handler.hears runs c.args.handlers.now c.act.new.handlers)
     (g.S.Source.left c.args.src.now) (g.S.Source.left c.act.new.src) (g.O.Sink.written c.args.out.now)
     (g.O.Sink.written c.act.new.out) c.act.result _ c.in-Some.asked c.in-Some.ensures c.act.ensures.does
+
+pub returns-in-None-clause-does : goal.returns-in-None-clause-does
+returns-in-None-clause-does g c = λ asked asks. absurd (c.in-None.ensures asked asks)

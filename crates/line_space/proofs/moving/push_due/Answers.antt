@@ -9,7 +9,7 @@ pub loop-actor-preserved : goal.loop-actor-preserved
 loop-actor-preserved c =
     let def = c.args.def.now in
     let s = c.args.scratch.now in
-    let told = sym (due_told def s.state.state s.scripts _ c.due_by.result (c.due_by.ensures def)) ∙ sym c.is_some.ensures in
+    let told = sym (due_told def s.state.state s.scripts _ c.due_by.result (c.due_by.ensures.due def c.requires.scripted)) ∙ sym c.is_some.ensures in
     let p = is_due_in def s.state.state s.scripts in
     elim c.if-is_some.branch [
       | then-is_some+in_ok-push w ↦

@@ -32,4 +32,6 @@ returns c =
     let e = c.in_ok-sought.ensures in
     let unmet = c.if-sought.false in
     subst (λ (a : Answer). IsAnswer c.args.most c.args.def.now c.args.wanted a) (sym c.unmet.ensures)
-    (unmet_said c.args.def.now c.args.wanted s e.paths e.none c.args.most c.requires.valid e.within (e.left_out unmet) (e.cut unmet) (cut_of s) refl)
+    (unmet_said c.args.def.now c.args.wanted s e.paths e.none c.args.most
+    (record { valid = c.requires.valid; runs = c.requires.runs; waits = c.requires.waits })
+    e.within (e.left_out unmet) (e.cut unmet) (cut_of s) refl)

@@ -5,7 +5,7 @@ use Rattle.line_marks.specs.Scripts.{IsAt}
 use Rattle.line_words.proofs.Past.{fits, read_again, tables_again, tables_same, scripts_again, at_again}
 use Rattle.line_words.proofs.Whole.{if_ok}
 use Rattle.line_words.specs.Again.{unbitted}
-use Rattle.line_words.specs.Reading.{with_fixed, with_rows}
+use Rattle.line_words.specs.Reading.{with_fixed, with_tables}
 use Rattle.line_words.specs.Scripts.{AreScripts}
 use Rattle.line_words.specs.Tables.{bare}
 use Rattle.line_words.proofs.reading.read_into.Goals as goal
@@ -26,7 +26,7 @@ returns-clause-tables c =
     let p = c.requires.past in
     let def = c.args.def.now in
     let ws = c.args.words.now in
-    tables_same def (with_rows def ws (with_fixed def ws (bare c.args.state.now.state))) c.put_all.new.state.state c.put_all.ensures.tables
+    tables_same def (with_tables def ws (with_fixed def ws (bare c.args.state.now.state))) c.put_all.new.state.state c.put_all.ensures.tables
     (tables_again def p.0 c.requires.valid p.1 c.args.state.now.state c.requires.tables ws p.2)
 
 pub returns-clause-scripts : goal.returns-clause-scripts

@@ -1,27 +1,26 @@
-use Rattle.std.proofs.Common.{Bool, ap, sym, ◌∙◌, arith}
+use Rattle.std.proofs.Common.{Bool, true, ap, sym, ◌∙◌, arith}
 use Rattle.device_table.proofs.Steps.{none_left}
 use Rattle.line_state.specs.Seen.{LineStateSeen}
-use Rattle.line_marks.specs.State.{StateSeen}
 use Rattle.line_words.specs.Reading.{mark_if}
-use Rattle.line_words.proofs.Loops.{marks_next}
+use Rattle.line_words.proofs.Loops.{marks_next, with_begun}
 use Rattle.line_words.proofs.rows.put_marks.Goals as goal
 use Rattle.line_words.proofs.rows.put_marks.Goals.{in-Some+then-bit, in-Some+else-bit, in_default}
 
 pub loop-i-preserved : goal.loop-i-preserved
 loop-i-preserved c =
-    let s = c.loop-i.state.state in
+    let s = c.loop-i.state in
     elim c.match-get.branch [
       | in-Some+then-bit w ↦
-          let marked : Bool → StateSeen = λ b. record s { list = record s.list { begun = mark_if b s.list.begun w.in-Some.device.dev } } in
-          marks_next c.args.devices.now c.loop-i.i w.in-Some.device (sym w.in-Some.ensures) s c.match-get.state.state
+          let marked : Bool → LineStateSeen = λ b. with_begun (mark_if (λ _. true) b s.state.list.begun w.in-Some.device.dev) s in
+          marks_next c.args.devices.now c.loop-i.i w.in-Some.device (sym w.in-Some.ensures) s c.match-get.state
           c.loop-i.left.now c.behind-left.result.now c.behind-left.ensures
-          (ap (λ (x : LineStateSeen). x.state) (w.state-is ∙ w.put_begun.ensures) ∙ ap marked (sym w.if-bit.true ∙ w.bit.ensures))
+          ((w.state-is ∙ w.put_begun.ensures) ∙ ap marked (sym w.if-bit.true ∙ w.bit.ensures))
           ∙ c.loop-i.invariant
       | in-Some+else-bit w ↦
-          let marked : Bool → StateSeen = λ b. record s { list = record s.list { begun = mark_if b s.list.begun w.in-Some.device.dev } } in
-          marks_next c.args.devices.now c.loop-i.i w.in-Some.device (sym w.in-Some.ensures) s c.match-get.state.state
+          let marked : Bool → LineStateSeen = λ b. with_begun (mark_if (λ _. true) b s.state.list.begun w.in-Some.device.dev) s in
+          marks_next c.args.devices.now c.loop-i.i w.in-Some.device (sym w.in-Some.ensures) s c.match-get.state
           c.loop-i.left.now c.behind-left.result.now c.behind-left.ensures
-          (ap (λ (x : LineStateSeen). x.state) w.state-is ∙ ap marked (sym w.if-bit.false ∙ w.bit.ensures))
+          (w.state-is ∙ ap marked (sym w.if-bit.false ∙ w.bit.ensures))
           ∙ c.loop-i.invariant
       | in_default w ↦ none_left c.args.devices.now c.loop-i.i (omega (arith, c.loop-i-test.true, c.len-i-end.ensures)) (sym w.in_default.ensures)
     ]

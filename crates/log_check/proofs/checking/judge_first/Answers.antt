@@ -10,7 +10,7 @@ returns-then-begins_with_hash g c = passes c.args.text.now c.args.board.now c.ar
 
 pub returns-in_default-place_of : goal.returns-in_default-place_of
 returns-in_default-place_of g c =
-    unknown_line c.args.text.now c.args.board.now.lines c.in-Some.line c.in-Some.actor (sym c.begins_with_hash.ensures ∙ c.if-begins_with_hash.false)
+    unknown_line c.args.text.now c.args.board.now c.in-Some.line c.in-Some.actor (sym c.begins_with_hash.ensures ∙ c.if-begins_with_hash.false)
     c.in-Some.ensures c.in_default-place_of.ensures
 
 pub index_mut-requires : goal.index_mut-requires

@@ -1,4 +1,4 @@
-use Rattle.std.proofs.Common.{length, ap, ◌∙◌}
+use Rattle.std.proofs.Common.{length, sym, ap, ◌∙◌}
 use Rattle.log_check.proofs.Printable.{adds, heard_printable, stands_last}
 use Rattle.log_check.proofs.line_judge.adds.Goals as goal
 
@@ -11,11 +11,12 @@ pub after_row_of-requires-clause-at : goal.after_row_of-requires-clause-at
 after_row_of-requires-clause-at g c =
     let seen = g.L.IrqLine.seen in
     stands_last (seen c.args.line.now) (seen c.step.new.line) c.args.actor c.in_ok-entry.field-0 c.in-Some.entry c.in_ok-entry.ensures.added c.in-Some.is
-    c.history-in-Some.result.now.entries c.len-place.result c.history-in-Some.ensures.entries
+    c.history-2.result.now.entries c.len-place.result c.history-2.ensures.entries
     (c.len-place.ensures ∙ ap length c.history.ensures.entries)
 
-pub returns-in-Some : goal.returns-in-Some
-returns-in-Some g c =
+pub returns : goal.returns
+returns g c =
     let seen = g.L.IrqLine.seen in
     adds (seen c.args.line.now) (seen c.step.new.line) c.args.actor c.in_ok-entry.field-0 c.in-Some.entry c.in_ok-entry.ensures.added c.in-Some.is
-    c.args.text.now c.args.number _ c.after_row_of.ensures.number c.after_row_of.ensures.entry c.after_row_of.ensures.follows
+    c.args.board.now c.args.text.now c.args.number _ (sym c.may_have.ensures ∙ c.if-not-may_have.false)
+    c.after_row_of.ensures.number c.after_row_of.ensures.entry c.after_row_of.ensures.follows

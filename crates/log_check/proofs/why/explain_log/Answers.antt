@@ -37,6 +37,6 @@ returns-clause-explains g c = λ i x said at is all.
     (within b c.is_board.ensures.board c.args.number c.in-Some.place c.in-Some.ensures defs c.in_ok-defs.ensures.defs)
     (ap length c.in_ok-defs.ensures.defs) (ap (λ (ds : List LineDef). slice_get ds c.in-Some.place) c.in_ok-defs.ensures.defs)
     c.index_mut.ensures.value in
-    c.find_undue.ensures.explains _ b.lines said
+    c.find_undue.ensures.explains _ b said
     (of_place b c.is_board.ensures.board c.args.number c.in-Some.place c.in-Some.ensures c.index_mut.result.now row c.args.layout.now c.get.result
     (option_map g.L.IrqLine.seen c.in_ok-fresh.fresh) c.requires.layout c.get.ensures c.in_ok-fresh.ensures i x at is) all

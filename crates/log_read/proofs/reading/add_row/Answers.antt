@@ -1,12 +1,17 @@
 use Rattle.std.proofs.Common.{[], ◌∷◌, ◌++◌, inr, sym, ◌∙◌, arith}
 use Rattle.std.proofs.lemmas.Option.{slice_get_within}
-use Rattle.log_read.proofs.Telling.{undeclared, present}
+use Rattle.log_read.proofs.Telling.{undeclared, unallowed, present}
 use Rattle.log_read.proofs.reading.add_row.Goals as goal
 
 pub returns-in_default-place_of : goal.returns-in_default-place_of
 returns-in_default-place_of c =
-    undeclared c.args.board.now.lines (c.args.row.now ++ 10 ∷ []) c.in-Some.line c.in-Some.entry c.in-Some.ensures c.in_default-place_of.ensures
+    undeclared c.args.board.now (c.args.row.now ++ 10 ∷ []) c.in-Some.line c.in-Some.entry c.in-Some.ensures c.in_default-place_of.ensures
     (sym c.begins_with_hash.ensures ∙ c.if-begins_with_hash.false)
+
+pub returns-then-not-may_have : goal.returns-then-not-may_have
+returns-then-not-may_have c =
+    unallowed c.args.board.now (c.args.row.now ++ 10 ∷ []) c.in-Some.line c.in-Some.entry c.in-Some.ensures
+    (sym c.may_have.ensures ∙ c.if-not-may_have.true) (sym c.begins_with_hash.ensures ∙ c.if-begins_with_hash.false)
 
 pub add-requires : goal.add-requires
 add-requires c =
@@ -20,7 +25,11 @@ returns c =
     inr (
       (c.in-Some.line, c.in-Some.entry),
       c.in-Some-place_of.place,
-      record { formed = c.in-Some.ensures; declared = present lines c.in-Some.line c.in-Some-place_of.place at },
+      record {
+        formed = c.in-Some.ensures;
+        allowed = sym c.may_have.ensures ∙ c.if-not-may_have.false;
+        declared = present lines c.in-Some.line c.in-Some-place_of.place at;
+      },
       sym c.begins_with_hash.ensures ∙ c.if-begins_with_hash.false,
       at,
       c.in_ok-add.ensures,

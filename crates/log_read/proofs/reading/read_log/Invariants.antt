@@ -6,7 +6,7 @@ use Rattle.log_read.proofs.reading.read_log.Given as goal
 abbrev pub invariant-loop-rest : goal.invariant-loop-rest
 invariant-loop-rest l = record {
   left : rows_of l.rest ≡ drop l.row (rows_of l.bytes);
-  told : Tell l.board.lines (take l.row (rows_of l.bytes)) (entries_of l.logs);
+  told : Tell l.board (take l.row (rows_of l.bytes)) (entries_of l.logs);
   within : l.row + length l.rest ≤ length l.bytes;
 }
 

@@ -1,7 +1,9 @@
-use Rattle.std.proofs.Common.{ℕ, nat_lt}
+use Rattle.std.proofs.Common.{ℕ, Bool, nat_lt}
 use Rattle.irq_base.specs.declared.entries.ThreadEntry.TheVariants as threads
-use Rattle.log_read.proofs.Taking.{made}
+use Rattle.log_text.specs.Words.{handled_words}
+use Rattle.log_read.proofs.Taking.{made_end, both_end}
 use Rattle.log_read.proofs.threads.returned.Goals as goal
 
 pub returns : goal.returns
-returns c = made (λ (n : ℕ). threads.Return (nat_lt 0 n) n) c.number-served.ensures
+returns c = made_end (λ (p : ℕ × Bool). threads.Return p.1 p.0)
+    (both_end (λ n h. handled_words h (nat_lt 0 n)) c.number-served.ensures c.handled-handled.ensures)

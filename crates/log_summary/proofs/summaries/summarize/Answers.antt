@@ -23,7 +23,8 @@ loop-i-preserved c =
     let k = c.loop-i.invariant in
     let named : option_map kind_of_entry (slice_get h i) ≡ Some (kind_of_entry e) = ap (option_map kind_of_entry) at in
     let kind : c.in-Some.kind ≡ kind_of_entry e = (let told = c.in-Some.ensures in cc) in
-    let counted : counts_with c.loop-i.counts (kind_of_entry e) ≡ c.add.new.self = ap (counts_with c.loop-i.counts) (sym kind) ∙ sym c.add.ensures.with in
+    let counted : counts_with c.loop-i.counts (kind_of_entry e) ≡ c.add.new.self =
+    ap (counts_with c.loop-i.counts) (sym kind) ∙ sym c.add.ensures.with in
     let stood : standing_with c.loop-i.standing e ≡ c.if-eq.standing =
     elim c.if-eq.branch [
       | then-eq w ↦

@@ -1,4 +1,4 @@
-use Rattle.std.proofs.Common.{◌≡◌, Some, List, nat_lt, sym, subst, ap, arith}
+use Rattle.std.proofs.Common.{◌≡◌, Some, List, sym, subst, ap, arith}
 use Rattle.irq_base.specs.declared.numbers.DevNo.{DevNo}
 use Rattle.device_table.specs.Rows.{at}
 use Rattle.device_table.specs.Sums.{one_if}
@@ -13,7 +13,7 @@ invariant_of-self c =
     let found = subst (λ (t : List (DevNo × AskRow)). at t c.args.dev ≡ Some c.args.old) (sym c.self.view_is) c.requires.there in
     let n = weight_put (λ (r : AskRow). one_if (is_waiting r)) t c.args.dev c.args.old c.args.row found in
     let more = length_put t c.args.dev c.args.row in
-    let same = ap (λ u. one_if (nat_lt 0 u)) c.requires.same in
+    let same = ap one_if c.requires.same in
     rw c.set.ensures
     (record {
       waiting = omega (arith, n, c.self.invariant.waiting, same);

@@ -7,7 +7,7 @@ use Rattle.board_core.specs.ReadyFor.{IsReadyFor}
 use Rattle.board_core.specs.Seen.{board_lines}
 use Rattle.board_core.proofs.Placed.{walk_now}
 use Rattle.board_core.proofs.PlacedSystem.{kept_numbers, kept_few_lines, kept_room, placed_few, placed_system}
-use Rattle.board_core.proofs.Pieces.{none_begun}
+use Rattle.board_core.proofs.Pieces.{first_piece}
 use Rattle.board_core.proofs.system.System.of_lines.Goals as goal
 
 pub make_scripts-requires-clause-lines : goal.make_scripts-requires-clause-lines
@@ -56,9 +56,9 @@ invariant_of-result g c =
           subst (λ xs. IsReadyFor (map f xs) c.place_scripts.new.scripts.items c.in_ok-ready.ready) c.deref-7.ensures.value
           (subst (λ ss. IsReadyFor (map f c.deref-7.result.now) ss c.in_ok-ready.ready) c.deref-8.ensures.value c.in_ok-ready.ensures);
       told =
-          walk_now lines c.lengths_of-begun.result c.new.result.items (kept_few_lines c.is_board.ensures.board lines c.requires.kept)
-          (subst (λ xs. AreLengths (map f xs) c.lengths_of-begun.result) c.deref-9.ensures.value c.lengths_of-begun.ensures) c.new.ensures.items;
+          walk_now lines c.lengths_of-begun.result c.in_ok-order.order.items (kept_few_lines c.is_board.ensures.board lines c.requires.kept)
+          (subst (λ xs. AreLengths (map f xs) c.lengths_of-begun.result) c.deref-9.ensures.value c.lengths_of-begun.ensures) c.in_ok-order.ensures.items;
       line_numbers = c.in_ok-line_numbers.ensures ∙ ap (λ xs. numbers_of_lines (map f xs)) c.deref-2.ensures.value;
       driver_numbers = c.in_ok-driver_numbers.ensures;
-      pieced = none_begun c.new.result.items _ c.new.ensures.items;
+      pieced = first_piece c.in_ok-order.order.items _ c.in_ok-order.ensures.items c.in_ok-order.ensures.capacity;
     }

@@ -5,7 +5,7 @@ use Rattle.board_core.specs.Numbers.{numbers_of_lines}
 use Rattle.board_core.specs.ReadyFor.{IsReadyFor}
 use Rattle.board_core.proofs.MadeOf.{new_system, new_numbers, new_few, new_few_scripts}
 use Rattle.board_core.proofs.Walking.{walk_new}
-use Rattle.board_core.proofs.Pieces.{none_begun}
+use Rattle.board_core.proofs.Pieces.{first_piece}
 use Rattle.board_core.proofs.system.System.of_new_lines.Goals as goal
 
 pub make_scripts-requires-clause-lines : goal.make_scripts-requires-clause-lines
@@ -39,8 +39,9 @@ invariant_of-result g c =
       ready =
           subst (λ xs. IsReadyFor (map f xs) c.in_ok-scripts.scripts.items c.in_ok-ready.ready) c.deref-5.ensures.value
           (subst (λ ss. IsReadyFor (map f c.deref-5.result.now) ss c.in_ok-ready.ready) c.deref-6.ensures.value c.in_ok-ready.ensures);
-      told = walk_new c.args.board.now (map f c.args.lines.items) c.is_board.ensures.board c.requires.lines c.new.result.items c.new.ensures.items;
+      told = walk_new c.args.board.now (map f c.args.lines.items) c.is_board.ensures.board c.requires.lines
+          c.in_ok-order.order.items c.in_ok-order.ensures.items;
       line_numbers = c.in_ok-line_numbers.ensures ∙ ap (λ xs. numbers_of_lines (map f xs)) c.deref-2.ensures.value;
       driver_numbers = c.in_ok-driver_numbers.ensures;
-      pieced = none_begun c.new.result.items _ c.new.ensures.items;
+      pieced = first_piece c.in_ok-order.order.items _ c.in_ok-order.ensures.items c.in_ok-order.ensures.capacity;
     }

@@ -1,5 +1,4 @@
-use Rattle.std.proofs.Common.{◌≡◌, ◌∙◌, ap, subst, sym, reverse, None, Some}
-use Rattle.irq_base.specs.Cell.{Cell, after_ack}
+use Rattle.std.proofs.Common.{◌≡◌, subst, sym, reverse, None, Some}
 use Rattle.board_def.specs.Rules.{IsBoard}
 use Rattle.irq_chained.proofs.Turning.{enter_goes, enter_kept, enter_next, not_zero, unmarked}
 use Rattle.irq_chained.specs.Chain.{cpu_0, open_status}
@@ -16,14 +15,14 @@ invariant_of-self-in-Ok g c =
     enter_kept c.self.invariant c.read_status-status.result c.log_len.result
     (subst (λ (d : DemuxSeen). open_status (reverse d.log) ≡ None) (sym c.self.view_is) c.requires)
     c.read_status-status.ensures (not_zero c.read_status-status.result c.if-status-eq0.false) c.log_len.ensures _
-    (c.ack.ensures.cell ∙ ap (λ (x : Cell). after_ack x) c.mask.ensures.cell) c.push.new.self.items c.in-Ok.ensures.items
+    c.enter.ensures c.push.new.self.items c.in-Ok.ensures.items
 
 pub returns-in-Ok-clause-turns : goal.returns-in-Ok-clause-turns
 returns-in-Ok-clause-turns g c =
     enter_goes c.self.invariant c.read_status-status.result c.log_len.result
     (subst (λ (d : DemuxSeen). open_status (reverse d.log) ≡ None) (sym c.self.view_is) c.requires)
     c.read_status-status.ensures (not_zero c.read_status-status.result c.if-status-eq0.false) c.log_len.ensures _
-    (c.ack.ensures.cell ∙ ap (λ (x : Cell). after_ack x) c.mask.ensures.cell) c.push.new.self.items c.in-Ok.ensures.items c.args.self.now c.self.view_is
+    c.enter.ensures c.push.new.self.items c.in-Ok.ensures.items c.args.self.now c.self.view_is
 
 pub returns-in-Err-clause-turns : goal.returns-in-Err-clause-turns
 returns-in-Err-clause-turns g c =

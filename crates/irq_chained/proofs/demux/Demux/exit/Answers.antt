@@ -14,13 +14,13 @@ pub invariant_of-self-in-Ok : goal.invariant_of-self-in-Ok
 invariant_of-self-in-Ok g c =
     exit_kept c.self.invariant c.log_len.result
     (subst (λ (d : DemuxSeen). next_of d (actors.Cpu cpu_0) ≡ Some (steps.Exit cpu_0)) (sym c.self.view_is)
-    c.requires) c.log_len.ensures _ c.unmask.ensures.cell c.push.new.self.items c.in-Ok.ensures.items
+    c.requires) c.log_len.ensures _ c.exit.ensures c.push.new.self.items c.in-Ok.ensures.items
 
 pub returns-in-Ok-clause-turns : goal.returns-in-Ok-clause-turns
 returns-in-Ok-clause-turns g c =
     exit_goes c.self.invariant c.log_len.result
     (subst (λ (d : DemuxSeen). next_of d (actors.Cpu cpu_0) ≡ Some (steps.Exit cpu_0)) (sym c.self.view_is)
-    c.requires) c.log_len.ensures _ c.unmask.ensures.cell c.push.new.self.items c.in-Ok.ensures.items
+    c.requires) c.log_len.ensures _ c.exit.ensures c.push.new.self.items c.in-Ok.ensures.items
     c.args.self.now c.self.view_is
 
 pub returns-in-Err-clause-turns : goal.returns-in-Err-clause-turns

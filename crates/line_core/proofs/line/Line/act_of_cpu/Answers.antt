@@ -13,7 +13,7 @@ use Rattle.line_core.proofs.line.Line.act_of_cpu.Goals as goal
 pub put-requires-clause-due : goal.put-requires-clause-due
 put-requires-clause-due g c =
     let line : LineSeen = line_of c.self.inside.def c.self.inside.history in
-    let b : Beside line.def line.entries = record { state = c.self.inside.state.state; scripts = c.self.inside.scripts; is = c.self.invariant } in
+    let b : Beside line.def line.entries = record { seen = c.self.inside.state; scripts = c.self.inside.scripts; is = c.self.invariant } in
     let who = actors.Cpu c.args.cpu in
     let step = steps.Cpu c.args.cpu c.args.step in
     let due : IsDueStep line who step = subst (λ (w : WiredSeen). IsDueStep w.line who step) (sym c.self.view_is) c.requires.due in
@@ -25,7 +25,7 @@ invariant_of-self g c = c.put.ensures.line c.self.inside.scripts c.self.invarian
 pub returns-clause-step : goal.returns-clause-step
 returns-clause-step g c =
     let line : LineSeen = line_of c.self.inside.def c.self.inside.history in
-    let b : Beside line.def line.entries = record { state = c.self.inside.state.state; scripts = c.self.inside.scripts; is = c.self.invariant } in
+    let b : Beside line.def line.entries = record { seen = c.self.inside.state; scripts = c.self.inside.scripts; is = c.self.invariant } in
     let who = actors.Cpu c.args.cpu in
     let step = steps.Cpu c.args.cpu c.args.step in
     let due : IsDueStep line who step = subst (λ (w : WiredSeen). IsDueStep w.line who step) (sym c.self.view_is) c.requires.due in

@@ -8,5 +8,5 @@ pub returns-clause-aimed : goal.returns-clause-aimed
 returns-clause-aimed g c =
     subst (λ (w : WiredSeen). target w.line.def (reverse w.line.entries) ≡ Some (record { 0 = g.C.Chip.aimed c.chip.result.now })) c.self.view_is
     (aimed_at (line_of c.self.inside.def c.self.inside.history)
-    (record { state = c.self.inside.state.state; scripts = c.self.inside.scripts; is = c.self.invariant })
+    (record { seen = c.self.inside.state; scripts = c.self.inside.scripts; is = c.self.invariant })
     (g.C.Chip.aimed c.chip.result.now) c.chip.ensures.aimed)

@@ -8,28 +8,28 @@ use Rattle.irq_model.specs.Due.{due_call}
 use Rattle.irq_model.specs.Kinds.{is_linked_request}
 use Rattle.irq_model.specs.Next.{next}
 use Rattle.line_core.proofs.More.{Beside}
-use Rattle.line_core.proofs.Stepping.{line_of, IsDueStep, IsAdded, adds_due, call_told, wanted}
+use Rattle.line_core.proofs.Stepping.{line_of, IsDueStep, IsAdded, adds_due, driver_told, wanted}
 use Rattle.line_core.proofs.Steps.{adds_alone, full_alone, no_memory_alone, rests_alone}
 use Rattle.line_core.specs.Room.{links_next}
 use Rattle.line_core.specs.Entries.{entry_at}
 use Rattle.line_core.specs.Seen.{WiredSeen}
-use Rattle.line_state.specs.declared.due.CallStep.{CallStep}
+use Rattle.line_state.specs.declared.due.DriverStep.{DriverStep}
 use Rattle.line_state.specs.declared.due.DueStep.TheVariants as steps
 use Rattle.line_core.proofs.line.Line.step_of_call.Goals as goal
 
 pub add-requires-clause-due : goal.add-requires-clause-due
 add-requires-clause-due g c =
     let line : LineSeen = line_of c.self.inside.def c.self.inside.history in
-    let b : Beside line.def line.entries = record { state = c.self.inside.state.state; scripts = c.self.inside.scripts; is = c.self.invariant } in
-    let told : option_map (λ (x : CallStep). entry_at line (steps.Call c.args.driver x)) c.due_of_call.result
+    let b : Beside line.def line.entries = record { seen = c.self.inside.state; scripts = c.self.inside.scripts; is = c.self.invariant } in
+    let told : option_map (λ (x : DriverStep). entry_at line (steps.Driver c.args.driver x)) c.due_of_driver.result
     ≡ next line.def line.entries (actors.Driver c.args.driver)
-    = call_told line b c.args.driver c.args.call c.args.within c.due_of_call.result
+    = driver_told line b c.args.driver c.args.call c.args.within c.due_of_driver.result
     (subst (λ (w : WiredSeen). due_call w.line.def c.args.driver (reverse w.line.entries) ≡ Some (c.args.call, c.args.within))
-    (sym c.self.view_is) c.requires.call) (c.due_of_call.ensures line.def) in
+    (sym c.self.view_is) c.requires.call) (c.due_of_driver.ensures line.def) in
     let who = actors.Driver c.args.driver in
-    let step = steps.Call c.args.driver c.in-Some.step in
+    let step = steps.Driver c.args.driver c.in-Some.step in
     let due : IsDueStep line who step
-    = sym told ∙ ap (option_map (λ (x : CallStep). entry_at line (steps.Call c.args.driver x))) c.in-Some.is in
+    = sym told ∙ ap (option_map (λ (x : DriverStep). entry_at line (steps.Driver c.args.driver x))) c.in-Some.is in
     subst (λ (w : WiredSeen). IsDueStep w.line who step) c.self.view_is due
 
 pub add-requires-clause-call : goal.add-requires-clause-call
@@ -38,46 +38,46 @@ add-requires-clause-call g c = ap (option_map (λ (x : Call × ℕ). x.0)) c.req
 pub returns-in_default-clause-step : goal.returns-in_default-clause-step
 returns-in_default-clause-step g c =
     let line : LineSeen = line_of c.self.inside.def c.self.inside.history in
-    let b : Beside line.def line.entries = record { state = c.self.inside.state.state; scripts = c.self.inside.scripts; is = c.self.invariant } in
-    let told : option_map (λ (x : CallStep). entry_at line (steps.Call c.args.driver x)) c.due_of_call.result
+    let b : Beside line.def line.entries = record { seen = c.self.inside.state; scripts = c.self.inside.scripts; is = c.self.invariant } in
+    let told : option_map (λ (x : DriverStep). entry_at line (steps.Driver c.args.driver x)) c.due_of_driver.result
     ≡ next line.def line.entries (actors.Driver c.args.driver)
-    = call_told line b c.args.driver c.args.call c.args.within c.due_of_call.result
+    = driver_told line b c.args.driver c.args.call c.args.within c.due_of_driver.result
     (subst (λ (w : WiredSeen). due_call w.line.def c.args.driver (reverse w.line.entries) ≡ Some (c.args.call, c.args.within))
-    (sym c.self.view_is) c.requires.call) (c.due_of_call.ensures line.def) in
+    (sym c.self.view_is) c.requires.call) (c.due_of_driver.ensures line.def) in
     let who = actors.Driver c.args.driver in
     let none : next line.def line.entries who ≡ None
-    = sym told ∙ ap (option_map (λ (x : CallStep). entry_at line (steps.Call c.args.driver x))) c.in_default.is in
+    = sym told ∙ ap (option_map (λ (x : DriverStep). entry_at line (steps.Driver c.args.driver x))) c.in_default.is in
     rests_alone who c.args.self.now.line (subst (λ (w : WiredSeen). next w.line.def w.line.entries who ≡ None) c.self.view_is none)
 
 pub returns-then-len-self-clause-step : goal.returns-then-len-self-clause-step
 returns-then-len-self-clause-step g c =
     let line : LineSeen = line_of c.self.inside.def c.self.inside.history in
-    let b : Beside line.def line.entries = record { state = c.self.inside.state.state; scripts = c.self.inside.scripts; is = c.self.invariant } in
-    let told : option_map (λ (x : CallStep). entry_at line (steps.Call c.args.driver x)) c.due_of_call.result
+    let b : Beside line.def line.entries = record { seen = c.self.inside.state; scripts = c.self.inside.scripts; is = c.self.invariant } in
+    let told : option_map (λ (x : DriverStep). entry_at line (steps.Driver c.args.driver x)) c.due_of_driver.result
     ≡ next line.def line.entries (actors.Driver c.args.driver)
-    = call_told line b c.args.driver c.args.call c.args.within c.due_of_call.result
+    = driver_told line b c.args.driver c.args.call c.args.within c.due_of_driver.result
     (subst (λ (w : WiredSeen). due_call w.line.def c.args.driver (reverse w.line.entries) ≡ Some (c.args.call, c.args.within))
-    (sym c.self.view_is) c.requires.call) (c.due_of_call.ensures line.def) in
+    (sym c.self.view_is) c.requires.call) (c.due_of_driver.ensures line.def) in
     let who = actors.Driver c.args.driver in
-    let step = steps.Call c.args.driver c.in-Some.step in
+    let step = steps.Driver c.args.driver c.in-Some.step in
     let due : IsDueStep line who step
-    = sym told ∙ ap (option_map (λ (x : CallStep). entry_at line (steps.Call c.args.driver x))) c.in-Some.is in
+    = sym told ∙ ap (option_map (λ (x : DriverStep). entry_at line (steps.Driver c.args.driver x))) c.in-Some.is in
     let due_seen : IsDueStep c.args.self.now.line who step = subst (λ (w : WiredSeen). IsDueStep w.line who step) c.self.view_is due in
     full_alone who c.args.self.now.line c.full.result (ap is_some due_seen) c.full.ensures
 
 pub returns-in-Ok-clause-step : goal.returns-in-Ok-clause-step
 returns-in-Ok-clause-step g c =
     let line : LineSeen = line_of c.self.inside.def c.self.inside.history in
-    let b : Beside line.def line.entries = record { state = c.self.inside.state.state; scripts = c.self.inside.scripts; is = c.self.invariant } in
-    let told : option_map (λ (x : CallStep). entry_at line (steps.Call c.args.driver x)) c.due_of_call.result
+    let b : Beside line.def line.entries = record { seen = c.self.inside.state; scripts = c.self.inside.scripts; is = c.self.invariant } in
+    let told : option_map (λ (x : DriverStep). entry_at line (steps.Driver c.args.driver x)) c.due_of_driver.result
     ≡ next line.def line.entries (actors.Driver c.args.driver)
-    = call_told line b c.args.driver c.args.call c.args.within c.due_of_call.result
+    = driver_told line b c.args.driver c.args.call c.args.within c.due_of_driver.result
     (subst (λ (w : WiredSeen). due_call w.line.def c.args.driver (reverse w.line.entries) ≡ Some (c.args.call, c.args.within))
-    (sym c.self.view_is) c.requires.call) (c.due_of_call.ensures line.def) in
+    (sym c.self.view_is) c.requires.call) (c.due_of_driver.ensures line.def) in
     let who = actors.Driver c.args.driver in
-    let step = steps.Call c.args.driver c.in-Some.step in
+    let step = steps.Driver c.args.driver c.in-Some.step in
     let due : IsDueStep line who step
-    = sym told ∙ ap (option_map (λ (x : CallStep). entry_at line (steps.Call c.args.driver x))) c.in-Some.is in
+    = sym told ∙ ap (option_map (λ (x : DriverStep). entry_at line (steps.Driver c.args.driver x))) c.in-Some.is in
     let e = c.in-Ok.entry in
     let new = c.add.new.self.line in
     let below : length line.entries < line.def.log = search (rules, arith) in
@@ -94,16 +94,16 @@ returns-in-Ok-clause-step g c =
 pub returns-in-Err-clause-step : goal.returns-in-Err-clause-step
 returns-in-Err-clause-step g c =
     let line : LineSeen = line_of c.self.inside.def c.self.inside.history in
-    let b : Beside line.def line.entries = record { state = c.self.inside.state.state; scripts = c.self.inside.scripts; is = c.self.invariant } in
-    let told : option_map (λ (x : CallStep). entry_at line (steps.Call c.args.driver x)) c.due_of_call.result
+    let b : Beside line.def line.entries = record { seen = c.self.inside.state; scripts = c.self.inside.scripts; is = c.self.invariant } in
+    let told : option_map (λ (x : DriverStep). entry_at line (steps.Driver c.args.driver x)) c.due_of_driver.result
     ≡ next line.def line.entries (actors.Driver c.args.driver)
-    = call_told line b c.args.driver c.args.call c.args.within c.due_of_call.result
+    = driver_told line b c.args.driver c.args.call c.args.within c.due_of_driver.result
     (subst (λ (w : WiredSeen). due_call w.line.def c.args.driver (reverse w.line.entries) ≡ Some (c.args.call, c.args.within))
-    (sym c.self.view_is) c.requires.call) (c.due_of_call.ensures line.def) in
+    (sym c.self.view_is) c.requires.call) (c.due_of_driver.ensures line.def) in
     let who = actors.Driver c.args.driver in
-    let step = steps.Call c.args.driver c.in-Some.step in
+    let step = steps.Driver c.args.driver c.in-Some.step in
     let due : IsDueStep line who step
-    = sym told ∙ ap (option_map (λ (x : CallStep). entry_at line (steps.Call c.args.driver x))) c.in-Some.is in
+    = sym told ∙ ap (option_map (λ (x : DriverStep). entry_at line (steps.Driver c.args.driver x))) c.in-Some.is in
     let due_seen : IsDueStep c.args.self.now.line who step = subst (λ (w : WiredSeen). IsDueStep w.line who step) c.self.view_is due in
     no_memory_alone who c.args.self.now.line c.add.new.self.line (ap (λ (w : WiredSeen). w.line) c.in-Err.ensures.refused)
     (λ room. ap links_next due_seen ∙ wanted (is_linked_request (entry_at c.args.self.now.line step)) c.add.result c.in-Err.is

@@ -14,7 +14,7 @@ use Rattle.line_core.proofs.line.Line.step_of_driver.Goals as goal
 pub returns-in_default-clause-step : goal.returns-in_default-clause-step
 returns-in_default-clause-step g c =
     let line : LineSeen = line_of c.self.inside.def c.self.inside.history in
-    let b : Beside line.def line.entries = record { state = c.self.inside.state.state; scripts = c.self.inside.scripts; is = c.self.invariant } in
+    let b : Beside line.def line.entries = record { seen = c.self.inside.state; scripts = c.self.inside.scripts; is = c.self.invariant } in
     let who = actors.Driver c.args.driver in
     let none : next line.def line.entries who ≡ None = no_call_told line b c.args.driver (sym c.due.ensures ∙ c.in_default.is) in
     rests_alone who c.args.self.now.line (subst (λ (w : WiredSeen). next w.line.def w.line.entries who ≡ None) c.self.view_is none)
@@ -22,7 +22,7 @@ returns-in_default-clause-step g c =
 pub ask-requires-clause-call : goal.ask-requires-clause-call
 ask-requires-clause-call g c =
     let line : LineSeen = line_of c.self.inside.def c.self.inside.history in
-    let b : Beside line.def line.entries = record { state = c.self.inside.state.state; scripts = c.self.inside.scripts; is = c.self.invariant } in
+    let b : Beside line.def line.entries = record { seen = c.self.inside.state; scripts = c.self.inside.scripts; is = c.self.invariant } in
     let told : due_call line.def c.args.driver (reverse line.entries) ≡ Some (c.in-Some.call, c.in-Some.within)
     = due_call_is line.def line.entries b c.args.driver ∙ (sym c.due.ensures ∙ c.in-Some.is) in
     subst (λ (w : WiredSeen). option_map (λ (x : Call × ℕ). x.0) (due_call w.line.def c.args.driver (reverse w.line.entries)) ≡ Some c.in-Some.call)
@@ -31,7 +31,7 @@ ask-requires-clause-call g c =
 pub step_of_call-requires : goal.step_of_call-requires
 step_of_call-requires g c =
     let line : LineSeen = line_of c.self.inside.def c.self.inside.history in
-    let b : Beside line.def line.entries = record { state = c.self.inside.state.state; scripts = c.self.inside.scripts; is = c.self.invariant } in
+    let b : Beside line.def line.entries = record { seen = c.self.inside.state; scripts = c.self.inside.scripts; is = c.self.invariant } in
     let told : due_call line.def c.args.driver (reverse line.entries) ≡ Some (c.in-Some.call, c.in-Some.within)
     = due_call_is line.def line.entries b c.args.driver ∙ (sym c.due.ensures ∙ c.in-Some.is) in
     let same : c.match-call.call ≡ c.in-Some.call = elim c.match-call.branch [

@@ -5,6 +5,7 @@ use Rattle.irq_line.specs.Seen.{LineSeen}
 use Rattle.line_core.proofs.Asked.{lowest_told}
 use Rattle.line_core.proofs.Stepping.{line_of}
 use Rattle.line_core.specs.Seen.{WiredSeen}
+use Rattle.line_state.specs.Seen.{runs_seen}
 use Rattle.line_core.proofs.line.LineIrqLine.lowest_thread.Goals as goal
 
 pub returns : goal.returns
@@ -12,4 +13,4 @@ returns g c =
     let line : LineSeen = line_of c.self.inside.def c.self.inside.history in
     subst (λ (w : WiredSeen). IsLowestThread w.line c.lowest_thread.result) c.self.view_is
     (subst (λ (o : Option DevNo). IsLowestThread line o) (sym c.lowest_thread.ensures)
-    (lowest_told line c.self.inside.state.state c.self.inside.scripts c.self.invariant))
+    (lowest_told line c.self.inside.state.state c.self.inside.scripts (runs_seen c.self.inside.state) c.self.invariant))

@@ -5,6 +5,7 @@ use Rattle.irq_line.specs.Seen.{LineSeen}
 use Rattle.line_core.proofs.Asked.{taker_told}
 use Rattle.line_core.proofs.Stepping.{line_of}
 use Rattle.line_core.specs.Seen.{WiredSeen}
+use Rattle.line_state.specs.Seen.{runs_seen}
 use Rattle.line_core.proofs.line.LineIrqLine.taker.Goals as goal
 
 pub returns : goal.returns
@@ -12,4 +13,4 @@ returns g c =
     let line : LineSeen = line_of c.self.inside.def c.self.inside.history in
     subst (λ (w : WiredSeen). IsTaker w.line c.taker.result) c.self.view_is
     (subst (λ (o : Option CpuNo). IsTaker line o) (sym c.taker.ensures)
-    (taker_told line c.self.inside.state.state c.self.inside.scripts c.self.invariant))
+    (taker_told line c.self.inside.state.state c.self.inside.scripts (runs_seen c.self.inside.state) c.self.invariant))

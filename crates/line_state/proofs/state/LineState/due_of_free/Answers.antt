@@ -1,17 +1,14 @@
 use Rattle.std.proofs.Common.{rules, ◌≡◌, option_map}
-use Rattle.irq_base.specs.declared.entries.Entry.TheVariants as by
-use Rattle.line_marks.specs.DriversDue.{clear_by, freed_by}
-use Rattle.line_state.specs.Entries.{call_entry}
+use Rattle.line_marks.specs.Calls.{clear_by, freed_by}
+use Rattle.line_state.specs.Entries.{call_made}
 use Rattle.line_state.proofs.state.LineState.due_of_free.Goals as goal
 
 pub returns-in-1 : goal.returns-in-1
 returns-in-1 g c def =
-    let is : option_map (call_entry def c.args.self.now.state c.args.driver) c.due_clear.result
-    ≡ option_map (by.DriverCall c.args.driver) (clear_by c.args.self.now.state) = c.due_clear.ensures def in
+    let is : option_map (call_made def c.args.self.now.state) c.due_clear.result ≡ clear_by c.args.self.now.state = c.due_clear.ensures def in
     search rules
 
 pub returns-in_default : goal.returns-in_default
 returns-in_default g c def =
-    let is : option_map (call_entry def c.args.self.now.state c.args.driver) c.due_freed.result
-    ≡ option_map (by.DriverCall c.args.driver) (freed_by c.args.dev c.args.self.now.state) = c.due_freed.ensures def in
+    let is : option_map (call_made def c.args.self.now.state) c.due_freed.result ≡ freed_by c.args.dev c.args.self.now.state = c.due_freed.ensures def in
     search rules

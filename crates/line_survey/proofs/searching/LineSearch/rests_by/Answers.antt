@@ -1,9 +1,8 @@
 use Rattle.std.proofs.Common.{◌≡◌, ◌<◌, ◌+◌, ℕ, Vec, Global, length, ap, sym, subst, arith}
-use Rattle.irq_model.specs.Valid.{IsValid}
 use Rattle.line_survey.proofs.Growing.{row_small, rows_stay, rows_count}
 use Rattle.line_survey.proofs.Surveys.{rests_are}
 use Rattle.line_survey.specs.Growing.{AreRestsTo}
-use Rattle.line_survey.specs.Kept.{IsOfLine, IsReader}
+use Rattle.line_survey.specs.Kept.{IsOfLine, IsReader, IsUnwaiting}
 use Rattle.line_survey.specs.Seen.{LineSearchSeen}
 use Rattle.line_survey.specs.declared.reader.Reader.{Reader}
 use Rattle.line_survey.specs.declared.survey.RestRow.{RestRow}
@@ -52,10 +51,11 @@ loop-place-preserved c =
 pub returns : goal.returns
 returns c =
     let v : LineSearchSeen = c.args.self.now in
-    let valid : IsValid v.def = subst (λ (x : LineSearchSeen). IsValid x.def) c.self.view_is c.self.invariant.valid in
+    let asked : IsUnwaiting v.def = subst (λ (x : LineSearchSeen). IsUnwaiting x.def) c.self.view_is
+    (record { valid = c.self.invariant.valid; runs = c.self.invariant.valid_runs; waits = c.self.invariant.waits }) in
     let line : IsOfLine v.def v.searched = subst (λ (x : LineSearchSeen). IsOfLine x.def x.searched) c.self.view_is c.self.invariant.line in
     let looked = ap (λ (x : LineSearchSeen). x.searched.looked) c.self.view_is in
     let end : c.loop-place.place ≡ v.searched.looked =
     omega (arith, c.loop-place-test.false, c.loop-place.auto.place-end, c.looked-place-end.ensures, looked) in
-    rests_are v.def valid v.searched line c.loop-place.rests.items
+    rests_are v.def asked v.searched line c.loop-place.rests.items
     (subst (λ (n : ℕ). AreRestsTo v.def v.searched.paths n c.loop-place.rests.items) end c.loop-place.invariant.rows)

@@ -19,6 +19,7 @@ now g c = record {
   posts = c.self.inside.posts.items;
   flow = c.self.inside.flow;
   at = c.next_call-self-inside.result;
+  left = c.self.inside.left;
   end = c.self.inside.end;
 }
 

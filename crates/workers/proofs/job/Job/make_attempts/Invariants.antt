@@ -1,6 +1,6 @@
 use Rattle.std.proofs.Common.{◌≡◌, ◌<◌, ◌≤◌}
 use Rattle.workers.specs.Grown.{made_by}
-use Rattle.workers.specs.Room.{room_of_posts}
+use Rattle.workers.specs.Room.{AreCounted, room_of_posts}
 use Rattle.workers.specs.Shifts.{WorksOn}
 use Rattle.workers.specs.Terms.{terms_of}
 use Rattle.workers.proofs.job.Job.make_attempts.Given as goal
@@ -13,4 +13,6 @@ invariant-loop-steps g l = record {
   none : l.steps ≡ 0 → made_by l.self.posts ≡ made_by l.fn.self.posts;
   less : 0 < l.steps → room_of_posts l.self.posts < room_of_posts l.fn.self.posts;
   more : 0 < l.steps → made_by l.fn.self.posts < made_by l.self.posts;
+  counted : AreCounted l.fn.self l.self;
+  left : 0 < l.self.left;
 }

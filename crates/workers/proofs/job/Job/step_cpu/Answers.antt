@@ -24,6 +24,7 @@ returns-in-Some g c =
       flow
           = c.flow_after-self-inside.result;
       at = c.self.inside.at;
+      left = c.self.inside.left;
       end = c.self.inside.end;
     })
     (c.flow_at-flow.ensures s.line (ap (λ (n : ℕ). slice_get c.args.lines.now (n + c.args.place)) from ∙ s.at_line))
@@ -34,6 +35,7 @@ returns-in-Some g c =
           = c.self.inside.posts.items;
       flow = f;
       at = c.self.inside.at;
+      left = c.self.inside.left;
       end = c.self.inside.end;
     })
     c.flow_after-self-inside.ensures

@@ -1,0 +1,2 @@
+with open("../../boards/drivers/napi_poll.board", encoding="ascii") as it:
+    print(it.read(), end="")

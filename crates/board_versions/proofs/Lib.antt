@@ -1,0 +1,3 @@
+mod OldWords
+mod OldRows
+pub mod OldTexts

@@ -1,5 +1,0 @@
-use Rattle.play_laws.proofs.Rest.{rest_is_settled}
-use Rattle.play_laws.proofs.rest_is_settled.Goals as goal
-
-pub returns : goal.returns
-returns c = record { law = rest_is_settled }

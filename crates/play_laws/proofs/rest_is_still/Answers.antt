@@ -1,0 +1,5 @@
+use Rattle.play_laws.proofs.Rest.{rest_is_still}
+use Rattle.play_laws.proofs.rest_is_still.Goals as goal
+
+pub returns : goal.returns
+returns c = record { law = rest_is_still }

@@ -1,0 +1,4 @@
+pub mod Bare
+pub mod Grouping
+pub mod Laying
+pub mod Moving

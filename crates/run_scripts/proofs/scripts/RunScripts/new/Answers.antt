@@ -1,0 +1,12 @@
+use Rattle.std.proofs.Common.{refl, ap, sym, ◌∙◌}
+use Rattle.device_table.specs.Rows.{at}
+use Rattle.run_scripts.proofs.Bare.{first_everywhere}
+use Rattle.run_scripts.proofs.scripts.RunScripts.new.Goals as goal
+
+pub invariant_of-result : goal.invariant_of-result
+invariant_of-result c h = record {
+  uncalled = c.are_bare-bare.ensures.calls h;
+  untold = c.are_bare-bare.ensures.answers h;
+  idle = refl;
+  first = λ d r is. first_everywhere c.args.def.now.devices d r (ap (λ t. at t d) (sym c.in_ok-rows.ensures) ∙ is);
+}
