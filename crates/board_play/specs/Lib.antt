@@ -3,3 +3,4 @@ pub mod Current
 pub mod Order
 pub mod Play
 pub mod Kept
+pub mod Hanging

@@ -11,6 +11,8 @@ pub struct LineReadiness {
     pub thread: Option<DevNo>,
     /// The processor of the flow in progress.
     pub flow: Option<CpuNo>,
+    /// That processor can't go on: it moves nowhere.
+    pub spins: bool,
     /// The processor that has a take due.
     pub taker: Option<CpuNo>,
     /// What stands in the way.
@@ -54,6 +56,7 @@ impl LineReadiness {
         LineReadiness {
             thread: None,
             flow: None,
+            spins: false,
             taker: None,
             blocks: Blocks {
                 flow: false,
@@ -72,6 +75,7 @@ pub(crate) fn is_same_readiness(first: LineReadiness, second: LineReadiness) -> 
 {
     is_same_dev(first.thread, second.thread)
         && is_same_cpu(first.flow, second.flow)
+        && first.spins == second.spins
         && is_same_cpu(first.taker, second.taker)
         && first.blocks.flow == second.blocks.flow
         && first.blocks.threads == second.blocks.threads

@@ -9,7 +9,7 @@ ghost use Rattle.program_io.specs.Arguments.{IsNotText};
 ghost use Rattle.program_io.specs.ErrorRows.{Tells};
 ghost use Rattle.irq_top.specs.Commands.{Does, ReadsNothing, TellsWanted};
 ghost use Rattle.irq_top.specs.Ending.{error_text, is_printed, is_printing, is_read_fault_end};
-ghost use Rattle.irq_top.specs.Ending.{is_write_fault_end};
+ghost use Rattle.irq_top.specs.Ending.{is_told, is_write_fault_end};
 ghost use Rattle.irq_command.specs.Arguments.{FormReadsNothing, IsForm, IsNoForm};
 
 use callbacks::{Handler, SharedHandler};
@@ -74,10 +74,10 @@ where
         (is_write_fault_end result.ending) }
     ensures silent { is_printing result.ending ≡ false → out.new ≡ out.old }
 
-    ensures tells { is_printed result.ending ≡ false
+    ensures tells { is_told result.ending ≡ true
         → Tells (error_text result.ending) (E.written err.old) (E.written err.new)
         (E.kept err.new) (E.faults err.old) (E.faults err.new) }
-    ensures quiet { is_printed result.ending ≡ true → err.new ≡ err.old }
+    ensures quiet { is_told result.ending ≡ false → err.new ≡ err.old }
 {
     match words_of(alloc, args) {
         Ok(words) => with_words(
@@ -142,10 +142,10 @@ where
     ensures write_fault { Counts (O.faults out.old) (O.faults out.new)
         (is_write_fault_end result.ending) }
     ensures silent { is_printing result.ending ≡ false → out.new ≡ out.old }
-    ensures tells { is_printed result.ending ≡ false
+    ensures tells { is_told result.ending ≡ true
         → Tells (error_text result.ending) (E.written err.old) (E.written err.new)
         (E.kept err.new) (E.faults err.old) (E.faults err.new) }
-    ensures quiet { is_printed result.ending ≡ true → err.new ≡ err.old }
+    ensures quiet { is_told result.ending ≡ false → err.new ≡ err.old }
 {
     match lend(alloc, words) {
         Ok(lent) => irq_main(

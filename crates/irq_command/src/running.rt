@@ -9,7 +9,7 @@ ghost use Rattle.program_io.specs.Arguments.{IsNotText};
 ghost use Rattle.program_io.specs.ErrorRows.{Tells};
 ghost use Rattle.irq_top.specs.Commands.{Does, TellsWanted};
 ghost use Rattle.irq_top.specs.Ending.{error_text, is_printed, is_printing, is_read_fault_end};
-ghost use Rattle.irq_top.specs.Ending.{is_write_fault_end, status_of};
+ghost use Rattle.irq_top.specs.Ending.{is_told, is_write_fault_end, status_of};
 ghost use Rattle.irq_command.specs.Arguments.{FormReadsNothing, IsForm, IsNoForm};
 
 use crate::commands::command;
@@ -105,11 +105,11 @@ where
         → IfSome result.output
         (λ out. (writer_inner out.writer ≡ output) × (writer_buffer out.writer ≡ [])) }
 
-    ensures tells { is_printed result.outcome.ending ≡ false
+    ensures tells { is_told result.outcome.ending ≡ true
         → Tells (error_text result.outcome.ending) (E.contents error)
         (writer_contents E.contents result.error.writer) (writer_buffer result.error.writer) 0
         result.error.faults }
-    ensures quiet { is_printed result.outcome.ending ≡ true
+    ensures quiet { is_told result.outcome.ending ≡ false
         → (writer_inner result.error.writer ≡ error) × (writer_buffer result.error.writer ≡ []) }
 {
     let mut input = StdSource::new(input);

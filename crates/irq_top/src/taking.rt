@@ -22,6 +22,7 @@ pub(crate) trait OnBoard {
     ghost use Rattle.irq_base.specs.declared.entries.Entry.{Entry};
     ghost use Rattle.irq_base.specs.declared.reporting.LineReport.{LineReport};
     ghost use Rattle.irq_io.specs.Faults.{Counts};
+    ghost use Rattle.board_core.specs.declared.ends.PlayEnd.{PlayEnd};
     ghost use Rattle.board_def.specs.Seen.{BoardSeen};
     ghost use Rattle.irq_top.specs.Commands.{TellsPlay};
     ghost use Rattle.irq_top.specs.Ending.{is_printed, is_printing, is_read_fault_end};
@@ -38,7 +39,7 @@ pub(crate) trait OnBoard {
     /// What it tells of a step that was refused memory, with lines that may want memory for these
     /// entries that are due.
     ghost tells: { Self → (Option Entry → Type 0) → BoardSeen → List LineReport
-        → Result Unit PlayFailed → Type 0 };
+        → Result PlayEnd PlayFailed → Type 0 };
 
     /// Plays the board, and prints its log, or a summary. Nothing is read.
     fn play<O: Sink, H: Handler, M: MakesDomainLine>(

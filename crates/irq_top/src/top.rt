@@ -8,7 +8,7 @@ ghost use Rattle.irq_words.specs.declared.Command.{Command};
 ghost use Rattle.program_io.specs.ErrorRows.{Tells};
 ghost use Rattle.irq_top.specs.Commands.{Does, ReadsNothing, TellsWanted};
 ghost use Rattle.irq_top.specs.Ending.{error_text, is_printed, is_printing, is_read_fault_end};
-ghost use Rattle.irq_top.specs.Ending.{is_write_fault_end};
+ghost use Rattle.irq_top.specs.Ending.{is_told, is_write_fault_end};
 
 use crate::commands::act;
 use crate::ending::Ending;
@@ -87,10 +87,10 @@ where
         (is_write_fault_end result.ending) }
     ensures silent { is_printing result.ending ≡ false → out.new ≡ out.old }
 
-    ensures tells { is_printed result.ending ≡ false
+    ensures tells { is_told result.ending ≡ true
         → Tells (error_text result.ending) (E.written err.old) (E.written err.new)
         (E.kept err.new) (E.faults err.old) (E.faults err.new) }
-    ensures quiet { is_printed result.ending ≡ true → err.new ≡ err.old }
+    ensures quiet { is_told result.ending ≡ false → err.new ≡ err.old }
 {
     let Some(asked) = read_command(words) else {
         return end_early(alloc, Ending::Usage, err);
@@ -98,19 +98,19 @@ where
     let outcome = act(
         rt, alloc, asked, src, out, gate, handlers, shared, maker, notify,
     );
-    if !is_printed(outcome.ending) {
+    if is_told(outcome.ending) {
         tell(err, outcome.ending);
     }
     outcome
 }
 
-/// Whether the ending has no row on the error sink, since all is printed on the output.
-fn is_printed(ending: Ending) -> bool
-    ensures { result ≡ is_printed ending }
+/// Whether the ending has a row on the error sink.
+fn is_told(ending: Ending) -> bool
+    ensures { result ≡ is_told ending }
 {
     match ending {
-        Ending::Done | Ending::Unlawful { .. } | Ending::Malformed { .. } => true,
-        _ => false,
+        Ending::Done | Ending::Unlawful { .. } | Ending::Malformed { .. } => false,
+        _ => true,
     }
 }
 

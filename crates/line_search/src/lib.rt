@@ -12,7 +12,8 @@ ghost use Rattle.irq_model.specs.Valid.{IsValid};
 ghost use Rattle.irq_model.specs.ValidRuns.{HasValidRuns, NeverWaits};
 ghost use Rattle.irq_storms.specs.Lengths.{IsBounded};
 ghost use Rattle.line_futures.specs.Futures.{AreAlike};
-ghost use Rattle.line_search.specs.Found.{IsShortest, IsNever, IsNotWithin, ComesToRest};
+ghost use Rattle.line_search.specs.Found.{IsShortest, IsNever, IsNotWithin, ComesToEnd};
+ghost use Rattle.line_search.specs.Found.{ComesToRest};
 ghost use Rattle.line_words.specs.Node.{node};
 ghost use Rattle.state_search.specs.Firsts.{IsNoted, AreFirsts};
 ghost use Rattle.state_search.specs.Paths.{IsPath, IsBelow, AreSteps, Searches};
@@ -83,10 +84,12 @@ pub fn search_tells_of_entries()
         → (e : Entry) (n : ℕ) → cut ≡ Some n → (IsNoted eq firsts e → ⊥) → IsNotWithin def e n }
 {}
 
-/// Each legal history of a line that has a bound goes on until the line is at rest, since none is
-/// longer: nothing can be waited for without end. For now no run waits for itself.
-#[tactic(auto, using(crate::proofs::Resting::comes_to_rest))]
+/// Each legal history of a line that has a bound goes on until nothing more is due, since none is
+/// longer. If nobody hangs then, the line is at rest: so it is where no run waits.
+#[tactic(auto, using(crate::proofs::Resting::comes_to_end, crate::proofs::Resting::comes_to_rest))]
 pub fn histories_come_to_rest()
-    ensures law { (def : LineDef) → IsValid def → HasValidRuns def → NeverWaits def
+    ensures law { (def : LineDef) → IsValid def → HasValidRuns def → IsBounded def
+        → (past : List Entry) → IsLegalPast def past → ComesToEnd def past }
+    ensures rest { (def : LineDef) → IsValid def → HasValidRuns def → NeverWaits def
         → IsBounded def → (past : List Entry) → IsLegalPast def past → ComesToRest def past }
 {}

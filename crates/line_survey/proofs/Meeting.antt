@@ -20,7 +20,7 @@ use Rattle.line_words.specs.Node.{node}
 use Rattle.state_search.proofs.Places.{all_at, one_at, contains_at, contains_from, map_at, map_from, there}
 use Rattle.state_search.specs.Paths.{IsPath, AreSteps}
 use Rattle.line_survey.proofs.Rests.{settled_none, none_settled}
-use Rattle.line_survey.specs.Kept.{same_entry, IsUnwaiting}
+use Rattle.line_survey.specs.Kept.{same_entry, IsValidLine}
 use Rattle.line_survey.specs.Rests.{Leaves}
 use Rattle.line_survey.specs.Answers.{IsMetBy}
 use Rattle.line_survey.specs.Wanting.{WantedSeen}
@@ -75,7 +75,7 @@ module _ (s : WantedSeen) (words : List ℕ) (found : List (Entry × List ℕ))
       → IsMetBy s.def s.wanted g → ⊥
   row_unmet e is lacks g path same met = lacks ((steps g path same).all e (subst (λ (w : Wanted). IsMetBy s.def w g) is met))
 
-  module _ (asked : IsUnwaiting s.def) (left : Left) (is : s.wanted ≡ wants.Rest left) where
+  module _ (asked : IsValidLine s.def) (left : Left) (is : s.wanted ≡ wants.Rest left) where
     leaves : (g : List Entry) → IsMetBy s.def s.wanted g → Leaves s.def left g
     leaves g met = subst (λ (w : Wanted). IsMetBy s.def w g) is met
 

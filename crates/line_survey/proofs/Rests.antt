@@ -27,10 +27,10 @@ use Rattle.state_search.specs.Paths.{IsPath, IsBelow, IsCount}
 use Rattle.state_search.specs.Seen.{SearchSeen, cut_of}
 use Rattle.line_survey.proofs.Lefts.{left_alike}
 use Rattle.line_survey.proofs.Lists.{taken}
-use Rattle.line_survey.specs.Kept.{IsOfLine, IsUnwaiting}
+use Rattle.line_survey.specs.Kept.{IsOfLine, IsValidLine}
 use Rattle.line_survey.specs.Rests.{Leaves, LeavesAt, RestsAt, MovesAt, IsFirstAt}
 
-module _ (def : LineDef) (asked : IsUnwaiting def) where
+module _ (def : LineDef) (asked : IsValidLine def) where
   -- nothing is due of anybody
   abbrev NoneDue : List Entry → Type 0
   NoneDue p = (e : Entry) → IsDue def e p → ⊥

@@ -8,7 +8,7 @@ use Rattle.std.proofs.lemmas.Option.{slice_get_within}
 use Rattle.irq_base.specs.declared.entries.Entry.{Entry}
 use Rattle.irq_base.specs.declared.lines.LineDef.{LineDef}
 use Rattle.irq_model.specs.Legal.{IsDue, IsLegalPast}
-use Rattle.line_survey.specs.Kept.{IsUnwaiting}
+use Rattle.line_survey.specs.Kept.{IsValidLine}
 use Rattle.line_search.proofs.Searching.{path_is_legal, legal_is_path}
 use Rattle.line_wanted.specs.Wanted.{Meets, IsShortest, IsNever, IsNotWithin}
 use Rattle.line_wanted.specs.declared.left.Left.{Left}
@@ -70,7 +70,7 @@ module _ (def : LineDef) where
           none.below x.past (legal_is_path def x.past x.legal) (subst B (sym whole) tt) x.met
 
       -- none is met below the cut
-      module _ (asked : IsUnwaiting def) (d : ℕ) (cut : cut_of s ≡ Some d) (left_out : LeavesOut (IsDue def) (node def) s.paths s.looked) where
+      module _ (asked : IsValidLine def) (d : ℕ) (cut : cut_of s ≡ Some d) (left_out : LeavesOut (IsDue def) (node def) s.paths s.looked) where
         far : (p : List Entry) → IsLegalPast def p → IsMetBy def w p → d ≤ length p
         far p legal met = by (cases_lt (length p) d)
           where
@@ -124,7 +124,7 @@ module _ (def : LineDef) where
             (is_not_within, search, of, none.passed, sym (ap (option_map (known_within w)) cut))
 
       -- what is said where it isn't met
-      pub unmet_said : (most : ℕ) → IsUnwaiting def → length s.paths ≤ most → LeavesOut (IsDue def) (node def) s.paths s.looked
+      pub unmet_said : (most : ℕ) → IsValidLine def → length s.paths ≤ most → LeavesOut (IsDue def) (node def) s.paths s.looked
           → IfSome (cut_of s) (λ d. length s.paths ≡ most) → (cut : Option ℕ) → cut_of s ≡ cut → IsAnswer most def w (unmet_answer w cut)
       unmet_said most asked few left_out all None is = is_never is
       unmet_said most asked few left_out all (Some d) is =

@@ -17,7 +17,7 @@ use Rattle.state_search.specs.declared.firsts.First.{First}
 use Rattle.line_survey.proofs.Entries.{shortest_of}
 use Rattle.line_survey.proofs.Rests.{rest_found, known}
 use Rattle.line_survey.specs.Growing.{AreRestsTo}
-use Rattle.line_survey.specs.Kept.{same_entry, IsOfLine, IsUnwaiting}
+use Rattle.line_survey.specs.Kept.{same_entry, IsOfLine, IsValidLine}
 use Rattle.line_survey.specs.Rests.{Leaves}
 use Rattle.line_survey.specs.Seen.{depth_at}
 use Rattle.line_survey.specs.Surveyed.{AreSoMany, IsLeast, AreRests, AreEntries, rows_of}
@@ -28,7 +28,7 @@ use Rattle.line_survey.specs.declared.survey.RestRow.{RestRow}
 depth_is : (paths : List (List Entry)) (k : ℕ) (p : List Entry) → slice_get paths k ≡ Some p → length p ≡ depth_at paths k
 depth_is paths k p is = ap length (sym (get_or_from_slice_get paths k p [] is))
 
-module _ (def : LineDef) (asked : IsUnwaiting def) (s : SearchSeen Entry) (line : IsOfLine def s) where
+module _ (def : LineDef) (asked : IsValidLine def) (s : SearchSeen Entry) (line : IsOfLine def s) where
   pub rests_are : (rows : List RestRow) → AreRestsTo def s.paths s.looked rows → AreRests def (cut_of s) (take s.looked s.paths) rows
   rests_are rows are = record {
     each = all_from (λ r. IsLeast def (wants.Rest r.left) r.len) rows least_at;

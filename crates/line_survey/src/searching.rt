@@ -2,7 +2,7 @@
 ghost use Rattle.std.specs.Prelude.{◌≡◌, ◌≤◌, ◌<◌, IfOk, IfSome, length};
 ghost use Rattle.irq_model.specs.Legal.{IsDue};
 ghost use Rattle.irq_model.specs.Valid.{IsValid};
-ghost use Rattle.irq_model.specs.ValidRuns.{HasValidRuns, NeverWaits};
+ghost use Rattle.irq_model.specs.ValidRuns.{HasValidRuns};
 ghost use Rattle.line_survey.specs.Kept.{IsOfLine};
 ghost use Rattle.line_survey.specs.Seen.{depth_at};
 ghost use Rattle.line_words.specs.Node.{node};
@@ -39,7 +39,6 @@ impl Model for LineSearch {
 fn search_states(alloc: Global, def: &LineDef, most: usize) -> Result<Searched<Entry>, NoMemory>
     requires valid { IsValid def.now }
     requires runs { HasValidRuns def.now }
-    requires waits { NeverWaits def.now }
     requires some { 1 ≤ most }
     requires most { most ≤ 100000000 }
     ensures line { IfOk result (IsOfLine def.now) }
@@ -57,7 +56,6 @@ impl LineSearch {
     pub fn new(alloc: Global, def: &LineDef, most: usize) -> Result<LineSearch, NoMemory>
         requires valid { IsValid def.now }
         requires runs { HasValidRuns def.now }
-        requires waits { NeverWaits def.now }
         requires some { 1 ≤ most }
         requires most { most ≤ 100000000 }
         ensures def { IfOk result (λ s. s.def ≡ def.now) }

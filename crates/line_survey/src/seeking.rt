@@ -4,7 +4,7 @@ ghost use Rattle.std.specs.Prelude.{slice_get, true, false};
 ghost use Rattle.irq_base.specs.declared.entries.Entry.{Entry};
 ghost use Rattle.irq_model.specs.Legal.{IsDue};
 ghost use Rattle.irq_model.specs.Valid.{IsValid};
-ghost use Rattle.irq_model.specs.ValidRuns.{HasValidRuns, NeverWaits};
+ghost use Rattle.irq_model.specs.ValidRuns.{HasValidRuns};
 ghost use Rattle.line_survey.specs.Answers.{IsAnswer, IsMetBy, known_within};
 ghost use Rattle.line_survey.specs.Wanting.{unmet_answer, whole_past};
 ghost use Rattle.line_words.specs.Node.{node};
@@ -29,7 +29,6 @@ pub fn shortest(
 ) -> Result<Answer, NoMemory>
     requires valid { IsValid def.now }
     requires runs { HasValidRuns def.now }
-    requires waits { NeverWaits def.now }
     requires some { 1 ≤ most }
     requires most { most ≤ 100000000 }
     ensures { IfOk result (IsAnswer most def.now wanted) }
@@ -51,7 +50,6 @@ fn seek(
 ) -> Result<Sought<Entry>, NoMemory>
     requires valid { IsValid def.now }
     requires runs { HasValidRuns def.now }
-    requires waits { NeverWaits def.now }
     requires some { 1 ≤ most }
     requires most { most ≤ 100000000 }
     ensures paths { IfOk result (λ s. Searches (IsDue def.now) (node def.now) s.found.paths

@@ -17,3 +17,4 @@ mod words;
 pub use entries::{MAX_ENTRY_ROW, entry_row};
 pub use laws::{rows_tell_entries, texts_tell_histories};
 pub use layouts::layout_row;
+pub use pieces::push_actor;

@@ -13,5 +13,5 @@ pub mod inputs;
 
 pub use arguments::{ArgumentsRefused, lend, words_of};
 pub use buffers::{with_buffer, without_buffer};
-pub use error_rows::{push_fault, push_full_log, tell_row};
+pub use error_rows::{push_fault, push_full_log, push_hung, tell_row};
 pub use inputs::{InputRefused, read_input};

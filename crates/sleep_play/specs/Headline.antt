@@ -5,6 +5,7 @@ use Rattle.irq_base.specs.declared.entries.Entry.{Entry}
 use Rattle.irq_base.specs.declared.numbers.LineNo.{LineNo}
 use Rattle.irq_base.specs.declared.reporting.LineReport.{LineReport}
 use Rattle.irq_line.specs.declared.answers.StepRefused.{StepRefused}
+use Rattle.board_core.specs.declared.ends.PlayEnd.{PlayEnd}
 use Rattle.board_def.specs.Seen.{BoardSeen}
 use Rattle.board_play.specs.Lines.{lines_of}
 use Rattle.board_report.specs.Headline.{EachMapped, Histories}
@@ -48,9 +49,9 @@ abbrev pub SleepCut : BoardSeen → List LineNo → List SleepEntry → List Lin
 SleepCut b armed =
     IsCut (slept b) (sleep_order (slept b) armed) (Picking b.picks) (KeepsSleep b armed)
 
--- what the reports hand out, by how the play ended: one of these three
+-- what the reports hand out, by how the play ended: one of these three, since no run waits
 unfoldable pub SleepHandsOut : BoardSeen → List LineNo → List SleepEntry
-    → Result Unit StepRefused → List LineReport → Type 0
+    → Result PlayEnd StepRefused → List LineReport → Type 0
 SleepHandsOut b armed =
     HandsOut (slept b) (sleep_order (slept b) armed) (Picking b.picks) (KeepsSleep b armed)
 

@@ -1,12 +1,15 @@
 //! Single rows.
 ghost use Rattle.std.specs.Prelude.{◌≡◌, ◌+◌, ◌≤◌, ◌++◌, decimal, length};
-ghost use Rattle.explore_words.specs.Rows.{joined, standing_word, waits_word, wanted_words};
+ghost use Rattle.explore_words.specs.Rows.{hung_words, joined, standing_word, waits_word};
+ghost use Rattle.explore_words.specs.Rows.{wanted_words};
 ghost use Rattle.line_wanted.specs.declared.wanted.Wanted.TheVariants as wants;
+ghost use Rattle.log_text.specs.Spaced.{spaced};
 ghost use Rattle.survey_rows.specs.Texts.{cut_text, rest_text, totals_text};
 
-use irq_base::LineNo;
+use irq_base::{Actor, LineNo};
 use line_survey::{RestRow, Survey};
 use line_wanted::{Left, Standing};
+use log_text::push_actor;
 use text_row::TextRow;
 
 /// The most digits of a u64.
@@ -80,14 +83,28 @@ fn word_of_waits(stored: bool, pending: bool) -> &'static [u8]
     }
 }
 
+/// Adds who is hung, if somebody is.
+fn push_hung_one(row: &mut TextRow, hung: Option<Actor>)
+    requires { length row.old ≤ 40 }
+    ensures text { row.new ≡ row.old ++ spaced (hung_words hung) }
+    ensures grows { length row.new ≤ length row.old + 17 }
+{
+    if let Some(actor) = hung {
+        row.push_bytes(b" hung");
+        push_actor(row, actor);
+    }
+}
+
 /// Adds the words that ask for this way to be left.
 fn push_left(row: &mut TextRow, line: LineNo, left: Left)
     requires { length row.old ≤ 20 }
     ensures text { row.new ≡ row.old ++ joined (wanted_words line (wants.Rest left)) }
-    ensures grows { length row.new ≤ length row.old + 60 }
+    ensures grows { length row.new ≤ length row.old + 80 }
 {
     row.push_number(line.0);
-    row.push_bytes(b" rest ");
+    row.push_bytes(b" rest");
+    push_hung_one(row, left.hung);
+    row.push(b' ');
     row.push_bytes(word_of_standing(left.standing));
     row.push(b' ');
     push_long(row, left.unserved);

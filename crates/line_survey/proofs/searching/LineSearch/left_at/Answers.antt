@@ -2,7 +2,7 @@ use Rattle.std.proofs.Common.{◌≡◌, Some, List, slice_get, ap, sym, subst, 
 use Rattle.std.specs.Option.{option_map}
 use Rattle.irq_base.specs.declared.entries.Entry.{Entry}
 use Rattle.line_survey.proofs.Rests.{legal_at, short_at, words_at, past_at}
-use Rattle.line_survey.specs.Kept.{IsReader, IsUnwaiting}
+use Rattle.line_survey.specs.Kept.{IsReader, IsValidLine}
 use Rattle.line_survey.specs.Seen.{LineSearchSeen}
 use Rattle.line_wanted.specs.Left.{left_of}
 use Rattle.line_survey.proofs.searching.LineSearch.left_at.Goals as goal
@@ -14,7 +14,7 @@ pub left-requires-clause-past : goal.left-requires-clause-past
 left-requires-clause-past c =
     let s = c.self.inside.searched in
     let def = c.self.inside.def in
-    let asked : IsUnwaiting c.self.inside.def = record { valid = c.self.invariant.valid; runs = c.self.invariant.valid_runs; waits = c.self.invariant.waits } in
+    let asked : IsValidLine c.self.inside.def = record { valid = c.self.invariant.valid; runs = c.self.invariant.valid_runs; waits = c.self.invariant.waits } in
     let line = c.self.invariant.line in
     let words = c.as_slice.result.now in
     let at = ap Some c.as_slice.ensures.value ∙ (sym (ap (λ o. option_map (λ w. w.items) o) c.in-Some.is) ∙ c.in_ok-words.ensures) in
@@ -38,7 +38,7 @@ returns-clause-left c = subst
     (λ p is.
     let s = c.self.inside.searched in
     let def = c.self.inside.def in
-    let asked : IsUnwaiting c.self.inside.def = record { valid = c.self.invariant.valid; runs = c.self.invariant.valid_runs; waits = c.self.invariant.waits } in
+    let asked : IsValidLine c.self.inside.def = record { valid = c.self.invariant.valid; runs = c.self.invariant.valid_runs; waits = c.self.invariant.waits } in
     let line = c.self.invariant.line in
     let legal = legal_at def asked s line c.args.place p is in
     c.in_ok-left.ensures.left p legal (words_at def asked s line c.args.place c.as_slice.result.now p

@@ -7,7 +7,7 @@ use Rattle.line_wanted.specs.Left.{left_of}
 use Rattle.line_words.specs.Node.{node}
 use Rattle.line_survey.proofs.Lefts.{same_left}
 use Rattle.line_survey.proofs.Meeting.{row_met, moves_on, rest_met, rest_unmet, other_left}
-use Rattle.line_survey.specs.Kept.{IsUnwaiting}
+use Rattle.line_survey.specs.Kept.{IsValidLine}
 use Rattle.line_survey.specs.Wanting.{WantedSeen}
 use Rattle.line_survey.proofs.wanting.WantedSpaceSpaceEntry.is_wanted.Goals as goal
 
@@ -19,7 +19,7 @@ returns-in-Row-clause-wanted c = λ yes.
 pub returns-then-len-gt0-clause-unwanted : goal.returns-then-len-gt0-clause-unwanted
 returns-then-len-gt0-clause-unwanted c = λ no.
     let is = sym (ap (λ (v : WantedSeen). v.wanted) c.self.view_is) ∙ c.in-Rest.is in
-    let asked = subst (λ (v : WantedSeen). IsUnwaiting v.def) c.self.view_is
+    let asked = subst (λ (v : WantedSeen). IsValidLine v.def) c.self.view_is
     (record { valid = c.self.invariant.valid; runs = c.self.invariant.valid_runs; waits = c.self.invariant.waits }) in
     moves_on c.args.self.now c.args.words.now c.args.found.now c.requires.steps asked c.in-Rest.left is (omega (arith, c.len.ensures, c.if-len-gt0.true))
 
@@ -35,7 +35,7 @@ left-requires-clause-past c =
 pub returns-in_ok-left-in-Rest-clause-wanted : goal.returns-in_ok-left-in-Rest-clause-wanted
 returns-in_ok-left-in-Rest-clause-wanted c = λ yes.
     let is = sym (ap (λ (v : WantedSeen). v.wanted) c.self.view_is) ∙ c.in-Rest.is in
-    let asked = subst (λ (v : WantedSeen). IsUnwaiting v.def) c.self.view_is
+    let asked = subst (λ (v : WantedSeen). IsValidLine v.def) c.self.view_is
     (record { valid = c.self.invariant.valid; runs = c.self.invariant.valid_runs; waits = c.self.invariant.waits }) in
     let none : length c.args.found.now ≡ 0 = omega (arith, c.len.ensures, c.if-len-gt0.false) in
     let told = c.in_ok-left-in-Rest.field-0 in
@@ -47,7 +47,7 @@ returns-in_ok-left-in-Rest-clause-wanted c = λ yes.
 pub returns-in_ok-left-in-Rest-clause-unwanted : goal.returns-in_ok-left-in-Rest-clause-unwanted
 returns-in_ok-left-in-Rest-clause-unwanted c = λ no.
     let is = sym (ap (λ (v : WantedSeen). v.wanted) c.self.view_is) ∙ c.in-Rest.is in
-    let asked = subst (λ (v : WantedSeen). IsUnwaiting v.def) c.self.view_is
+    let asked = subst (λ (v : WantedSeen). IsValidLine v.def) c.self.view_is
     (record { valid = c.self.invariant.valid; runs = c.self.invariant.valid_runs; waits = c.self.invariant.waits }) in
     let none : length c.args.found.now ≡ 0 = omega (arith, c.len.ensures, c.if-len-gt0.false) in
     let told = c.in_ok-left-in-Rest.field-0 in
