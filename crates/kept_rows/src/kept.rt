@@ -60,6 +60,7 @@ impl KeptRows {
     }
 
     /// The row of an entry of the line, kept or made anew.
+    #[inline(always)]
     pub fn row_of(&mut self, line: LineNo, entry: &Entry) -> &[u8]
         requires { IsPrintable entry.now }
         ensures { result.now ≡ entry_text line entry.now }

@@ -13,15 +13,15 @@ pub fn may_have(board: &Board, entry: &Entry) -> bool
     ensures { result ≡ may_have board.now.version entry.now }
 {
     // of most rows one test tells
-    matches!(*entry, Entry::Cpu(_, _)) || board.version() >= 3 || !needs_runs(entry)
+    matches!(*entry, Entry::Cpu(_, _)) || board.version() >= 3 || !needs_runs(*entry)
 }
 
 /// Whether the entry's row is one of version 3 alone.
 #[inline(never)]
-fn needs_runs(entry: &Entry) -> bool
-    ensures { result ≡ needs_runs entry.now }
+fn needs_runs(entry: Entry) -> bool
+    ensures { result ≡ needs_runs entry }
 {
-    match *entry {
+    match entry {
         Entry::Cpu(_, _) => false,
         Entry::Thread(_, ThreadEntry::Return { handled, served }) => handled != (served > 0),
         Entry::Driver(_, DriverEntry::Ask { edge, .. }) => !edge,

@@ -1,7 +1,7 @@
 use Rattle.std.proofs.Common.{arith, ◌∙◌, length, drop, ◌-◌}
 use Rattle.std.proofs.lemmas.List.{length-take, length-drop, take_rest}
 use Rattle.irq_io.proofs.Pieces.{WritesAll-failed, WritesAll-more}
-use Rattle.irq_io.proofs.whole.write_all.Goals as goal
+use Rattle.irq_io.proofs.whole.write_on.Goals as goal
 
 pub loop-done-preserved : goal.loop-done-preserved
 loop-done-preserved g c =
@@ -13,7 +13,6 @@ loop-done-preserved g c =
       within = omega (arith, write.bound.1, length-take (length bytes - done) (drop done bytes), length-drop done bytes, before.within);
       content = WritesAll-more _ _ _ bytes done c.in-Took.count before.content (rw (take_rest bytes done) at write.content);
       same = write.cause ∙ before.same;
-      nothing = λ none. absurd (omega (arith, write.bound.0));
     }
 
 pub returns-in-Failed-clause-content : goal.returns-in-Failed-clause-content
