@@ -1,6 +1,7 @@
 -- The rows that can be asked for: those of entries, and those that say how a line is left.
 use Rattle.std.specs.Prelude.{◌≡◌, ℕ, Bool, true, false, Option, Some, None, IfSome, MatchOption}
 use Rattle.std.specs.Prelude.{List, [], ◌∷◌, ◌++◌, codes, decimal}
+use Rattle.std.specs.Borrow.{Bor}
 use Rattle.std.specs.List.{join_with_byte}
 use Rattle.irq_base.specs.declared.entries.Actor.{Actor}
 use Rattle.irq_base.specs.declared.numbers.LineNo.{LineNo}
@@ -78,9 +79,9 @@ pub record SaysHung (bytes : List ℕ) (hung : Option Actor) (behind : List ℕ)
 
 -- who is hung that the bytes say, and what stands behind it; none if they don't say how any line is
 -- left
-abbrev pub ReadsHung : List ℕ → Option (Option Actor × List ℕ) → Type 0
+abbrev pub ReadsHung : List ℕ → Option (Option Actor × Bor (List ℕ)) → Type 0
 ReadsHung bytes read = MatchOption read ((left : Left) → SaysLeft bytes left → ⊥)
-    (λ r. SaysHung bytes r.0 r.1 × ((left : Left) → SaysLeft bytes left → left.hung ≡ r.0))
+    (λ r. SaysHung bytes r.0 r.1.now × ((left : Left) → SaysLeft bytes left → left.hung ≡ r.0))
 
 -- how a line is left that the bytes say; none if they say it of no way
 abbrev pub ReadsLeft : List ℕ → Option Left → Type 0
