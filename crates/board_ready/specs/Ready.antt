@@ -94,6 +94,10 @@ moves_on lines c (Some k) = not (has_spinner c (slice_get lines k))
 abbrev pub is_cpu_ready : List LineReadiness → ℕ → Bool
 is_cpu_ready lines c = moves_on lines c (cpu_line lines c)
 
+-- the line on which it can move
+abbrev pub moving_line : List LineReadiness → ℕ → Option ℕ
+moving_line lines c = if is_cpu_ready lines c then cpu_line lines c else None
+
 -- the first of processors 0 to 31 that moves; opened by name, so that a goal doesn't spell out all
 -- 32
 unfoldable pub lowest_cpu : List LineReadiness → Option ℕ

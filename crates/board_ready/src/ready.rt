@@ -1,11 +1,12 @@
 //! The two lists, and the answers to a search over them.
 ghost use Rattle.std.specs.Prelude.{◌≡◌, ℕ, ◌<◌, ◌≤◌, ◌&&◌, nat_lt, if◌then◌else◌, length};
-ghost use Rattle.std.specs.Prelude.{replicate, slice_get, slice_set, is_some, None, IfOk, IfSome};
+ghost use Rattle.std.specs.Prelude.{replicate, slice_get, slice_set, is_some, Some, None, IfOk};
+ghost use Rattle.std.specs.Prelude.{IfSome};
 ghost use Rattle.board_ready.specs.Ready.{idle, lowest, lowest_thread_or_cpu, lowest_cpu};
 ghost use Rattle.board_ready.specs.Ready.{lowest_driver, flow_line, cpu_line, has_take};
 ghost use Rattle.board_ready.specs.Ready.{can_go_on, is_ready, is_driver_ready, has_thread};
 ghost use Rattle.board_ready.specs.Ready.{is_barred, current_call, is_cpu_ready, has_spinner};
-ghost use Rattle.board_ready.specs.Ready.{spinner};
+ghost use Rattle.board_ready.specs.Ready.{moving_line, spinner};
 ghost use Rattle.board_ready.specs.Sets.{has, may_go_on, on_line};
 
 use crate::bits::{chosen, first_bit, with_bit};
@@ -94,10 +95,7 @@ impl ReadyActors {
         self.threads.set(line, readiness.thread);
         self.flows.put(old.flow, line, false);
         self.flows.put(readiness.flow, line, true);
-        if old.spins || readiness.spins {
-            self.spins.put(spinner(old), line, false);
-            self.spins.put(spinner(readiness), line, true);
-        }
+        self.spins.pass(spinner(old), spinner(readiness), line);
         self.takes.put(old.taker, line, false);
         self.takes.put(readiness.taker, line, true);
         self.ready = rechosen(self.ready, &self.calls, line, readiness.blocks);
@@ -186,7 +184,7 @@ impl ReadyActors {
         self.lowest_that_moves(waiting)
     }
 
-    /// The first of these processors that can move: none of them spins on its line.
+    /// The first of these processors that can move: it doesn't spin on its line.
     #[inline(never)]
     fn lowest_that_moves(&self, waiting: u64) -> Option<usize>
         requires { (c : ℕ) → c < 64 → has waiting c
@@ -195,27 +193,33 @@ impl ReadyActors {
         ensures few { IfSome result (λ c. c < 32) }
     {
         for cpu in 0..CPUS {
-            if (waiting >> cpu) & 1 == 1 && self.can_cpu_move(CpuNo(cpu)) {
+            if self.is_moving(waiting, cpu) {
                 return Some(cpu as usize);
             }
         }
         None
     }
 
+    /// Whether the processor is one of those, and can move.
+    fn is_moving(&self, waiting: u64, cpu: u32) -> bool
+        requires cpu { cpu < 32 }
+        requires waiting { (c : ℕ) → c < 64 → has waiting c
+            ≡ (nat_lt c 32 && is_some (cpu_line self.now.lines c)) }
+        ensures { result ≡ is_cpu_ready self.now.lines cpu }
+    {
+        (waiting >> cpu) & 1 == 1 && self.can_cpu_move(CpuNo(cpu))
+    }
+
     /// Whether the processor can move: it has a line, and doesn't spin there.
     fn can_cpu_move(&self, cpu: CpuNo) -> bool
         ensures { result ≡ is_cpu_ready self.now.lines cpu.0 }
     {
-        match self.cpu_line(cpu) {
-            Some(line) => !self.spins_on(cpu, line),
-            None => false,
-        }
+        self.moving_line(cpu).is_some()
     }
 
-    /// Whether the processor spins on the line at this place.
+    /// Whether the processor spins on the line at this place, which is its own.
     fn spins_on(&self, cpu: CpuNo, line: usize) -> bool
-        requires cpu { cpu.0 < 32 }
-        requires line { line < 64 }
+        requires { cpu_line self.now.lines cpu.0 ≡ Some line }
         ensures { result ≡ has_spinner cpu.0 (slice_get self.now.lines line) }
     {
         (self.spins.lines(cpu) >> line) & 1 == 1
@@ -290,6 +294,22 @@ impl ReadyActors {
         match self.flows.first(cpu) {
             Some(line) => Some(line),
             None => self.takes.first(cpu),
+        }
+    }
+
+    /// The line on which a processor can move: none if it spins on its line, or has none.
+    pub fn moving_line(&self, cpu: CpuNo) -> Option<usize>
+        ensures { result ≡ moving_line self.now.lines cpu.0 }
+    {
+        match self.cpu_line(cpu) {
+            Some(line) => {
+                if self.spins_on(cpu, line) {
+                    None
+                } else {
+                    Some(line)
+                }
+            }
+            None => None,
         }
     }
 }
