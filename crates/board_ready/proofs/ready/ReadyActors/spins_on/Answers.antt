@@ -1,4 +1,4 @@
-use Rattle.std.proofs.Common.{◌≤◌, ℕ, length, slice_get, eqb, ap, ◌∙◌, arith}
+use Rattle.std.proofs.Common.{◌≤◌, length, slice_get, eqb, ap, ◌∙◌, arith}
 use Rattle.std.proofs.lemmas.Nat.Bits.{shr_and_one}
 use Rattle.board_ready.specs.Ready.{has_spinner}
 use Rattle.board_ready.specs.Seen.{ReadySeen}
