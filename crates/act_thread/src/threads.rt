@@ -9,7 +9,7 @@ ghost use Rattle.device_table.specs.RankSets.{holds};
 ghost use Rattle.act_thread.specs.Steps.{woken_row, begun_row, returned_row, finished_row};
 ghost use Rattle.act_thread.specs.Steps.{done_row, could_step, idle_row, is_ready, is_returned};
 ghost use Rattle.act_thread.specs.Threads.{active_in, held_in, is_idle_at, finishes_at};
-ghost use Rattle.act_thread.specs.Threads.{wakes_at, called_at, rank_at};
+ghost use Rattle.act_thread.specs.Threads.{wakes_at, called_at, rank_at, AreRows};
 ghost use Rattle.act_thread.specs.Marked.{is_rank};
 
 use crate::rows::{Finished, Stage, ThreadRow};
@@ -101,7 +101,8 @@ impl Threads {
     /// The lowest device by number whose thread could step. `goes_on`: a run whose handler has
     /// returned may go on, since the line isn't one-shot or no flow is in progress.
     pub fn lowest(&self, goes_on: bool) -> Option<DevNo>
-        ensures { result ≡ lowest_where (could_step goes_on) self.now }
+        ensures lowest { result ≡ lowest_where (could_step goes_on) self.now }
+        ensures rows { AreRows self.now }
     {
         if self.active == 0 {
             return None;
@@ -113,7 +114,8 @@ impl Threads {
     /// The device of this rank: so many of the line's devices have lower numbers. None if the line
     /// has no more devices.
     pub fn device(&self, rank: u32) -> Option<DevNo>
-        ensures { (d : DevNo) → (result ≡ Some d) ↔ (rank_at self.now d ≡ Some rank) }
+        ensures device { (d : DevNo) → (result ≡ Some d) ↔ (rank_at self.now d ≡ Some rank) }
+        ensures rows { AreRows self.now }
     {
         self.ranks.device(rank)
     }
