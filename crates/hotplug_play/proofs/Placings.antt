@@ -29,7 +29,7 @@ module _ (told : List Notice → Type 0) (b : BoardSeen) (vectors : ℕ) (es : L
   up_to_all all = record { taken = es; left = []; parts = sym (append-nil es); placings = all }
 
   -- all were told, however the play ended
-  pub all_told : (end : Result Unit PlayFailed) → told (placings_after b vectors es) → TellsPlacings told b vectors es end
+  pub all_told : (end : Result PlayEnd PlayFailed) → told (placings_after b vectors es) → TellsPlacings told b vectors es end
   all_told (Ok _) all = all
   all_told (Err (fails.Write failed)) all = all
   all_told (Err (fails.Step refused)) all = all
