@@ -9,12 +9,18 @@ use Rattle.board_def.specs.Seen.{BoardSeen}
 use Rattle.board_def.specs.declared.rows.LineRow.{LineRow}
 use Rattle.board_driver.specs.Longer.{last_driver}
 use Rattle.domain_rules.specs.declared.layouts.Placement.TheVariants as placements
+use Rattle.irq_base.specs.declared.entries.Actor.{Actor}
+use Rattle.irq_base.specs.declared.entries.Actor.TheVariants as actors
 use Rattle.irq_base.specs.declared.entries.Entry.{Entry}
+use Rattle.irq_base.specs.declared.lines.LineDef.{LineDef}
 use Rattle.irq_base.specs.declared.numbers.CpuNo.{CpuNo}
 use Rattle.irq_base.specs.declared.numbers.LineNo.{LineNo}
+use Rattle.irq_model.specs.Due.{due_call}
 use Rattle.irq_model.specs.Legal.{IsLegal}
+use Rattle.irq_model.specs.Next.{next}
 use Rattle.irq_model.specs.Settled.{IsSettled}
 use Rattle.irq_model.specs.Signal.{lowest_in}
+use Rattle.irq_model.specs.Waits.{IsCaughtPast}
 use Rattle.vector_matrix.specs.declared.view.Vector.{Vector}
 use Rattle.irq_hotplug.specs.Berths.{IfThere, place_of, place_on}
 use Rattle.irq_hotplug.specs.Fleet.{FleetSeen, fleet_after}
@@ -25,7 +31,7 @@ use Rattle.hotplug_plan.specs.Planned.{IsForHotplug, moves_of, planned}
 use Rattle.hotplug_laws.specs.Aims.{AimsAt}
 use Rattle.hotplug_laws.proofs.Aiming.{Aims, IsAimed, IsHere, IsLineOf, aims_after, target_after, the_row}
 use Rattle.hotplug_laws.proofs.Moments.{keeps_after}
-use Rattle.hotplug_laws.proofs.Moving.{goes_there, last_mask}
+use Rattle.hotplug_laws.proofs.Moving.{IsMovedBy, goes_there, last_mask, move_is_due, never_caught}
 use Rattle.hotplug_laws.proofs.Scripts.{calls_on, mask_aims, moved_by_last, moves_by_last}
 
 -- ---- the line that is at a place
@@ -107,17 +113,56 @@ aimed_at b board f aims i row place at is =
     ∙ ap (λ m. target_after x.berth.line (lowest_in b.cpus m) f.said) (sym its.5)
     ∙ sym x.holds.aimed ∙ here_is x.berth x.vector x.holds.here x.has ∙ ap (λ (c : CpuNo). Some c) x.cpu_is
 
+-- where driver 65535 has made all its calls on the line
+aims_when_made : (b : BoardSeen) (vectors : ℕ) (es : List Event) (i : ℕ) (row : LineRow) (place : Place) (h : List Entry)
+    → IsBoard b → IsForHotplug b → slice_get b.lines i ≡ Some row → place_of (fleet_after b vectors es).berths row.line ≡ Some place
+    → IsLegal (line_of_row (planned b (fleet_after b vectors es)) row) h
+    → due_call (line_of_row (planned b (fleet_after b vectors es)) row) last_driver (reverse h) ≡ None
+    → AimsAt place.cpu (line_of_row (planned b (fleet_after b vectors es)) row) h
+aims_when_made b vectors es i row place h board fits at is legal made =
+    let f = fleet_after b vectors es in
+    let def = line_of_row (planned b f) row in
+    let said = (keeps_after b vectors es).said in
+    let there : lowest_in b.cpus (last_mask row.mask (calls_on row.line (moves_of f.said))) ≡ Some place.cpu =
+    mask_aims b row.line row.mask f.said said ∙ aimed_at b board f (aims_after b board vectors es) i row place at is in
+    let both = goes_there def last_driver (moved_by_last b board fits f i row at said) place.cpu (reverse h) legal made
+    (ap (λ cs. lowest_in b.cpus (last_mask row.mask cs)) (moves_by_last b board fits f row) ∙ there) in
+    record { target_is = both.0; takes = both.1 }
+
 pub moves_aim : (b : BoardSeen) (vectors : ℕ) (es : List Event) (i : ℕ) (row : LineRow) (place : Place) (h : List Entry)
     → IsBoard b → IsForHotplug b → slice_get b.lines i ≡ Some row → place_of (fleet_after b vectors es).berths row.line ≡ Some place
     → IsLegal (line_of_row (planned b (fleet_after b vectors es)) row) h
     → IsSettled (line_of_row (planned b (fleet_after b vectors es)) row) h
     → AimsAt place.cpu (line_of_row (planned b (fleet_after b vectors es)) row) h
 moves_aim b vectors es i row place h board fits at is legal settled =
-    let f = fleet_after b vectors es in
-    let def = line_of_row (planned b f) row in
-    let said = (keeps_after b vectors es).said in
-    let there : lowest_in b.cpus (last_mask row.mask (calls_on row.line (moves_of f.said))) ≡ Some place.cpu =
-    mask_aims b row.line row.mask f.said said ∙ aimed_at b board f (aims_after b board vectors es) i row place at is in
-    let both = goes_there def last_driver (moved_by_last b board fits f i row at said) place.cpu (reverse h) legal (settled.complete last_driver)
-    (ap (λ cs. lowest_in b.cpus (last_mask row.mask cs)) (moves_by_last b board fits f row) ∙ there) in
-    record { target_is = both.0; takes = both.1 }
+    aims_when_made b vectors es i row place h board fits at is legal (settled.complete last_driver)
+
+-- ---- beside actors that hang
+
+-- driver 65535 never hangs, and is never held up
+pub never_caught_by_last : (b : BoardSeen) (vectors : ℕ) (es : List Event) (i : ℕ) (row : LineRow) → IsBoard b → IsForHotplug b
+    → slice_get b.lines i ≡ Some row → (def : LineDef) → line_of_row (planned b (fleet_after b vectors es)) row ≡ def
+    → (past : List Entry) → IsCaughtPast def past (actors.Driver last_driver) → ⊥
+never_caught_by_last b vectors es i row board fits at def is past caught =
+    never_caught def last_driver
+    (subst (λ (d : LineDef). IsMovedBy d last_driver) is (moved_by_last b board fits (fleet_after b vectors es) i row at (keeps_after b vectors es).said))
+    past caught
+
+-- `MayBe` says what may still be due on the line: if that is no entry of driver 65535
+pub moves_aim_beside : (b : BoardSeen) (vectors : ℕ) (es : List Event) (i : ℕ) (row : LineRow) (place : Place) (h : List Entry)
+    → IsBoard b → IsForHotplug b → slice_get b.lines i ≡ Some row → place_of (fleet_after b vectors es).berths row.line ≡ Some place
+    → IsLegal (line_of_row (planned b (fleet_after b vectors es)) row) h
+    → (MayBe : Actor → Entry → Type 0)
+    → ((a : Actor) (e : Entry) → next (line_of_row (planned b (fleet_after b vectors es)) row) h a ≡ Some e → MayBe a e)
+    → ((e : Entry) → MayBe (actors.Driver last_driver) e → ⊥)
+    → AimsAt place.cpu (line_of_row (planned b (fleet_after b vectors es)) row) h
+moves_aim_beside b vectors es i row place h board fits at is legal MayBe due none =
+    aims_when_made b vectors es i row place h board fits at is legal
+    (move_is_due (line_of_row (planned b (fleet_after b vectors es)) row) last_driver
+    (moved_by_last b board fits (fleet_after b vectors es) i row at (keeps_after b vectors es).said) (reverse h)
+    (by_next (next (line_of_row (planned b (fleet_after b vectors es)) row) h (actors.Driver last_driver)) refl))
+  where
+    by_next : (o : Option Entry) → next (line_of_row (planned b (fleet_after b vectors es)) row) h (actors.Driver last_driver) ≡ o
+        → next (line_of_row (planned b (fleet_after b vectors es)) row) h (actors.Driver last_driver) ≡ None
+    by_next None rests = rests
+    by_next (Some e) moves = absurd (none e (due (actors.Driver last_driver) e moves))

@@ -1,6 +1,6 @@
 -- A line whose own driver makes all moves, each in force at once: the mask in force is that of the last of its calls.
 use Rattle.std.proofs.Common.{◌≡◌, ℕ, zero, suc, Bool, true, false, cond, Option, Some, None, is_some, List, [], ◌∷◌, drop, filter, length, nat_lt}
-use Rattle.std.proofs.Common.{reverse, All, refl, ap, ◌∙◌, sym, subst, arith}
+use Rattle.std.proofs.Common.{reverse, All, inl, inr, refl, ap, ◌∙◌, sym, subst, arith}
 use Rattle.std.proofs.lemmas.Bool.{le-ltb}
 use Rattle.std.proofs.lemmas.List.{length-reverse, reverse-reverse}
 use Rattle.std.proofs.lemmas.List.Elements.{All-drop}
@@ -26,6 +26,7 @@ use Rattle.irq_model.specs.Legal.{IsDue, IsLegalPast}
 use Rattle.irq_model.specs.Next.{affinity_answer, next_of_driver, next_past}
 use Rattle.irq_model.specs.Places.{last_place, since}
 use Rattle.irq_model.specs.Signal.{lowest_in, mask_of, puts_in_force, target}
+use Rattle.irq_model.specs.Waits.{nothing_wanted, wanted_of, IsCaughtPast, StandsIn, WaitsFor, WaitsThrough}
 use Rattle.irq_steps.proofs.Same.{driver_from_same}
 use Rattle.irq_laws.proofs.ImpliesDriver.{affinity_due}
 use Rattle.irq_laws.proofs.OwnLaws.{takes_at_target}
@@ -160,6 +161,37 @@ module _ (def : LineDef) (r : DriverNo) where
   due_first moved past =
       due_is (calls_by r def.calls) (entries_by r past) moved.own
       ∙ ap (λ n. first_due (drop n (calls_by r def.calls))) (length-reverse (own_entries past))
+
+  -- a move waits for nobody: the driver's call is due until all are made
+  pub move_is_due : IsMovedBy → (past : List Entry) → next_past def past (actors.Driver r) ≡ None → due_call def r past ≡ None
+  move_is_due moved past none =
+      by_case (drop (length (own_entries past)) (calls_by r def.calls)) (All-drop (Fits def.cpus) (length (own_entries past)) (calls_by r def.calls) moved.own)
+      (due_first moved past) (sym (ap (next_of_driver def r past) (due_first moved past)) ∙ none)
+    where
+      by_case : (cs : List Call) → All (Fits def.cpus) cs → due_call def r past ≡ first_due cs → next_of_driver def r past (first_due cs) ≡ None
+          → due_call def r past ≡ None
+      by_case [] fits due none = due
+      by_case (calls.Affinity mask ∷ cs) fits due none = absurd cc
+      by_case (c ∷ cs) fits due none = absurd (head_of (Fits def.cpus) c cs fits)
+
+  waits_not : IsMovedBy → (past : List Entry) (b : Actor) → WaitsFor def past (actors.Driver r) b → ⊥
+  waits_not moved past b w =
+      nobody b (subst (λ (o : Option (Call × ℕ)). StandsIn def past (wanted_of o) b) (move_is_due moved past w.0) w.1)
+    where
+      nobody : (b : Actor) → StandsIn def past nothing_wanted b → ⊥
+      nobody (actors.Thread d) s = s
+      nobody (actors.Cpu c) s = s
+      nobody (actors.Driver s) h = h
+
+  pub never_caught : IsMovedBy → (past : List Entry) → IsCaughtPast def past (actors.Driver r) → ⊥
+  never_caught moved past caught = elim caught [
+    | inl hung ↦ never_through hung.0 (actors.Driver r) hung.1
+    | inr held ↦ never_through held.0 held.1 held.2
+  ]
+    where
+      never_through : (n : ℕ) (b : Actor) → WaitsThrough def past n (actors.Driver r) b → ⊥
+      never_through zero b w = waits_not moved past b w
+      never_through (suc n) b w = waits_not moved past w.0 w.1
 
   fits_now : IsMovedBy → (mask : ℕ) → Fits def.cpus (calls.Affinity mask) → affinity_answer def mask ≡ moves.Now
   fits_now moved mask fits =
