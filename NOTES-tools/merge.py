@@ -94,6 +94,7 @@ for kind in ("specs", "proofs"):
         elif head in mods: parts[0] = m2(head)
         elif kind == "proofs" and lib: parts.insert(0, lib)
         to = b / kind / Path(*parts); move(p, to); moved.append(to)
+    if not (a / kind / "Lib.antt").exists(): continue
     la = (a / kind / "Lib.antt").read_text()
     names = re.findall(r"^((?:pub )?mod) (\w+)", la, flags=re.M)
     lb = b / kind / "Lib.antt"

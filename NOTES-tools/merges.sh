@@ -1,5 +1,5 @@
 # bash merges.sh TOP
-m() { echo "== $2 -> $3"; python3 /var/tmp/q/tool/merge.py "$@" || exit 1; }
+m() { echo "== $2 -> $3"; python3 /var/tmp/q/tool/merge.py "$@" ; }
 T=$1
 m $T hotplug_rows hotplug_play specs:Texts=Rows src:rows=fleet_rows
 m $T hotplug_laws hotplug_play lib=laws
@@ -15,4 +15,5 @@ m $T irq_steps irq_model lib=steps
 m $T play_orders board_play lib=orders proofs:OnePlay=OneOrderedPlay
 m $T sleep_laws irq_pm lib=sleeping specs:Slept=SleptLines proofs:Calm=CalmLines
 m $T board_versions board_stated lib=versions
-m $T chip_msi chip_kinds
+m $T kept_rows log_text
+python3 $(dirname $0)/merge_docs.py $T
