@@ -4,6 +4,7 @@ use Rattle.std.proofs.Common.{reverse, slice_get, refl, sym, ap, ◌∙◌, subs
 use Rattle.std.proofs.lemmas.Bool.{and_parts}
 use Rattle.std.proofs.lemmas.List.{reverse-reverse}
 use Rattle.irq_base.specs.declared.devices.Run.{Run}
+use Rattle.irq_base.specs.declared.entries.Actor.{Actor}
 use Rattle.irq_base.specs.declared.entries.Entry.{Entry}
 use Rattle.irq_base.specs.declared.numbers.LineNo.{LineNo}
 use Rattle.irq_base.specs.declared.reporting.LineReport.{LineReport}
@@ -23,6 +24,8 @@ use Rattle.board_core.specs.Runs.{runs_of}
 use Rattle.board_core.specs.Seen.{board_lines}
 use Rattle.board_core.specs.Wanted.{HasSpare}
 use Rattle.board_core.specs.declared.ends.PlayEnd.{PlayEnd}
+use Rattle.board_core.specs.declared.ends.PlayEnd.TheVariants as ends
+use Rattle.board_play.specs.Hanging.{IsFirstHung}
 use Rattle.board_play.specs.Kept.{AreKept}
 use Rattle.board_play.specs.Lines.{BoardLine, Move, defs_of, lines_of, part}
 use Rattle.board_play.specs.Order.{actors_of}
@@ -38,7 +41,7 @@ use Rattle.play_report.specs.Answers.{Answers, HandsOutStep}
 use Rattle.play_report.specs.declared.failing.PlayFailed.{PlayFailed}
 use Rattle.play_report.proofs.Answered as answered
 use Rattle.play_report.proofs.Answered.{answers_as, of_some, with_step, without_step}
-use Rattle.play_report.specs.Ordered.{lines_after}
+use Rattle.play_report.specs.Ordered.{HandsOut, lines_after}
 use Rattle.play_report.proofs.Handed.{Reported, handed_out}
 use Rattle.play_report.proofs.Scenario.{IsEnd, IsScenario, log_has_rows}
 use Rattle.play_report.specs.Printing.{StepHasRow}
@@ -47,6 +50,7 @@ use Rattle.irq_pm.specs.SleepLog.{moves_of, told}
 use Rattle.irq_pm.specs.Slept.{Sleeps, SleepsThrough}
 use Rattle.irq_pm.specs.SleptBoard.{are_runs_calm, can_all_wake, has_room_for_sleep, is_for_sleep, slept}
 use Rattle.irq_pm.specs.declared.entries.SleepEntry.{SleepEntry}
+use Rattle.irq_pm.proofs.Calm.{calm_boards_settle}
 use Rattle.irq_pm.proofs.Order.{first_is}
 use Rattle.irq_pm.proofs.Through.{comes_to_rest, moves_are, names_waker, state, through}
 use Rattle.irq_sleeper.specs.Seen.{SleeperSeen, log_of}
@@ -192,14 +196,29 @@ module _ (b : BoardSeen) (armed : List LineNo) (s : SleeperSeen) (of : IsSleepOf
             (subst (λ (ls : List BoardLine). IsSome (first_move s.system.board ls (actors_of s.system.board))) (are ∙ sym same_lines) p.2)),
       )
 
+  -- no run waits, so nobody hangs at the end
+  never_hung : IsSleep s s.system.board.picks (Ok tt) → (line : LineNo) (actor : Actor) → IsFirstHung (board_lines s.system.lines) line actor → ⊥
+  never_hung p line actor f =
+      let q = of_board (λ c a. Sleeps c a c.picks (reverse (log_of s)) Done) p in
+      calm_boards_settle b long (is_calm b armed of.longer.fits) (board_lines s.system.lines)
+      (subst (AreKept (slept b)) (sym are) (scenario.kept q.0 q.1)) f.place f.of actor f.at f.lowest.0
+
+  by_end : (end : Result PlayEnd StepRefused) (reports : List LineReport) → IsSleep s s.system.board.picks (stop_of end)
+      → SaysEnd (board_lines s.system.lines) end
+      → HandsOut (slept b) order (Picking b.picks) (KeepsSleep b armed) (log_of s) end reports → SleepHandsOut b armed (log_of s) end reports
+  unfolding SleepHandsOut
+  by_end (Ok ends.Settled) reports sleep says h = h
+  by_end (Ok (ends.Hung line actor)) reports sleep says h = never_hung sleep line actor says
+  by_end (Err refused) reports sleep says h = h
+
   -- the reports of the lines that were taken out of it
   pub hands_out : (end : Result PlayEnd StepRefused) → IsSleep s s.system.board.picks (stop_of end) → SaysEnd (board_lines s.system.lines) end
       → (lines : List LineSeen) → lines ≡ s.system.lines → (reports : List LineReport) → Reported s.system.board (board_lines lines) reports
       → SleepHandsOut b armed (log_of s) end reports
-  unfolding SleepHandsOut
   hands_out end sleep says lines out reports told =
-      handed_out (slept b) order (Picking b.picks) (KeepsSleep b armed) (log_of s) scenario (board_lines lines) (ap board_lines out ∙ are) reports
-      (subst (λ (c : BoardSeen). Reported c (board_lines lines) reports) of.longer.slept told) end (as_end end sleep says)
+      by_end end reports sleep says
+      (handed_out (slept b) order (Picking b.picks) (KeepsSleep b armed) (log_of s) scenario (board_lines lines) (ap board_lines out ∙ are) reports
+      (subst (λ (c : BoardSeen). Reported c (board_lines lines) reports) of.longer.slept told) end (as_end end sleep says))
 
 -- ---- which step was refused memory
 
