@@ -220,7 +220,7 @@ impl<'b, L: IrqLine> Demux<'b, L> {
         }
     }
 
-    /// A further step of the flow that processor 0 has on this line.
+    /// A further step of the flow that processor 0 has on this line, unless it spins there.
     fn go_on<H: Handler>(
         &mut self,
         line: LineNo,
@@ -233,6 +233,9 @@ impl<'b, L: IrqLine> Demux<'b, L> {
         ensures memory { Wants L.may_want self.old (actors.Cpu cpu_0) result }
     {
         self.is_kept();
+        if !self.system.can_cpu_move(CPU_0) {
+            return Ok(ChainTurn::NotYet);
+        }
         let turn = self.system.step_on(line, Actor::Cpu(CPU_0), handlers);
         show(&mut self.parent, &self.system);
         chain_turn_of(turn)
@@ -266,6 +269,7 @@ impl<'b, L: IrqLine> Demux<'b, L> {
         handlers: &mut H,
     ) -> Result<ChainTurn, StepRefused>
         requires walk { IsWalkOf (board_lines self.old.lines) (reverse self.old.log) (Some walk) }
+        requires no_flow { flow_line (board_lines self.old.lines) cpu_0 ≡ None }
         requires place { place < 32 }
         requires due { IsTrue (is_take_due cpu_0
             (slice_get (board_lines self.old.lines) place)) }

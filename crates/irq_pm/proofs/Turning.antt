@@ -36,7 +36,7 @@ use Rattle.sleep_laws.proofs.LeftAlone.{script, Position, at_none, at_disable, a
 use Rattle.sleep_laws.specs.Sleeping.{is_suspended}
 use Rattle.irq_pm.specs.Phases.{due_of, is_disable_call, is_disable_due, last_move}
 use Rattle.irq_pm.specs.SleptBoard.{are_runs_calm, slept}
-use Rattle.irq_pm.proofs.Calm.{calm_def}
+use Rattle.irq_pm.proofs.Calm.{calm_boards_settle, calm_def}
 use Rattle.irq_pm.proofs.Rests.{disable_moves}
 use Rattle.irq_pm.proofs.Script.{disables, enables, all_calls, its_script, disabled_once}
 
@@ -197,7 +197,7 @@ module _ (b : BoardSeen) (is : IsBoard b) (long : IsBoard (slept b)) (free : has
           let s = line_stands (slept b) lines (actors.Driver last_driver) x here in
           let its : due_call x.def last_driver x.past ≡ Some (calls.Disable, c.1) = due ∙ ap (λ (k : Call). due_at k c.1) (is_disable c.0 disabling) in
           not_none (next_past x.def x.past (actors.Driver last_driver)) x.def.line
-          (disable_moves (slept b) long lines k threads cpus s.place x s.at
+          (disable_moves (slept b) long lines k (calm_boards_settle b long calm lines k) threads cpus s.place x s.at
           (calm_def b calm s.place x.def (def_at (slept b) lines k s.place x s.at)) last_driver c.1 its)
           (ap (λ (o : Option BoardLine). due_on o (actors.Driver last_driver)) (sym here) ∙ none)
 
