@@ -3,8 +3,8 @@ ghost use Rattle.std.specs.Prelude.{◌≡◌};
 ghost use Rattle.irq_base.specs.declared.lines.LineDef.{LineDef};
 ghost use Rattle.irq_model.specs.ValidRuns.{HasValidRuns};
 ghost use Rattle.line_state.specs.Seen.{IsScripted};
-ghost use Rattle.line_core.specs.Hanging.{is_thread_hung, lowest_hung_by, spinning_in};
-ghost use Rattle.line_core.specs.Hanging.{lowest_hung_thread, wait_of_actor, way_from};
+ghost use Rattle.line_core.specs.Hanging.{is_sync, is_thread_hung, is_thread_of, lowest_hung_by};
+ghost use Rattle.line_core.specs.Hanging.{lowest_hung_thread, spinning_in, wait_of_actor, way_from};
 
 use irq_base::{Actor, Chip, CpuNo, DevNo, WaitFor};
 use line_scripts::{Scripts, wait_of};
@@ -63,17 +63,38 @@ fn is_thread_hung<C: Chip>(state: &LineState<C>, scripts: &Scripts, dev: DevNo) 
     let mut at = Actor::Thread(dev);
     for _ in 0..LONGEST_WAY {
         let wait = wait_of_actor(state, scripts, at);
-        if wait == WaitFor::Threads {
+        if is_sync(wait) {
             // A thread that syncs waits for its own run, and for that of the first.
             return true;
         }
         match way_from(state, wait) {
-            Some(next) if next == Actor::Thread(dev) => return true,
-            Some(next) => at = next,
+            Some(next) => {
+                if is_thread_of(dev, next) {
+                    return true;
+                }
+                at = next;
+            }
             None => return false,
         }
     }
     false
+}
+
+/// Whether all threads are waited for.
+fn is_sync(wait: WaitFor) -> bool
+    ensures { result ≡ is_sync wait }
+{
+    matches!(wait, WaitFor::Threads)
+}
+
+/// Whether the actor is the device's thread.
+fn is_thread_of(dev: DevNo, actor: Actor) -> bool
+    ensures { result ≡ is_thread_of dev actor }
+{
+    match actor {
+        Actor::Thread(other) => dev == other,
+        Actor::Cpu(_) | Actor::Driver(_) => false,
+    }
 }
 
 /// What the actor's next entry waits for.
