@@ -101,6 +101,8 @@ static void before_request(struct actor *driver, struct irq_desc *desc)
 {
 	struct board_device *device = device_of(driver);
 
+	/* The call may have waited for the mutex: what others sent again meanwhile isn't its own. */
+	driver->line->retriggered = driver->line->scheduled = false;
 	driver->was_linked = desc->action;
 	driver->depth_before = desc->depth;
 	driver->had_spurious = desc->istate & IRQS_SPURIOUS_DISABLED;
