@@ -12,6 +12,10 @@ use Rattle.play_report.specs.Failing.{is_write_fault}
 use Rattle.play_report.specs.declared.failing.PlayFailed.{PlayFailed}
 use Rattle.play_report.specs.declared.failing.PlayFailed.TheVariants as fails
 
+-- a play that came to an end
+pub came_to : (ended : Result PlayEnd StepRefused) (e : PlayEnd) → Ok e ≡ ended → IsOk ended
+came_to ended e is = subst (λ (r : Result PlayEnd StepRefused). IsOk r) is refl
+
 -- ---- one printing after another
 
 -- the text of a play that came to this end, and a further text
@@ -19,7 +23,7 @@ pub prints_more : (text more : List ℕ) (ended : Result PlayEnd StepRefused) (a
     → Prints text ended a b (Ok e) → Prints more (Ok e) b c end → Prints (text ++ more) ended a c end
 prints_more text more ended a b c e (Ok f) p q = (p.0 ∙ q.0, and_then a b c text more (Ok tt) p.1 q.1)
 prints_more text more ended a b c e (Err (fails.Write failed)) p q =
-    (subst (λ (r : Result PlayEnd StepRefused). IsOk r) (sym p.0) q.0, and_then a b c text more (Err failed) p.1 q.1)
+    (came_to ended e (sym p.0), and_then a b c text more (Err failed) p.1 q.1)
 prints_more text more ended a b c e (Err (fails.Step refused)) p q = cc
 prints_more text more ended a b c e (Err fails.NoMemory) p q = absurd q
 
