@@ -1,16 +1,14 @@
 -- What an actor waits for, as its state says, is what it wants: a call's end, or the flow's end alone.
-use Rattle.std.proofs.Common.{◌≡◌, ◌⊎◌, inl, inr, ℕ, Bool, true, false, not, cond, option_map, Option, Some, None, List, refl, sym, ap, ap₂, subst, ◌∙◌}
+use Rattle.std.proofs.Common.{◌≡◌, inl, inr, ℕ, Bool, true, false, not, cond, option_map, Option, Some, None, List, refl, sym, ap, subst, ◌∙◌}
 use Rattle.irq_base.specs.declared.calls.Call.{Call}
 use Rattle.irq_base.specs.declared.devices.Part.TheVariants as parts
 use Rattle.irq_base.specs.declared.entries.Actor.{Actor}
 use Rattle.irq_base.specs.declared.entries.Actor.TheVariants as actors
-use Rattle.irq_base.specs.declared.entries.CallEntry.{CallEntry}
 use Rattle.irq_base.specs.declared.entries.Entry.{Entry}
 use Rattle.irq_base.specs.declared.lines.LineDef.{LineDef}
 use Rattle.irq_base.specs.declared.numbers.CpuNo.{CpuNo}
 use Rattle.irq_base.specs.declared.numbers.DevNo.{DevNo}
 use Rattle.irq_base.specs.declared.numbers.DriverNo.{DriverNo}
-use Rattle.irq_base.specs.declared.waiting.WaitFor.{WaitFor}
 use Rattle.irq_base.specs.declared.waiting.WaitFor.TheVariants as waits
 use Rattle.irq_laws.specs.Actors.{due_of_actor}
 use Rattle.irq_laws.proofs.ImpliesDriver.{due_in_thread}
@@ -20,7 +18,7 @@ use Rattle.irq_model.specs.Due.{calls_by, due_call}
 use Rattle.irq_model.specs.Kinds.{made_by}
 use Rattle.irq_model.specs.Legal.{IsLegalPast}
 use Rattle.irq_model.specs.Lines.{has_device}
-use Rattle.irq_model.specs.Next.{next_past, next_step, next_of_driver, next_of_thread, finish_or_done, call_or_return}
+use Rattle.irq_model.specs.Next.{next_past, next_of_driver, next_of_thread, call_or_return}
 use Rattle.irq_model.specs.Rounds.{at_work, flow, is_cpu}
 use Rattle.irq_model.specs.Runs.{due_in_run}
 use Rattle.irq_model.specs.Threads.{is_running}
@@ -29,14 +27,12 @@ use Rattle.irq_model.specs.ValidRuns.{HasValidRuns}
 use Rattle.irq_model.specs.Waits.{Want, flow_ends, nothing_wanted, wanted, wanted_of, wanted_at_work, StandsIn, WaitsFor}
 use Rattle.device_table.specs.Rows.{at}
 use Rattle.device_table.proofs.Tables.{at_device, at_none}
-use Rattle.act_thread.specs.declared.rows.ThreadRow.{ThreadRow}
 use Rattle.line_scripts.specs.Rows.{RowSeen, calls_of, place_of, within_of}
 use Rattle.line_marks.proofs.DueIs.{call_is}
 use Rattle.line_marks.proofs.Known.{no_thread}
 use Rattle.line_marks.proofs.RunsAre.{thread_due_is}
-use Rattle.line_marks.specs.Next.{due_call_in}
 use Rattle.line_marks.specs.Scripts.{IsAt}
-use Rattle.line_marks.specs.State.{StateSeen, state_of}
+use Rattle.line_marks.specs.State.{state_of}
 use Rattle.line_marks.specs.Threads.{thread_of, threads_of, stage_by, has_returned, has_finished}
 use Rattle.line_state.specs.Waits.{wait_of_due, wait_of_row, wait_at}
 use Rattle.line_core.proofs.CallWaits.{IsHeld, driver_held}

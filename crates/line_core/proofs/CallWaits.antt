@@ -1,10 +1,9 @@
 -- What a due call wants is what it waits for, and while that stands in the way its step isn't due.
-use Rattle.std.proofs.Common.{◌≡◌, ℕ, zero, suc, ◌==◌, Bool, true, false, cond, option_map, Option, Some, None, List, refl, sym, ap, ap₂, ◌∙◌}
+use Rattle.std.proofs.Common.{◌==◌, ◌≡◌, ℕ, zero, suc, Bool, true, false, cond, option_map, Some, None, List, refl, ap, ap₂}
 use Rattle.std.proofs.lemmas.Bool.{eqb-false}
 use Rattle.irq_base.specs.declared.calls.Call.{Call}
 use Rattle.irq_base.specs.declared.calls.Call.TheVariants as calls
 use Rattle.irq_base.specs.declared.entries.Actor.TheVariants as actors
-use Rattle.irq_base.specs.declared.entries.CallEntry.{CallEntry}
 use Rattle.irq_base.specs.declared.entries.CallEntry.TheVariants as called
 use Rattle.irq_base.specs.declared.entries.Entry.{Entry}
 use Rattle.irq_base.specs.declared.lines.LineDef.{LineDef}

@@ -1,7 +1,8 @@
 -- A thread is hung exactly if its waits lead back to it.
-use Rattle.std.proofs.Common.{◌≡◌, ◌⊎◌, inl, inr, ℕ, zero, suc, ◌==◌, Bool, true, false, not, ◌||◌, ◌&&◌, cond, is_some, Option, Some, None, List, [], ◌∷◌, refl}
+use Rattle.std.proofs.Common.{◌==◌, ◌≡◌, ◌⊎◌, inl, inr, ℕ, zero, suc, Bool, true, false, not, ◌||◌}
+use Rattle.std.proofs.Common.{◌&&◌, cond, is_some, Option, Some, None, List, [], ◌∷◌, refl}
 use Rattle.std.proofs.Common.{sym, ap, subst, ◌∙◌}
-use Rattle.std.proofs.lemmas.Bool.{both_ways, or_cases, or_left, or_right}
+use Rattle.std.proofs.lemmas.Bool.{both_ways, or_cases, or_right}
 use Rattle.std.proofs.lemmas.Option.{same_Some, none-some}
 use Rattle.std.specs.List.{list_any}
 use Rattle.std.specs.Option.{option_map_or}
@@ -22,7 +23,6 @@ use Rattle.irq_laws.specs.Actors.{due_of_actor}
 use Rattle.irq_laws.specs.Blocks.{block_of}
 use Rattle.irq_laws.specs.Kept.{freeing}
 use Rattle.irq_laws.proofs.BlockLaws.{none_counted}
-use Rattle.irq_laws.proofs.FreesKept.{same_free}
 use Rattle.irq_laws.proofs.ImpliesDriver.{thread_works}
 use Rattle.irq_laws.proofs.KeptAlways.{kept}
 use Rattle.irq_laws.proofs.Lists.{any_imply}
@@ -37,7 +37,7 @@ use Rattle.irq_model.specs.Places.{last_place, some_place}
 use Rattle.irq_model.specs.Threads.{active_count, is_running, is_woken}
 use Rattle.irq_model.specs.Valid.{IsValid}
 use Rattle.irq_model.specs.ValidRuns.{HasValidRuns}
-use Rattle.irq_model.specs.Waits.{Want, flow_ends, threads_rest, thread_rests, mutex_free, nothing_wanted, wanted_by, wanted_of, wanted, maker_of}
+use Rattle.irq_model.specs.Waits.{Want, threads_rest, thread_rests, mutex_free, wanted_by, wanted_of, wanted, maker_of}
 use Rattle.irq_model.specs.Waits.{mutex_holder, StandsIn, WaitsFor, WaitsThrough, IsHungPast}
 use Rattle.irq_steps.proofs.Same.{dev_from_same, same_self}
 use Rattle.act_thread.specs.Threads.{is_idle_at}

@@ -1,5 +1,5 @@
 -- What stands in the way of an actor is what the state says.
-use Rattle.std.proofs.Common.{◌≡◌, ℕ, ◌-◌, ◌≤◌, drop, arith, Bool, true, false, not, ◌||◌, ◌&&◌, cond, is_some, Option}
+use Rattle.std.proofs.Common.{◌-◌, ◌≤◌, ◌≡◌, ℕ, drop, arith, Bool, true, false, not, ◌||◌, ◌&&◌, cond, is_some, Option}
 use Rattle.std.proofs.Common.{Some, None, List, [], ◌∷◌, option_map, refl, sym, ap, reverse, ◌∙◌}
 use Rattle.std.specs.List.{slice_get}
 use Rattle.irq_base.specs.declared.calls.Call.{Call}

@@ -1,9 +1,9 @@
 -- The lowest actor that is hung is what the state says.
-use Rattle.std.proofs.Common.{◌≡◌, ◌≤◌, ◌⊎◌, inl, inr, ℕ, zero, suc, Bool, true, false, ◌||◌, cond, is_none, is_some, nat_lt, Option, Some, None, List, refl, sym, ap}
+use Rattle.std.proofs.Common.{◌≡◌, ◌⊎◌, inl, inr, ℕ, zero, suc, Bool, true, false, ◌||◌, cond}
+use Rattle.std.proofs.Common.{is_none, is_some, Option, Some, None, List, refl, sym, ap}
 use Rattle.std.proofs.Common.{subst, ◌∙◌, arith}
 use Rattle.std.proofs.lemmas.Bool.{both_ways, le-ltb}
 use Rattle.std.proofs.lemmas.Option.{same_Some, none-some}
-use Rattle.irq_base.specs.declared.calls.Call.{Call}
 use Rattle.irq_base.specs.declared.calls.Call.TheVariants as calls
 use Rattle.irq_base.specs.declared.entries.Actor.{Actor}
 use Rattle.irq_base.specs.declared.entries.Actor.TheVariants as actors
@@ -12,7 +12,6 @@ use Rattle.irq_base.specs.declared.lines.LineDef.{LineDef}
 use Rattle.irq_base.specs.declared.numbers.CpuNo.{CpuNo}
 use Rattle.irq_base.specs.declared.numbers.DevNo.{DevNo}
 use Rattle.irq_base.specs.declared.numbers.DriverNo.{DriverNo}
-use Rattle.irq_laws.specs.Kept.{freeing}
 use Rattle.irq_laws.proofs.KeptAlways.{kept}
 use Rattle.irq_laws.proofs.Standstill.{flow_hung, free_wants, is_its_cpu}
 use Rattle.irq_laws.proofs.WithinFree.{within_free}
@@ -26,8 +25,7 @@ use Rattle.irq_model.specs.Valid.{IsValid}
 use Rattle.irq_model.specs.ValidRuns.{HasValidRuns}
 use Rattle.irq_model.specs.Waits.{Want, flow_ends, threads_rest, thread_rests, mutex_free, nothing_wanted, wanted, wanted_by, wanted_of, wanted_at_work}
 use Rattle.irq_model.specs.Waits.{mutex_holder, StandsIn, WaitsFor, WaitsThrough, IsHungPast, IsLowestHungPast, is_before}
-use Rattle.irq_steps.proofs.Same.{same_self_cpu}
-use Rattle.device_table.specs.Rows.{at, has}
+use Rattle.device_table.specs.Rows.{has}
 use Rattle.device_table.proofs.Tables.{at_device}
 use Rattle.line_scripts.specs.Rows.{RowSeen, calls_of, place_of, within_of}
 use Rattle.line_marks.proofs.CpuDueIs.{cpu_due_is}
@@ -37,7 +35,7 @@ use Rattle.line_marks.specs.Scripts.{IsAt}
 use Rattle.line_marks.specs.State.{StateSeen, state_of}
 use Rattle.line_marks.specs.Threads.{thread_of, threads_of}
 use Rattle.line_state.proofs.LowestOf.{Below, of_below, of_passes}
-use Rattle.line_state.specs.Seen.{lowest_of, spins_in}
+use Rattle.line_state.specs.Seen.{spins_in}
 use Rattle.line_core.proofs.ActorWaits.{cpu_waits, for_cpus, wants_none}
 use Rattle.line_core.proofs.CallWaits.{Waits, for_nothing, for_flow, for_threads, for_mutex, for_freed, call_waits}
 use Rattle.line_core.proofs.HungThreads.{holder_frees, hung_is, leads_at_work, thread_hangs}

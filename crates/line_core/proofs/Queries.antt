@@ -1,5 +1,5 @@
 -- What is asked of a line is what its state says.
-use Rattle.std.proofs.Common.{◌≡◌, ◌↔◌, ◌≤◌, ℕ, option_map, Bool, true, false, not, ◌||◌, ◌&&◌, cond, is_some, Option}
+use Rattle.std.proofs.Common.{◌≤◌, ◌≡◌, ◌↔◌, ℕ, option_map, Bool, true, false, not, ◌||◌, ◌&&◌, cond, is_some, Option}
 use Rattle.std.proofs.Common.{Some, None, List, refl, sym, ap, subst, ◌∙◌}
 use Rattle.std.proofs.lemmas.Bool.{false≢true}
 use Rattle.std.proofs.lemmas.Option.{none-some, same_Some}

@@ -1,6 +1,6 @@
 -- Ways of waits, read off the state. One that doesn't come back to a thread within three waits never does: it goes between who frees a
 -- device and that device's thread.
-use Rattle.std.proofs.Common.{◌≡◌, ◌⊎◌, inl, inr, ℕ, zero, suc, ◌+◌, ◌-◌, ◌<◌, ◌≤◌, Bool, true, false, ◌||◌, cond, Option, Some, None, List, refl}
+use Rattle.std.proofs.Common.{◌+◌, ◌-◌, ◌<◌, ◌≤◌, ◌≡◌, ◌⊎◌, inl, inr, ℕ, zero, suc, Bool, true, false, ◌||◌, cond, Option, Some, None, List, refl}
 use Rattle.std.proofs.Common.{sym, ap, ◌∙◌, arith}
 use Rattle.std.proofs.lemmas.Option.{same_Some, none-some}
 use Rattle.std.specs.Option.{option_map_or}
@@ -110,7 +110,8 @@ module _ (def : LineDef) (s : StateSeen) (scripts : List (DriverNo × RowSeen)) 
   turns (Some free) f a b c first second x third = by_ends (ends a b first) (ends b c second) (ends c x third)
     where
       ends : (y z : Actor) → way y ≡ Some z → (z ≡ free.0) ⊎ (z ≡ actors.Thread free.1)
-      ends y z h = way_in s free (wait_of_actor def s scripts y) z (ap (λ (o : Option (Actor × DevNo)). way_through s o (wait_of_actor def s scripts y)) (sym f) ∙ h)
+      ends y z h = way_in s free (wait_of_actor def s scripts y) z
+          (ap (λ (o : Option (Actor × DevNo)). way_through s o (wait_of_actor def s scripts y)) (sym f) ∙ h)
 
       -- the first two are one: so the third is the second
       one : b ≡ c → x ≡ c

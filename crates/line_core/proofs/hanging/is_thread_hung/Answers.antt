@@ -1,4 +1,4 @@
-use Rattle.std.proofs.Common.{◌≡◌, ◌<◌, Some, true, false, sym, ap, ◌∙◌, arith}
+use Rattle.std.proofs.Common.{◌<◌, ◌≡◌, Some, true, false, sym, ap, ◌∙◌, arith}
 use Rattle.line_core.proofs.Ways.{walk_comes_back, walk_ends, walk_goes_on, walk_stops, walk_syncs}
 use Rattle.line_core.specs.Hanging.{is_sync, wait_of_actor, way_from}
 use Rattle.line_core.proofs.hanging.is_thread_hung.Goals as goal
