@@ -1,14 +1,20 @@
 -- Words that begin with who is hung, if they say it of somebody.
 use Rattle.std.proofs.Common.{◌≡◌, ℕ, Option, Some, None, IfSome, List, [], ◌∷◌, ◌++◌, codes, decimal, get_or, drop, refl, sym, ap, ◌∙◌, arith}
 use Rattle.irq_base.specs.declared.entries.Actor.{Actor}
+use Rattle.irq_base.specs.declared.entries.Actor.TheVariants as actors
+use Rattle.irq_base.specs.declared.numbers.CpuNo.{CpuNo}
+use Rattle.irq_base.specs.declared.numbers.DevNo.{DevNo}
+use Rattle.irq_base.specs.declared.numbers.DriverNo.{DriverNo}
 use Rattle.line_wanted.specs.declared.left.Left.{Left}
 use Rattle.line_wanted.specs.declared.left.Standing.{Standing}
 use Rattle.line_wanted.specs.declared.left.Standing.TheVariants as standings
-use Rattle.log_read.proofs.Digits.{actor_tells}
 use Rattle.log_read.specs.Left.{words_of}
 use Rattle.log_read.specs.Takes.{Reads}
 use Rattle.log_read.specs.Who.{HasSmallActor}
 use Rattle.log_text.specs.EntryWords.{actor_word}
+use Rattle.log_text.specs.Formed.{IsSmall}
+use Rattle.explore_words.proofs.Counting.{same_number}
+use Rattle.explore_words.proofs.Cutting.{one_word as one_word_is}
 use Rattle.explore_words.specs.Rows.{SaysHung, SaysLeft, hung_words, standing_word, waits_word}
 
 -- the words behind that
@@ -27,6 +33,31 @@ not_hung standings.Stopped = apart 115 104 _ _ (λ i. omega (arith, i))
 not_hung standings.Enabled = apart 101 104 _ _ (λ i. omega (arith, i))
 not_hung standings.Disabled = apart 100 104 _ _ (λ i. omega (arith, i))
 not_hung standings.Killed = apart 107 104 _ _ (λ i. omega (arith, i))
+
+-- an actor's word tells it
+
+abbrev dev_no : ℕ → DevNo
+dev_no n = record { 0 = n }
+
+abbrev cpu_no : ℕ → CpuNo
+cpu_no n = record { 0 = n }
+
+abbrev driver_no : ℕ → DriverNo
+driver_no n = record { 0 = n }
+
+digits_tell : (letter m n : ℕ) → IsSmall m → IsSmall n → letter ∷ decimal m ≡ letter ∷ decimal n → m ≡ n
+digits_tell letter m n small low same = same_number m n small low (ap (λ (bs : List ℕ). drop 1 bs) same)
+
+actor_tells : (a b : Actor) → HasSmallActor a → HasSmallActor b → actor_word a ≡ actor_word b → a ≡ b
+actor_tells (actors.Thread d) (actors.Thread e) small low same = ap (λ n. actors.Thread (dev_no n)) (digits_tell 116 d.0 e.0 small low same)
+actor_tells (actors.Cpu d) (actors.Cpu e) small low same = ap (λ n. actors.Cpu (cpu_no n)) (digits_tell 99 d.0 e.0 small low same)
+actor_tells (actors.Driver d) (actors.Driver e) small low same = ap (λ n. actors.Driver (driver_no n)) (digits_tell 100 d.0 e.0 small low same)
+actor_tells (actors.Thread d) (actors.Cpu e) small low same = absurd (apart 116 99 _ _ (λ i. omega (arith, i)) same)
+actor_tells (actors.Thread d) (actors.Driver e) small low same = absurd (apart 116 100 _ _ (λ i. omega (arith, i)) same)
+actor_tells (actors.Cpu d) (actors.Thread e) small low same = absurd (apart 99 116 _ _ (λ i. omega (arith, i)) same)
+actor_tells (actors.Cpu d) (actors.Driver e) small low same = absurd (apart 99 100 _ _ (λ i. omega (arith, i)) same)
+actor_tells (actors.Driver d) (actors.Thread e) small low same = absurd (apart 100 116 _ _ (λ i. omega (arith, i)) same)
+actor_tells (actors.Driver d) (actors.Cpu e) small low same = absurd (apart 100 99 _ _ (λ i. omega (arith, i)) same)
 
 -- the words tell both
 pub hung_tells : (g h : Option Actor) (v w : Standing) (xs ys : List (List ℕ)) → IfSome g HasSmallActor → IfSome h HasSmallActor
@@ -93,3 +124,12 @@ pub behind_is : (bytes behind : List ℕ) (hung : Option Actor) (left : Left) �
     → SaysLeft bytes left → words_of behind ≡ rest_of left
 behind_is bytes behind hung left cut same says = cut_off hung (words_of behind) (rest_of left)
     (sym cut.words ∙ (says.words ∙ ap (λ (h : Option Actor). hung_words h ++ rest_of left) same))
+
+-- a word that is none for what waits
+pub waits_for_none : (bytes behind rest waits : List ℕ) (hung : Option Actor) (a b : List ℕ) → SaysHung bytes hung behind
+    → ((left : Left) → SaysLeft bytes left → left.hung ≡ hung) → words_of behind ≡ a ∷ words_of rest → words_of rest ≡ b ∷ words_of waits
+    → ((left : Left) → waits ≡ waits_word (left.stored, left.pending) → ⊥) → (left : Left) → SaysLeft bytes left → ⊥
+waits_for_none bytes behind rest waits hung a b cut tells first second none left says =
+    let all : a ∷ b ∷ words_of waits ≡ rest_of left =
+    sym (first ∙ ap (λ (ws : List (List ℕ)). a ∷ ws) second) ∙ behind_is bytes behind hung left cut (tells left says) says in
+    none left (one_word_is waits (waits_word (left.stored, left.pending)) (ap (λ (ws : List (List ℕ)). drop 2 ws) all))
