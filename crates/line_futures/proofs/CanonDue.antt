@@ -208,7 +208,7 @@ module _ (def : LineDef) (s : StateSeen) where
         (makes_same works)
         ∙ ap (λ (o : Option (Call × ℕ)). cond (makes_calls_at def s parts.Primary d) o None) (due_by_place parts.Primary)
 
-    due_in_thread : due_in_run_at def (canon s) parts.Thread d ≡ due_in_run_at def s parts.Thread d
+    pub due_in_thread : due_in_run_at def (canon s) parts.Thread d ≡ due_in_run_at def s parts.Thread d
     due_in_thread = due_by_place parts.Thread
 
     call_or_return_same : t d ≡ true → (o : Option (Call × ℕ)) → call_or_return_by def (canon s) d o ≡ call_or_return_by def s d o
