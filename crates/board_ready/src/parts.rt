@@ -68,15 +68,17 @@ impl LineReadiness {
     }
 }
 
-/// Whether the two parts are the same in all that they say.
+/// Whether the two parts are the same in all that they say. Of `first` no more is read than it
+/// takes to tell; what differs most comes first.
 #[tactic(auto, using(crate::proofs::Same::same_readiness))]
-pub(crate) fn is_same_readiness(first: LineReadiness, second: LineReadiness) -> bool
-    ensures { IsTrue result → first ≡ second }
+#[inline(always)]
+pub(crate) fn is_same_readiness(first: &LineReadiness, second: &LineReadiness) -> bool
+    ensures { IsTrue result → first.now ≡ second.now }
 {
-    is_same_dev(first.thread, second.thread)
-        && is_same_cpu(first.flow, second.flow)
-        && first.spins == second.spins
+    is_same_cpu(first.flow, second.flow)
         && is_same_cpu(first.taker, second.taker)
+        && is_same_dev(first.thread, second.thread)
+        && first.spins == second.spins
         && first.blocks.flow == second.blocks.flow
         && first.blocks.threads == second.blocks.threads
         && first.blocks.mutex == second.blocks.mutex

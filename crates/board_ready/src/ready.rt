@@ -80,7 +80,7 @@ impl ReadyActors {
         requires { line < length self.now.lines }
         ensures { self.new ≡ record self.old { lines = slice_set self.old.lines line readiness } }
     {
-        if !is_same_readiness(self.lines[line], readiness) {
+        if !is_same_readiness(&self.lines[line], &readiness) {
             self.put_line(line, readiness);
         }
     }
