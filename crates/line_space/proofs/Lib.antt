@@ -2,6 +2,7 @@ pub mod Once
 pub mod ReadAt
 pub mod Beside
 pub mod Again
+pub mod HungAgain
 pub mod Stepped
 pub mod Actors
 pub mod Lists

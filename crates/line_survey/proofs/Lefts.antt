@@ -1,11 +1,12 @@
 -- How a past leaves the line is read off its state.
-use Rattle.std.proofs.Common.{rules, ◌≡◌, ℕ, suc, ◌+◌, Bool, true, false, cond, Some, List, [], ◌∷◌}
+use Rattle.std.proofs.Common.{rules, ◌≡◌, ℕ, suc, ◌+◌, Bool, true, false, ◌&&◌, cond, Option, Some, List, [], ◌∷◌}
 use Rattle.std.proofs.Common.{reverse, slice_get, refl, ap, sym, subst, ◌∙◌}
 use Rattle.std.proofs.lemmas.List.{reverse-reverse}
 use Rattle.std.proofs.lemmas.List.Sums.{sum_by-cons}
 use Rattle.std.specs.List.{sum_by}
 use Rattle.irq_base.specs.Cell.{Cell}
 use Rattle.irq_base.specs.declared.devices.DeviceDef.{DeviceDef}
+use Rattle.irq_base.specs.declared.entries.Actor.{Actor}
 use Rattle.irq_base.specs.declared.entries.Entry.{Entry}
 use Rattle.irq_base.specs.declared.lines.LineDef.{LineDef}
 use Rattle.irq_base.specs.declared.numbers.DevNo.{DevNo}
@@ -15,6 +16,7 @@ use Rattle.irq_model.specs.Asks.{unserved_asks}
 use Rattle.irq_model.specs.Edges.{is_stored}
 use Rattle.irq_model.specs.Kinds.{same_dev}
 use Rattle.irq_model.specs.Legal.{IsLegalPast, IsLegal}
+use Rattle.irq_model.specs.Lines.{is_edge_line}
 use Rattle.irq_model.specs.Links.{is_none_linked}
 use Rattle.irq_model.specs.Valid.{IsValid}
 use Rattle.irq_steps.proofs.Same.{same_self}
@@ -33,7 +35,17 @@ use Rattle.line_wanted.specs.contracts.left.LeftPartialEq.TheImpl as left_eq
 use Rattle.line_wanted.specs.Left.{left_of}
 use Rattle.line_wanted.specs.declared.left.Left.{Left}
 use Rattle.line_words.specs.Again.{unbitted}
-use Rattle.line_survey.specs.LeftSeen.{left_seen, unserved_seen, unserved_in}
+use Rattle.line_survey.specs.LeftSeen.{standing_seen, unserved_seen, unserved_in}
+
+-- how the state leaves the line, if this is the lowest actor that is hung
+abbrev pub left_with : LineDef → Option Actor → StateSeen → Left
+left_with def o s = record {
+  hung = o;
+  standing = standing_seen s;
+  unserved = unserved_in s.asks def.devices;
+  stored = is_edge_line def && s.cell.stored;
+  pending = is_edge_line def && s.desc.pending;
+}
 
 -- thread bits don't tell whether something is linked
 bare_bits : (t : List (DevNo × Action)) → is_bare (without_bits (flags_of t)) ≡ is_bare t
@@ -85,27 +97,29 @@ module _ (def : LineDef) (past : List Entry) (valid : IsValid def) (legal : IsLe
       let s = state_of def past in
       unserved_same (serves_at s) (is_working s.round.working) (is_thread_working s.threads) x.dev s.asks ∙ row_of i x is
 
-  -- the canonical state tells how the past leaves the line
-  pub left_canon : left_seen def (canon (state_of def past)) ≡ left_of def past
-  left_canon =
+  -- the canonical state tells how the past leaves the line, whoever is hung
+  pub left_canon : (o : Option Actor) → left_with def o (canon (state_of def past)) ≡ left_of def o past
+  left_canon o =
       let a = bare_canon in
       let b = all_rows (canon (state_of def past)).asks asks_canon in
       let c : (state_of def past).cell.stored ≡ is_stored def past = ap (λ (x : Cell). x.stored) the_cell in
       cc
 
 -- thread bits don't matter
-left_unbitted : (def : LineDef) (s : StateSeen) → left_seen def (unbitted s) ≡ left_seen def s
-left_unbitted def s = let a = bare_bits s.list.actions in cc
+left_unbitted : (def : LineDef) (o : Option Actor) (s : StateSeen) → left_with def o (unbitted s) ≡ left_with def o s
+left_unbitted def o s = let a = bare_bits s.list.actions in cc
 
 -- the state that was read of a past tells how it leaves the line
-pub left_is : (def : LineDef) (past : List Entry) → IsValid def → IsLegalPast def past → (s : StateSeen)
-    → unbitted s ≡ canon (state_of def past) → left_seen def s ≡ left_of def past
-left_is def past valid legal s like = sym (left_unbitted def s) ∙ (ap (left_seen def) like ∙ left_canon def past valid legal)
+pub left_is : (def : LineDef) (past : List Entry) → IsValid def → IsLegalPast def past → (o : Option Actor) (s : StateSeen)
+    → unbitted s ≡ canon (state_of def past) → left_of def o past ≡ left_with def o s
+left_is def past valid legal o s like =
+    sym (left_canon def past valid legal o) ∙ (ap (left_with def o) (sym like) ∙ left_unbitted def o s)
 
 -- pasts that are alike leave the line alike
 pub left_alike : (def : LineDef) (g h : List Entry) → IsValid def → IsLegalPast def g → IsLegalPast def h
-    → canon (state_of def g) ≡ canon (state_of def h) → left_of def g ≡ left_of def h
-left_alike def g h valid legal other like = sym (left_canon def g valid legal) ∙ (ap (left_seen def) like ∙ left_canon def h valid other)
+    → canon (state_of def g) ≡ canon (state_of def h) → (o : Option Actor) → left_of def o g ≡ left_of def o h
+left_alike def g h valid legal other like o =
+    sym (left_canon def g valid legal o) ∙ (ap (left_with def o) like ∙ left_canon def h valid other o)
 
 -- ways that `==` calls equal are the same
 pub same_left : (p q : Left) → (left_eq.eq-value).it p q ≡ true → p ≡ q

@@ -1,6 +1,7 @@
 pub mod Lists
 pub mod Counting
 pub mod Lefts
+pub mod OneLeft
 pub mod Entries
 pub mod Rests
 pub mod Growing

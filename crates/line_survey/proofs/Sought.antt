@@ -39,11 +39,11 @@ module _ (def : LineDef) where
   met_by (wants.Row e) h m =
       let legal = subst (λ (x : List Entry). IsLegalPast def x) m.1.1 m.0 in
       record { past = m.1.0; legal = legal.1; met = legal.0; whole = m.1.1 }
-  met_by (wants.Rest left) h m = record { past = h; legal = m.0; met = (m.1, m.2); whole = refl }
+  met_by (wants.Rest left) h m = record { past = h; legal = m.0; met = m.1; whole = refl }
 
   meets : (w : Wanted) (p : List Entry) → IsLegalPast def p → IsMetBy def w p → Meets def w (whole_past w p)
   meets (wants.Row e) p legal met = ((met, legal), (p, refl))
-  meets (wants.Rest left) p legal met = (legal, met.0, met.1)
+  meets (wants.Rest left) p legal met = (legal, met)
 
   longer : (w : Wanted) (p q : List Entry) → length p ≤ length q → length (whole_past w p) ≤ length (whole_past w q)
   longer (wants.Row e) p q le = omega (arith, le)
@@ -91,7 +91,7 @@ module _ (def : LineDef) where
                 let empty : q ≡ [] = no_items q (omega (arith, same, zero')) in
                 let here : p ≡ [] = no_items p none in
                 let on = left_out q at in
-                settled_none def asked p met.0 on.0 (subst (IsDue def on.0) (empty ∙ sym here) on.1)
+                settled_none def asked p met.still on.0 (subst (IsDue def on.0) (empty ∙ sym here) on.1)
 
         within : (v : Wanted) (p : List Entry) → d ≤ length p
             → (length p ≡ 0 → d ≡ 0 → (left : Left) → v ≡ wants.Rest left → ⊥)

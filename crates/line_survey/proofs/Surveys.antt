@@ -9,7 +9,7 @@ use Rattle.irq_base.specs.declared.entries.Entry.{Entry}
 use Rattle.irq_base.specs.declared.lines.LineDef.{LineDef}
 use Rattle.line_search.proofs.Searching.{met, legal_is_path}
 use Rattle.line_search.specs.Found.{IsShortest as IsShortestBefore}
-use Rattle.line_wanted.specs.Left.{left_of}
+use Rattle.line_wanted.specs.Left.{Leaves}
 use Rattle.line_wanted.specs.declared.wanted.Wanted.TheVariants as wants
 use Rattle.state_search.proofs.Places.{all_from, contains_from, map_at, map_from}
 use Rattle.state_search.specs.Seen.{SearchSeen, cut_of}
@@ -18,7 +18,6 @@ use Rattle.line_survey.proofs.Entries.{shortest_of}
 use Rattle.line_survey.proofs.Rests.{rest_found, known}
 use Rattle.line_survey.specs.Growing.{AreRestsTo}
 use Rattle.line_survey.specs.Kept.{same_entry, IsOfLine, IsValidLine}
-use Rattle.line_survey.specs.Rests.{Leaves}
 use Rattle.line_survey.specs.Seen.{depth_at}
 use Rattle.line_survey.specs.Surveyed.{AreSoMany, IsLeast, AreRests, AreEntries, rows_of}
 use Rattle.line_survey.specs.declared.survey.EntryRow.{EntryRow}
@@ -33,10 +32,10 @@ module _ (def : LineDef) (asked : IsValidLine def) (s : SearchSeen Entry) (line 
   rests_are rows are = record {
     each = all_from (λ r. IsLeast def (wants.Rest r.left) r.len) rows least_at;
     states = all_from (λ r. AreSoMany (Leaves def r.left) (take s.looked s.paths) r.states) rows are.states;
-    all = λ h legal settled below.
-        let x = known def asked s line (left_of def h) h legal (settled, refl) below in
-        let y = are.all x.place (left_of def h) x.within (x.past, x.there, x.leaves) in
-        contains_from (map (λ r. r.left) rows) y.0 (left_of def h) (map_at (λ r. r.left) rows y.0 y.1 y.2.0 ∙ ap Some y.2.1);
+    all = λ h left legal leaves below.
+        let x = known def asked s line left h legal leaves below in
+        let y = are.all x.place left x.within (x.past, x.there, x.leaves) in
+        contains_from (map (λ r. r.left) rows) y.0 left (map_at (λ r. r.left) rows y.0 y.1 y.2.0 ∙ ap Some y.2.1);
     once = λ j k left ja kb.
         let a = map_from (λ r. r.left) rows j left ja in
         let b = map_from (λ r. r.left) rows k left kb in

@@ -111,7 +111,7 @@ module _ (def : LineDef) (past : List Entry) where
   abbrev Stands : Rows → DriverNo → Type 0
   Stands s q = (calls_of s q ≡ []) ⊎ ((place_of s q ≡ place_by def q past) × (within_of s q ≡ within_by def q past))
 
-  none_placed : (r : DriverNo) → calls_by r def.calls ≡ [] → (place_by def r past ≡ 0) × (within_by def r past ≡ 0)
+  pub none_placed : (r : DriverNo) → calls_by r def.calls ≡ [] → (place_by def r past ≡ 0) × (within_by def r past ≡ 0)
   none_placed r none = (
     ap (λ (cs : List Call). length (complete [] cs (entries_by r past))) none,
     ap (λ (cs : List Call). count_in (due_of cs (entries_by r past))) none,

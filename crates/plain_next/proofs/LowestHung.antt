@@ -1,6 +1,6 @@
 -- The lowest of those that are hung.
-use Rattle.std.proofs.Common.{◌≡◌, ◌↔◌, ℕ, zero, suc, ◌<◌, Bool, true, false, ◌||◌, IsTrue, cond, nat_lt, Option, Some, None}
-use Rattle.std.proofs.Common.{List, [], ◌∷◌, ◌++◌, refl, sym, ap, subst, ◌∙◌, arith}
+use Rattle.std.proofs.Common.{◌≡◌, ◌↔◌, ℕ, zero, suc, ◌+◌, ◌<◌, Bool, true, false, ◌||◌, IsTrue, cond, nat_lt, Option, Some, None}
+use Rattle.std.proofs.Common.{List, [], ◌∷◌, ◌++◌, length, take, get_or, refl, sym, ap, subst, ◌∙◌, arith}
 use Rattle.std.proofs.lemmas.Bool.{ltb-true, ltb-false, lt-ltb, le-ltb, false≢true}
 use Rattle.irq_base.specs.declared.entries.Actor.{Actor}
 use Rattle.irq_base.specs.declared.entries.Actor.TheVariants as actors
@@ -48,6 +48,14 @@ still_not b x a lower higher = by (is_before b x) refl
     by false is = refl
     by true is = absurd (false≢true (sym higher ∙ before_trans b x a is lower))
 
+one_longer : (xs : List Actor) (i : ℕ) (d : Actor) → i < length xs → take (i + 1) xs ≡ take i xs ++ get_or xs i d ∷ []
+one_longer [] i d within = absurd (omega (arith, within))
+one_longer (x ∷ xs) zero d within = refl
+one_longer (x ∷ xs) (suc i) d within = longer (omega arith) (one_longer xs i d (omega (arith, within)))
+  where
+    longer : suc i + 1 ≡ suc (i + 1) → take (i + 1) xs ≡ take i xs ++ get_or xs i d ∷ [] → take (suc i + 1) (x ∷ xs) ≡ x ∷ (take i xs ++ get_or xs i d ∷ [])
+    longer same rest = ap (λ n. take n (x ∷ xs)) same ∙ ap (λ (ys : List Actor). x ∷ ys) rest
+
 module _ (def : LineDef) (past : List Entry) where
   -- the lowest of these that is hung
   abbrev pub IsLowestOf : List Actor → Option Actor → Type 0
@@ -76,17 +84,27 @@ module _ (def : LineDef) (past : List Entry) where
     is_hung (Some a) low hung = by (is_before x a) refl
       where
         by : (t : Bool) → is_before x a ≡ t → IsLowestOf (seen ++ x ∷ []) (cond t (Some x) (Some a))
-        by true lower = (
-          hung,
-          either_is (λ b. IsHungPast def past b → is_before b x ≡ false)
-              (λ b there h. still_not b x a lower (low.1 b there h)) (λ h. not_itself x),
-        )
+        by true lower = (hung, either_is (λ b. IsHungPast def past b → is_before b x ≡ false)
+            (λ b there h. still_not b x a lower (low.1 b there h)) (λ h. not_itself x))
         by false higher = (low.0, either_is (λ b. IsHungPast def past b → is_before b a ≡ false) low.1 (λ h. higher))
 
     pub one_more : (o : Option Actor) (hung : Bool) → IsLowestOf seen o → IsTrue hung ↔ IsHungPast def past x
         → IsLowestOf (seen ++ x ∷ []) (lower_of o x hung)
     one_more o true low is = is_hung o low (is.0 refl)
     one_more o false low is = not_hung o low (λ h. false≢true (is.1 h))
+
+  -- one more of the list
+  pub next_seen : (items : List Actor) (i : ℕ) (d : Actor) (o new : Option Actor) (hung : Bool) → items ≡ all_in_way def past → i < length items
+      → IsLowestOf (take i (all_in_way def past)) o → IsTrue hung ↔ IsHungPast def past (get_or items i d) → new ≡ lower_of o (get_or items i d) hung
+      → IsLowestOf (take (i + 1) (all_in_way def past)) new
+  next_seen items i d o new hung same within low is new_is =
+      let longer : take (i + 1) items ≡ take i items ++ get_or items i d ∷ [] = one_longer items i d within in
+      let old : IsLowestOf (take i items) o = subst (λ (xs : List Actor). IsLowestOf (take i xs) o) (sym same) low in
+      let more : IsLowestOf (take i items ++ get_or items i d ∷ []) (lower_of o (get_or items i d) hung) =
+      one_more (take i items) (get_or items i d) o hung old is in
+      subst (λ (xs : List Actor). IsLowestOf (take (i + 1) xs) new) same
+      (subst (λ (xs : List Actor). IsLowestOf xs new) (sym longer)
+      (subst (λ (x : Option Actor). IsLowestOf (take i items ++ get_or items i d ∷ []) x) (sym new_is) more))
 
   -- all that are hung are listed
   pub lowest_is : (o : Option Actor) → IsLowestOf (all_in_way def past) o → IsLowestHungPast def past o

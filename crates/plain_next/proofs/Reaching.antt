@@ -1,6 +1,6 @@
 -- What is gathered of those that an actor waits for, at once or through others, is all of it.
 use Rattle.std.proofs.Common.{◌≡◌, ◌↔◌, ℕ, zero, suc, ◌+◌, ◌-◌, ◌<◌, ◌≤◌, Bool, true, false, ◌||◌, IsTrue, Option, Some, None}
-use Rattle.std.proofs.Common.{List, [], ◌∷◌, length, refl, sym, ap, subst, ◌∙◌, eqb, eqb-true, arith}
+use Rattle.std.proofs.Common.{List, [], ◌∷◌, length, get_or, refl, sym, ap, subst, ◌∙◌, eqb, eqb-true, arith}
 use Rattle.std.specs.List.{slice_get}
 use Rattle.std.proofs.lemmas.Bool.{eqb-false}
 use Rattle.irq_base.specs.declared.entries.Actor.{Actor}
@@ -21,10 +21,9 @@ module _ (def : LineDef) (past : List Entry) where
   -- else those who stand in the way of what it wants
   pub these_in_way : (a : Actor) (want : waits.Want) (found : List Actor) → next_past def past a ≡ None → want ≡ wanted def a past
       → StandIn def past want found → AreInWay def past a found
-  these_in_way a want found none is stand b = (
-    λ there. (none, subst (λ w. waits.StandsIn def past w b) is (stands_so def past want b (sym (stand b) ∙ there))),
-    λ w. stand b ∙ so_stands def past want b (subst (λ x. waits.StandsIn def past x b) (sym is) w.1),
-  )
+  these_in_way a want found none is stand b =
+      (λ there. (none, subst (λ w. waits.StandsIn def past w b) is (stands_so def past want b (sym (stand b) ∙ there))),
+      λ w. stand b ∙ so_stands def past want b (subst (λ x. waits.StandsIn def past x b) (sym is) w.1))
 
   -- one who is waited for is listed
   pub waited_listed : (a b : Actor) → WaitsFor def past a b → is_among (all_in_way def past) b ≡ true
@@ -113,3 +112,20 @@ module _ (def : LineDef) (past : List Entry) where
   less_left x found next looked inside are =
       let r = room (all_in_way def past) next found (λ b there. waited_listed x b ((are b).0 there)) in
       omega (arith, r, inside, new_longer next found)
+
+  -- a turn of the loop
+
+  item_at : (xs : List Actor) (i : ℕ) (d : Actor) → i < length xs → slice_get xs i ≡ Some (get_or xs i d)
+  item_at [] i d within = absurd (omega (arith, within))
+  item_at (x ∷ xs) zero d within = refl
+  item_at (x ∷ xs) (suc i) d within = item_at xs i d (omega (arith, within))
+
+  pub next_on : (a : Actor) (found next new : List Actor) (looked : ℕ) (x : Actor) → x ≡ get_or found looked x → IsOnWay a found looked
+      → looked < length found → AreInWay def past x next → new ≡ with_new next found → IsOnWay a new (looked + 1)
+  next_on a found next new looked x here on inside are is = subst (λ (xs : List Actor). IsOnWay a xs (looked + 1)) (sym is)
+      (goes_on a x found next looked on (item_at found looked x inside ∙ ap Some (sym here)) inside are)
+
+  pub next_less : (found next new : List Actor) (looked : ℕ) (x : Actor) → looked < length found → AreInWay def past x next → new ≡ with_new next found
+      → left_over new (looked + 1) < left_over found looked
+  next_less found next new looked x inside are is = subst (λ (xs : List Actor). left_over xs (looked + 1) < left_over found looked) (sym is)
+      (less_left x found next looked inside are)

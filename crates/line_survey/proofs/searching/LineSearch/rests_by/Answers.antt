@@ -52,7 +52,7 @@ pub returns : goal.returns
 returns c =
     let v : LineSearchSeen = c.args.self.now in
     let asked : IsValidLine v.def = subst (λ (x : LineSearchSeen). IsValidLine x.def) c.self.view_is
-    (record { valid = c.self.invariant.valid; runs = c.self.invariant.valid_runs; waits = c.self.invariant.waits }) in
+    (record { valid = c.self.invariant.valid; runs = c.self.invariant.valid_runs }) in
     let line : IsOfLine v.def v.searched = subst (λ (x : LineSearchSeen). IsOfLine x.def x.searched) c.self.view_is c.self.invariant.line in
     let looked = ap (λ (x : LineSearchSeen). x.searched.looked) c.self.view_is in
     let end : c.loop-place.place ≡ v.searched.looked =
