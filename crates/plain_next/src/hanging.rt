@@ -37,11 +37,7 @@ pub enum Want {
 
 /// The lowest actor that is hung, if there is one. Who is hung stands in somebody's way; so all who
 /// may do that are looked at, of whatever definition and history.
-pub fn lowest_hung(
-    alloc: Global,
-    def: &LineDef,
-    past: &[Entry],
-) -> Result<Option<Actor>, NoMemory>
+pub fn lowest_hung(alloc: Global, def: &LineDef, past: &[Entry]) -> Result<Option<Actor>, NoMemory>
     requires few { length past.now ≤ 100000000 }
     requires cpus { def.now.cpus ≤ 32 }
     requires devices { length def.now.devices ≤ 256 }
@@ -99,12 +95,7 @@ fn is_before(first: Actor, second: Actor) -> bool
 
 /// Whether the actor waits for itself: of all that it waits for, at once or through others, it is
 /// one.
-fn is_hung(
-    alloc: Global,
-    def: &LineDef,
-    past: &[Entry],
-    actor: Actor,
-) -> Result<bool, NoMemory>
+fn is_hung(alloc: Global, def: &LineDef, past: &[Entry], actor: Actor) -> Result<bool, NoMemory>
     requires few { length past.now ≤ 100000000 }
     requires cpus { def.now.cpus ≤ 32 }
     requires devices { length def.now.devices ≤ 256 }
@@ -309,12 +300,7 @@ fn is_active(past: &[Entry], dev: DevNo) -> bool
 }
 
 /// What the actor's next step waits for, if it isn't due.
-fn wanted(
-    alloc: Global,
-    def: &LineDef,
-    past: &[Entry],
-    actor: Actor,
-) -> Result<Want, NoMemory>
+fn wanted(alloc: Global, def: &LineDef, past: &[Entry], actor: Actor) -> Result<Want, NoMemory>
     requires few { length past.now ≤ 100000000 }
     ensures { IfOk result (λ want. want_of want ≡ wanted def.now actor past.now) }
 {
@@ -346,12 +332,7 @@ fn wanted_by_thread(
 }
 
 /// What the processor's next step waits for.
-fn wanted_by_cpu(
-    alloc: Global,
-    def: &LineDef,
-    cpu: CpuNo,
-    past: &[Entry],
-) -> Result<Want, NoMemory>
+fn wanted_by_cpu(alloc: Global, def: &LineDef, cpu: CpuNo, past: &[Entry]) -> Result<Want, NoMemory>
     requires few { length past.now ≤ 100000000 }
     ensures { IfOk result (λ want. want_of want ≡ wanted_by_cpu def.now cpu past.now) }
 {
