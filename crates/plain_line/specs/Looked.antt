@@ -37,8 +37,8 @@ lower_of None dev true = Some dev
 lower_of (Some lowest) dev true = if nat_le lowest.0 dev.0 then Some lowest else Some dev
 
 pub record IsLooked (def : LineDef) (past : List Entry) (l : Looked) : Type 0 where
-  pub flow : l.flow ≡ flow def past
   pub spins : l.spins ≡ spins_at def past (flow def past)
+  pub flow : l.flow ≡ flow def past
   pub taker : IsTakerAt def past l.taker
   pub lowest : IsLowestAt def past l.lowest
   pub blocks : l.blocks ≡ blocks_at def past
