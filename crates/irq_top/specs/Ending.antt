@@ -2,6 +2,7 @@
 use Rattle.std.specs.Prelude.{ℕ, Bool, true, false, List, [], ◌++◌, codes, Result}
 use Rattle.std.specs.Prelude.{Ok, Err}
 use Rattle.program_io.specs.ErrorRows.{fault_row, full_row}
+use Rattle.program_io.specs.Streams.{EndSeen}
 use Rattle.program_io.specs.declared.inputs.InputRefused.{InputRefused}
 use Rattle.program_io.specs.declared.inputs.InputRefused.TheVariants as refusals
 use Rattle.log_check.specs.declared.verdict.Verdict.{Verdict}
@@ -81,3 +82,14 @@ is_printed _ = false
 abbrev pub is_printing : Ending → Bool
 is_printing endings.WriteFault = true
 is_printing ending = is_printed ending
+
+-- what an ending says of the streams
+abbrev pub end_seen : Ending → EndSeen
+end_seen ending = record {
+  printed = is_printed ending;
+  printing = is_printing ending;
+  is_quiet = is_printed ending;
+  row = error_text ending;
+  read_failed = is_read_fault_end ending;
+  write_failed = is_write_fault_end ending;
+}
