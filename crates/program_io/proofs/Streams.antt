@@ -14,8 +14,8 @@ no_fault : (n : ℕ) (failed : Bool) → failed ≡ false → Counts n n failed
 no_fault n failed none = subst (λ (b : Bool). Counts n n b) (sym none) refl
 
 not_both : (b : Bool) (P : Type 0) → b ≡ false → b ≡ true → P
-not_both true P no yes = cc
-not_both false P no yes = cc
+not_both true P isnt is = cc
+not_both false P isnt is = cc
 
 -- nothing was printed
 pub output_early : {O : Type 0} (end : EndSeen) (out : O) (kept : List ℕ) (n : ℕ) → end.printed ≡ false → end.write_failed ≡ false

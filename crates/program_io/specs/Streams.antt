@@ -55,16 +55,16 @@ written_after contents writer (Some sink) = writer_contents contents sink.writer
 -- What a call leaves of a reader and two writers. With all printed the output's writer has all of
 -- it.
 pub record KeepsStdStreams {O E : Type 0} (end : EndSeen) (reads : ℕ)
-    (contents : O → Option (List ℕ)) (output : O)
-    (output_now : Option (StdSinkSeen (BufWriter O Global))) (told : E → Option (List ℕ))
-    (error : E) (error_now : StdSinkSeen (BufWriter E Global)) : Type 0 where
+    (contents : O → Option (List ℕ)) (out : O)
+    (out_now : Option (StdSinkSeen (BufWriter O Global))) (told : E → Option (List ℕ)) (err : E)
+    (err_now : StdSinkSeen (BufWriter E Global)) : Type 0 where
   pub read_fault : Counts 0 reads end.read_failed
-  pub output : IfSome output_now (λ out. KeepsOutput end (IsUnwritten output out)
-      (writer_buffer out.writer) 0 out.faults)
-  pub handed_on : end.printed ≡ true → IfSome output_now
-      (λ out. writer_contents contents out.writer ≡ contents (writer_inner out.writer))
-  pub error : KeepsError end (IsUnwritten error error_now) (told error)
-      (writer_contents told error_now.writer) (writer_buffer error_now.writer) 0 error_now.faults
+  pub output : IfSome out_now (λ sink. KeepsOutput end (IsUnwritten out sink)
+      (writer_buffer sink.writer) 0 sink.faults)
+  pub handed_on : end.printed ≡ true → IfSome out_now
+      (λ sink. writer_contents contents sink.writer ≡ contents (writer_inner sink.writer))
+  pub error : KeepsError end (IsUnwritten err err_now) (told err)
+      (writer_contents told err_now.writer) (writer_buffer err_now.writer) 0 err_now.faults
 
 -- an ending before anything was read or printed
 pub record IsEarly (end : EndSeen) : Type 0 where
