@@ -1,8 +1,9 @@
 -- What is done of what the arguments ask for.
-use Rattle.std.proofs.Common.{◌≡◌, ◌⊎◌, inl, inr, ℕ, Option, List, [], sym, subst}
+use Rattle.std.proofs.Common.{◌≡◌, ◌⊎◌, inl, inr, ℕ, Option, List, [], sym, ap, ◌∙◌, subst}
 use Rattle.irq_base.specs.declared.devices.Run.{Run}
 use Rattle.explore_words.specs.Words.{Asks, AsksNothing}
 use Rattle.explore_words.specs.declared.Asked.{Asked}
+use Rattle.irq_io.specs.StdStreams.{StdSourceSeen}
 use Rattle.program_io.proofs.Forms.{of_form, of_words, unasked}
 use Rattle.program_io.specs.Arguments.{Arguments, AreText, IsForm, IsNotText}
 use Rattle.explore_top.specs.Does.{Does, DoesAsked}
@@ -44,6 +45,9 @@ module _ (heard : List Run → Type 0) (same_source same_handlers : Type 0) (tol
   }
 
 -- ---- the same of streams of std
+
+pub same_reader : {R : Type 0} (now before : StdSourceSeen R) (input : R) → before.reader ≡ input → now ≡ before → now.reader ≡ input
+same_reader {R} now before input is same = ap (λ (s : StdSourceSeen R). s.reader) same ∙ is
 
 module _ (IsAsked : Asked → Type 0) (heard : List Run → Type 0) (same_handlers : Type 0) (left now : Option (List ℕ)) (ending : Ending) where
   pub of_streams : (same as_it_was : Type 0) (told input before output : Option (List ℕ)) → (same → as_it_was) → told ≡ input → before ≡ output

@@ -1,11 +1,12 @@
 -- What is done of what the arguments ask for.
-use Rattle.std.proofs.Common.{◌≡◌, ◌↔◌, ℕ, Bool, inl, inr, Option, Some, None, Err, List, [], refl, sym, subst}
+use Rattle.std.proofs.Common.{◌≡◌, ◌↔◌, ℕ, Bool, inl, inr, Option, Some, None, Err, List, [], refl, sym, ap, ◌∙◌, subst}
 use Rattle.irq_base.specs.declared.devices.Answer.{Answer}
 use Rattle.irq_base.specs.declared.devices.Run.{Run}
 use Rattle.irq_base.specs.declared.entries.Entry.{Entry}
 use Rattle.irq_base.specs.declared.reporting.LineReport.{LineReport}
 use Rattle.irq_check.specs.Ends.{ReadsInput}
 use Rattle.irq_check.specs.declared.failing.CheckFailed.TheVariants as checks
+use Rattle.irq_io.specs.StdStreams.{StdSourceSeen}
 use Rattle.irq_words.specs.Words.{Asks, AsksNothing}
 use Rattle.irq_words.specs.declared.Command.{Command}
 use Rattle.irq_words.specs.declared.Command.TheVariants as commands
@@ -73,7 +74,7 @@ module _ (heard : List Run → Type 0) (gave : Run → Answer → Type 0) (place
       → ((asked : Command) → Asks words asked → TellsWanted may_want asked told reports ending) → Did ending
   of_text ending words are usage handed called unread does wanted =
       let nothing : ((asked : Command) → IsForm Asks args asked → ⊥) → AsksNothing words =
-          λ none. λ asked asks. none asked (of_words Asks asked args words are asks) in
+      λ none. λ asked asks. none asked (of_words Asks asked args words are asks) in
       record {
         form = λ asked is so. usage.0 so asked (of_form Asks asked args words are is);
         usage = λ none. inl (usage.1 (nothing none));
@@ -110,6 +111,9 @@ module _ (heard : List Run → Type 0) (gave : Run → Answer → Type 0) (place
     }
 
 -- ---- the same of streams of std
+
+pub same_reader : {R : Type 0} (now before : StdSourceSeen R) (input : R) → before.reader ≡ input → now ≡ before → now.reader ≡ input
+same_reader {R} now before input is same = ap (λ (s : StdSourceSeen R). s.reader) same ∙ is
 
 module _ (heard : List Run → Type 0) (gave : Run → Answer → Type 0) (placed : List Notice → Type 0) (may_want : Option Entry → Type 0)
     (IsAsked : Command → Type 0) (left : Option (List ℕ)) (reports : List LineReport) (now : Option (List ℕ)) (ending : Ending) where

@@ -5,7 +5,7 @@ use Rattle.hotplug_play.specs.Played.{planned_after}
 use Rattle.irq_base.specs.declared.devices.Run.{Run}
 use Rattle.irq_io.specs.Faults.{Counts}
 use Rattle.irq_play.specs.Played.{TellsStep}
-use Rattle.irq_top.proofs.Outcomes.{keeps_refused, taken_tells, takes_board}
+use Rattle.irq_top.proofs.Outcomes.{taken_tells, takes_board}
 use Rattle.irq_top.specs.Commands.{CallsNobody, HotplugsAs}
 use Rattle.notifiers.specs.Told.{Notice, Told}
 use Rattle.irq_top.proofs.commands.hotplug.Goals as goal
@@ -30,7 +30,3 @@ returns-in-Ok-clause-wanted g c =
     taken_tells (λ (b : BoardSeen). TellsStep g.M.Line.IrqLine.may_want (planned_after b c.args.vectors c.args.events.now))
     (g.S.Source.left c.args.src.now) c.hotplug_board.result.reports.reports c.hotplug_board.result.ending c.in-Ok.board
     c.in-Ok.ensures.stated c.hotplug_board.ensures.wanted
-
-pub returns-in-Err-clause-keeps : goal.returns-in-Err-clause-keeps
-returns-in-Err-clause-keeps g c =
-    keeps_refused g.O.Sink.kept g.O.Sink.faults c.args.out.now c.in-Err.refused c.without_reports.result.ending _

@@ -2,7 +2,7 @@ use Rattle.std.proofs.Common.{Bool, sym, subst}
 use Rattle.irq_io.specs.Faults.{Counts}
 use Rattle.irq_run.specs.Ran.{TellsStep}
 use Rattle.irq_top.specs.Commands.{RunsAs}
-use Rattle.irq_top.proofs.Outcomes.{keeps_refused, taken_tells, takes_board}
+use Rattle.irq_top.proofs.Outcomes.{taken_tells, takes_board}
 use Rattle.irq_top.proofs.commands.run.Goals as goal
 
 pub returns-in-Ok-clause-runs : goal.returns-in-Ok-clause-runs
@@ -21,7 +21,3 @@ pub returns-in-Ok-clause-wanted : goal.returns-in-Ok-clause-wanted
 returns-in-Ok-clause-wanted g c =
     taken_tells (TellsStep g.M.Line.IrqLine.may_want) (g.S.Source.left c.args.src.now) c.run_board.result.reports.reports
     c.run_board.result.ending c.in-Ok.board c.in-Ok.ensures.stated c.run_board.ensures.wanted
-
-pub returns-in-Err-clause-keeps : goal.returns-in-Err-clause-keeps
-returns-in-Err-clause-keeps g c =
-    keeps_refused g.O.Sink.kept g.O.Sink.faults c.args.out.now c.in-Err.refused c.without_reports.result.ending _

@@ -15,4 +15,6 @@ returns-clause-wanted g c =
     c.run_and_print.ensures.step
 
 pub returns-clause-keeps : goal.returns-clause-keeps
-returns-clause-keeps g c = keeps_as_played c.run_and_print.result.end c.of_play.result.ending c.of_play.ensures.ending c.run_and_print.ensures.emptied c.run_and_print.ensures.write_fault c.run_and_print.ensures.silent
+returns-clause-keeps g c =
+    keeps_as_played c.run_and_print.result.end c.of_play.result.ending c.of_play.ensures.ending
+    c.run_and_print.ensures.emptied c.run_and_print.ensures.write_fault c.run_and_print.ensures.silent

@@ -1,7 +1,7 @@
 use Rattle.std.proofs.Common.{Bool, [], sym, subst}
 use Rattle.callbacks.specs.Heard.{Heard}
 use Rattle.irq_io.specs.Faults.{Counts}
-use Rattle.irq_top.proofs.Outcomes.{keeps_refused, taken_tells, takes_board}
+use Rattle.irq_top.proofs.Outcomes.{taken_tells, takes_board}
 use Rattle.irq_top.proofs.taking.take_board.Goals as goal
 
 pub returns-in-Ok-clause-takes : goal.returns-in-Ok-clause-takes
@@ -21,7 +21,3 @@ pub returns-in-Ok-clause-wanted : goal.returns-in-Ok-clause-wanted
 returns-in-Ok-clause-wanted g c =
     taken_tells (g.P.OnBoard.tells c.args.way g.M.Line.IrqLine.may_want) (g.S.Source.left c.args.src.now)
     c.play.result.reports.reports c.play.result.ending c.in-Ok.board c.in-Ok.ensures.stated c.play.ensures.wanted
-
-pub returns-in-Err-clause-keeps : goal.returns-in-Err-clause-keeps
-returns-in-Err-clause-keeps g c =
-    keeps_refused g.O.Sink.kept g.O.Sink.faults c.args.out.now c.in-Err.refused c.without_reports.result.ending _

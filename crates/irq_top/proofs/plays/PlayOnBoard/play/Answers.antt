@@ -17,4 +17,6 @@ returns-clause-wanted g c =
     c.play_and_print.result.end c.of_play.result.ending c.of_play.ensures.ending c.of_play.ensures.reports c.play_and_print.ensures.step
 
 pub returns-clause-keeps : goal.returns-clause-keeps
-returns-clause-keeps g c = keeps_as_played c.play_and_print.result.end c.of_play.result.ending c.of_play.ensures.ending c.play_and_print.ensures.emptied c.play_and_print.ensures.write_fault c.play_and_print.ensures.silent
+returns-clause-keeps g c =
+    keeps_as_played c.play_and_print.result.end c.of_play.result.ending c.of_play.ensures.ending
+    c.play_and_print.ensures.emptied c.play_and_print.ensures.write_fault c.play_and_print.ensures.silent
