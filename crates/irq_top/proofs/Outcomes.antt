@@ -18,7 +18,7 @@ use Rattle.irq_top.specs.declared.ending.Ending.{Ending}
 use Rattle.irq_top.specs.declared.ending.Ending.TheVariants as endings
 use Rattle.irq_top.specs.Commands.{EndsAs, EndsIfFit, IsReadToEnd, TakesBoard, TakesInput}
 use Rattle.irq_top.specs.Commands.{TellsPlay, TellsTaken}
-use Rattle.irq_top.specs.Ending.{end_seen, ending_of_check, ending_of_play, ending_of_refusal, is_read_fault_end}
+use Rattle.irq_top.specs.Ending.{end_seen, ending_of_check, ending_of_play, ending_of_refusal, ending_of_verdict, is_read_fault_end}
 use Rattle.play_report.specs.Failing.{is_write_fault, is_printing as play_is_printing}
 use Rattle.program_io.proofs.Streams.{output_early}
 use Rattle.program_io.specs.Reading.{IsStated, ReadsBoard}
@@ -97,17 +97,15 @@ module _ {same : Type 0} {kept : List ℕ} {before now : ℕ} where
   keeps_as_played end ending is emptied counts silent =
       subst (λ (e : Ending). KeepsOutput (end_seen e) same kept before now) (sym is) (by_play end emptied counts silent)
 
-  by_verdict : (answer : Judgement) (verdict : Verdict) → answer.verdict ≡ verdict → kept ≡ [] → now ≡ before
-      → KeepsOutput (end_seen (ending_of_check (Ok answer))) same kept before now
-  by_verdict answer verdicts.Lawful is emptied counts = rw is (record { emptied = λ printed. emptied; write_fault = counts; silent = λ silent. cc })
-  by_verdict answer (verdicts.Unlawful line entry) is emptied counts =
-      rw is (record { emptied = λ printed. emptied; write_fault = counts; silent = λ silent. cc })
-  by_verdict answer (verdicts.Malformed row) is emptied counts =
-      rw is (record { emptied = λ printed. emptied; write_fault = counts; silent = λ silent. cc })
+  by_verdict : (verdict : Verdict) → kept ≡ [] → now ≡ before → KeepsOutput (end_seen (ending_of_verdict verdict)) same kept before now
+  by_verdict verdicts.Lawful emptied counts = record { emptied = λ printed. emptied; write_fault = counts; silent = λ unprinted. cc }
+  by_verdict (verdicts.Unlawful line entry) emptied counts =
+      record { emptied = λ printed. emptied; write_fault = counts; silent = λ unprinted. cc }
+  by_verdict (verdicts.Malformed row) emptied counts = record { emptied = λ printed. emptied; write_fault = counts; silent = λ unprinted. cc }
 
   by_check : (end : Result Judgement CheckFailed) → OnOk end (kept ≡ []) → Counts before now (checked.is_write_fault end)
       → (checked.is_printing end ≡ false → same) → KeepsOutput (end_seen (ending_of_check end)) same kept before now
-  by_check (Ok answer) emptied counts silent = by_verdict answer answer.verdict refl emptied counts
+  by_check (Ok answer) emptied counts silent = by_verdict answer.verdict emptied counts
   by_check (Err (checks.Input (refusals.Fault fault))) emptied counts silent =
       record { emptied = λ printed. cc; write_fault = counts; silent = silent }
   by_check (Err (checks.Input refusals.ReadFault)) emptied counts silent =

@@ -3,7 +3,8 @@ use Rattle.std.specs.Global.{Global}
 use Rattle.std.specs.declared.string.String.{String}
 use Rattle.callbacks.specs.Heard.{Heard}
 use Rattle.program_io.proofs.Forms.{not_text}
-use Rattle.program_io.specs.Arguments.{AreText}
+use Rattle.program_io.specs.Arguments.{AreText, IsRefusal}
+use Rattle.program_io.specs.declared.arguments.ArgumentsRefused.{ArgumentsRefused}
 use Rattle.explore_top.proofs.Forms.{of_text, without_memory, without_text}
 use Rattle.explore_top.proofs.commands.command.Goals as goal
 
@@ -19,8 +20,8 @@ returns-in-Ok-lend-clause-does g c =
     c.in-Ok.ensures.words)
     c.explore_main.ensures.usage c.explore_main.ensures.unread c.explore_main.ensures.unheard c.explore_main.ensures.does
 
-pub returns-in-Err-lend-clause-does : goal.returns-in-Err-lend-clause-does
-returns-in-Err-lend-clause-does g c =
+pub returns-in-Ok-clause-does : goal.returns-in-Ok-clause-does
+returns-in-Ok-clause-does g c =
     without_memory (λ runs. Heard g.H.Handler.hears runs c.args.handlers.now c.args.handlers.now) (c.args.src.now ≡ c.args.src.now)
     (c.args.handlers.now ≡ c.args.handlers.now) (g.S.Source.left c.args.src.now) (g.S.Source.left c.args.src.now)
     (g.O.Sink.written c.args.out.now) (g.O.Sink.written c.args.out.now) c.ended.result c.args.args refl refl refl c.ended.ensures.ending
@@ -30,10 +31,11 @@ returns-in-Err-NotText-clause-does g c =
     without_text (λ runs. Heard g.H.Handler.hears runs c.args.handlers.now c.args.handlers.now) (c.args.src.now ≡ c.args.src.now)
     (c.args.handlers.now ≡ c.args.handlers.now) (g.S.Source.left c.args.src.now) (g.S.Source.left c.args.src.now)
     (g.O.Sink.written c.args.out.now) (g.O.Sink.written c.args.out.now) c.ended-in-Err-NotText.result c.args.args refl refl refl
-    (not_text c.args.args c.in-Err-NotText.ensures.refused) c.ended-in-Err-NotText.ensures.ending
+    (not_text c.args.args
+    (subst (λ (r : ArgumentsRefused). IsRefusal c.args.args r) c.in-Err-NotText.field-0-is c.in-Err-NotText.ensures.refused)) c.ended-in-Err-NotText.ensures.ending
 
-pub returns-in-Err-NoMemory-clause-does : goal.returns-in-Err-NoMemory-clause-does
-returns-in-Err-NoMemory-clause-does g c =
+pub returns-clause-does : goal.returns-clause-does
+returns-clause-does g c =
     without_memory (λ runs. Heard g.H.Handler.hears runs c.args.handlers.now c.args.handlers.now) (c.args.src.now ≡ c.args.src.now)
     (c.args.handlers.now ≡ c.args.handlers.now) (g.S.Source.left c.args.src.now) (g.S.Source.left c.args.src.now)
     (g.O.Sink.written c.args.out.now) (g.O.Sink.written c.args.out.now) c.ended-in-Err-NoMemory.result c.args.args refl refl refl
