@@ -32,7 +32,8 @@ returns-in-Err-NotText-clause-does g c =
     (c.args.handlers.now ≡ c.args.handlers.now) (g.S.Source.left c.args.src.now) (g.S.Source.left c.args.src.now)
     (g.O.Sink.written c.args.out.now) (g.O.Sink.written c.args.out.now) c.ended-in-Err-NotText.result c.args.args refl refl refl
     (not_text c.args.args
-    (subst (λ (r : ArgumentsRefused). IsRefusal c.args.args r) c.in-Err-NotText.field-0-is c.in-Err-NotText.ensures.refused)) c.ended-in-Err-NotText.ensures.ending
+    (subst (λ (r : ArgumentsRefused). IsRefusal c.args.args r) c.in-Err-NotText.field-0-is c.in-Err-NotText.ensures.refused))
+    c.ended-in-Err-NotText.ensures.ending
 
 pub returns-clause-does : goal.returns-clause-does
 returns-clause-does g c =
