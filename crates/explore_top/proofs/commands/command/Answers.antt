@@ -13,9 +13,9 @@ returns-in-Ok-lend-clause-does g c =
     of_text (λ runs. Heard g.H.Handler.hears runs c.args.handlers.now c.explore_main.new.handlers) (c.explore_main.new.src ≡ c.args.src.now)
     (c.explore_main.new.handlers ≡ c.args.handlers.now) (g.S.Source.left c.args.src.now) (g.S.Source.left c.explore_main.new.src)
     (g.O.Sink.written c.args.out.now) (g.O.Sink.written c.explore_main.new.out) c.explore_main.result c.args.args
-    (map (λ (w : Bor (List ℕ)). w.now) c.as_slice-words.result.now)
+    (map (λ (w : Bor (List ℕ)). w.now) c.as_slice-in-Ok-lend.result.now)
     (subst (λ (ws : List (List ℕ)). AreText c.args.args ws)
-    (sym (ap (λ (ws : List (Bor (List ℕ))). map (λ (w : Bor (List ℕ)). w.now) ws) c.as_slice-words.ensures.value
+    (sym (ap (λ (ws : List (Bor (List ℕ))). map (λ (w : Bor (List ℕ)). w.now) ws) c.as_slice-in-Ok-lend.ensures.value
     ∙ (c.in-Ok-lend.ensures ∙ ap (λ (ws : List (String Global)). map string_bytes ws) c.as_slice.ensures.value)))
     c.in-Ok.ensures.words)
     c.explore_main.ensures.usage c.explore_main.ensures.unread c.explore_main.ensures.unheard c.explore_main.ensures.does
