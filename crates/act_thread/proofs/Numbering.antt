@@ -6,7 +6,7 @@ use Rattle.irq_base.specs.declared.devices.DeviceDef.{DeviceDef}
 use Rattle.irq_base.specs.declared.numbers.DevNo.{DevNo}
 use Rattle.irq_model.specs.Kinds.{same_dev}
 use Rattle.irq_model.specs.Lines.{is_device}
-use Rattle.irq_steps.proofs.Same.{dev_from_same}
+use Rattle.irq_model.proofs.Same.{dev_from_same}
 use Rattle.device_table.specs.Ranks.{rank_in}
 use Rattle.device_table.specs.Rows.{at, has, put, table_by}
 use Rattle.device_table.specs.Sums.{one_if}

@@ -19,7 +19,7 @@ use Rattle.irq_model.specs.Legal.{IsLegalPast}
 use Rattle.irq_model.specs.Next.{next, next_past}
 use Rattle.irq_model.specs.Rounds.{flow, is_cpu}
 use Rattle.irq_model.specs.Valid.{IsValid}
-use Rattle.irq_steps.proofs.Same.{cpu_from_same}
+use Rattle.irq_model.proofs.Same.{cpu_from_same}
 use Rattle.irq_laws.proofs.Chosen.{the_same}
 use Rattle.irq_laws.proofs.Lists.{both_ways}
 use Rattle.irq_line.specs.Queries.{IsTaker, flow_of, is_some_take, spins, spins_at}

@@ -12,7 +12,7 @@ use Rattle.irq_base.specs.declared.numbers.LineNo.{LineNo}
 use Rattle.irq_model.specs.Kinds.{same_line, is_driver}
 use Rattle.irq_model.specs.Next.{next_past}
 use Rattle.irq_model.specs.Rounds.{flow, is_cpu}
-use Rattle.irq_steps.proofs.Same.{line_from_same, same_self_line}
+use Rattle.irq_model.proofs.Same.{line_from_same, same_self_line}
 use Rattle.irq_laws.proofs.Chosen.{the_same}
 use Rattle.irq_laws.proofs.Lists.{both_ways}
 use Rattle.irq_laws.proofs.OwnLaws.{due_is_own_past}

@@ -14,7 +14,7 @@ use Rattle.irq_base.specs.declared.numbers.DevNo.{DevNo}
 use Rattle.irq_base.specs.declared.numbers.DriverNo.{DriverNo}
 use Rattle.irq_base.specs.declared.numbers.LineNo.{LineNo}
 use Rattle.irq_model.specs.Lines.{is_device}
-use Rattle.irq_steps.proofs.Same.{dev_from_same}
+use Rattle.irq_model.proofs.Same.{dev_from_same}
 use Rattle.irq_laws.proofs.Chosen.{the_same}
 use Rattle.irq_line.specs.Seen.{LineSeen}
 use Rattle.play_laws.specs.Actors.{count_up}

@@ -12,7 +12,7 @@ use Rattle.irq_base.specs.declared.numbers.DevNo.{DevNo}
 use Rattle.irq_base.specs.declared.numbers.DriverNo.{DriverNo}
 use Rattle.irq_base.specs.declared.numbers.LineNo.{LineNo}
 use Rattle.irq_model.specs.Next.{next}
-use Rattle.irq_steps.proofs.Same.{line_from_same, driver_from_same}
+use Rattle.irq_model.proofs.Same.{line_from_same, driver_from_same}
 use Rattle.irq_laws.proofs.Lists.{both_ways}
 use Rattle.irq_line.specs.Queries.{IsLowestThread}
 use Rattle.irq_line.specs.Seen.{LineSeen}

@@ -16,7 +16,7 @@ use Rattle.irq_line.specs.declared.answers.Stepped.TheVariants as stepped
 use Rattle.irq_line.specs.declared.answers.StepRefused.TheVariants as refusals
 use Rattle.irq_model.specs.Kinds.{same_driver, is_driver, is_by_driver}
 use Rattle.irq_model.specs.Next.{next}
-use Rattle.irq_steps.proofs.Same.{driver_from_same, same_self_driver}
+use Rattle.irq_model.proofs.Same.{driver_from_same, same_self_driver}
 use Rattle.irq_laws.proofs.Chosen.{the_same}
 use Rattle.irq_laws.proofs.OwnLaws.{due_is_own_past}
 use Rattle.std.proofs.lemmas.Bool.{false_from_ne_true}

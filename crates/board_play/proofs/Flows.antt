@@ -13,7 +13,7 @@ use Rattle.irq_model.specs.Next.{next_past}
 use Rattle.irq_model.specs.Places.{last_of}
 use Rattle.irq_model.specs.Rounds.{closes, cpu_of_handle, flow, is_cpu}
 use Rattle.irq_model.specs.Signal.{target}
-use Rattle.irq_steps.proofs.Same.{cpu_from_same}
+use Rattle.irq_model.proofs.Same.{cpu_from_same}
 use Rattle.irq_laws.proofs.Chosen.{the_same}
 use Rattle.irq_laws.proofs.ImpliesFlow.{CpuRow, calls, returns, begins, ends, takes, resent, cpu_row}
 use Rattle.irq_laws.proofs.Lists.{both_ways}

@@ -13,7 +13,7 @@ use Rattle.irq_model.specs.Kinds.{same_line}
 use Rattle.irq_model.specs.Legal.{IsLegalPast}
 use Rattle.irq_model.specs.Next.{next_past}
 use Rattle.irq_model.specs.Rounds.{flow, is_cpu}
-use Rattle.irq_steps.proofs.Same.{line_from_same}
+use Rattle.irq_model.proofs.Same.{line_from_same}
 use Rattle.irq_laws.proofs.Chosen.{the_same}
 use Rattle.irq_laws.proofs.OwnLaws.{due_is_own_past}
 use Rattle.irq_laws.proofs.Progress.{fresh}

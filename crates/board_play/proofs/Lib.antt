@@ -11,3 +11,5 @@ pub mod KeptAlways
 pub mod Listed
 pub mod Standstill
 pub mod Rest
+pub mod OneOrderedPlay
+pub mod BoardsPlay

@@ -15,7 +15,7 @@ use Rattle.irq_model.specs.Kinds.{same_line, same_driver}
 use Rattle.irq_model.specs.Lines.{is_device, has_device}
 use Rattle.irq_model.specs.Valid.{IsValid}
 use Rattle.irq_model.specs.ValidRuns.{HasValidRuns}
-use Rattle.irq_steps.proofs.Same.{dev_from_same, line_from_same}
+use Rattle.irq_model.proofs.Same.{dev_from_same, line_from_same}
 use Rattle.irq_laws.proofs.Chosen.{the_same}
 use Rattle.board_def.specs.Layout.{layout_of}
 use Rattle.domain_rules.specs.Layout.{is_mapped}

@@ -7,7 +7,7 @@ use Rattle.irq_base.specs.declared.numbers.LineNo.{LineNo}
 use Rattle.irq_model.specs.Kinds.{same_line}
 use Rattle.irq_model.specs.Legal.{IsDue}
 use Rattle.irq_model.specs.Next.{next_past}
-use Rattle.irq_steps.proofs.Same.{same_self_line}
+use Rattle.irq_model.proofs.Same.{same_self_line}
 use Rattle.irq_laws.proofs.Chosen.{the_same}
 use Rattle.irq_laws.proofs.Lists.{both_ways}
 use Rattle.irq_laws.proofs.OwnLaws.{due_is_own_past}

@@ -26,7 +26,7 @@ use Rattle.irq_model.specs.Rounds.{flow, is_cpu}
 use Rattle.irq_model.specs.Signal.{target}
 use Rattle.irq_model.specs.ValidRuns.{HasValidRuns, NeverWaits}
 use Rattle.irq_model.specs.Waits.{IsAtRest, IsHungPast, IsCaughtPast, NobodyEndsWaits, is_unfinished_actor, mutex_holder}
-use Rattle.irq_steps.proofs.Same.{same_self_cpu, same_self_line}
+use Rattle.irq_model.proofs.Same.{same_self_cpu, same_self_line}
 use Rattle.irq_laws.specs.Actors.{due_of_actor}
 use Rattle.irq_laws.proofs.Chosen.{the_same}
 use Rattle.irq_laws.proofs.ImpliesDriver.{handler_works}

@@ -4,3 +4,4 @@ pub mod Order
 pub mod Play
 pub mod Kept
 pub mod Hanging
+pub mod Orders

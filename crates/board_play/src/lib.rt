@@ -2,6 +2,7 @@
 //! who moves next and where, what a play is, and what is promised of every play. Each law is the
 //! clause of a function with an empty body, so that crates above can call it or cite its lemma.
 #![tactic(auto)]
+pub mod orders;
 
 ghost use Rattle.std.specs.Prelude.{◌≡◌, ℕ, true, None, Some, All, List, [], reverse, slice_get};
 ghost use Rattle.irq_base.specs.declared.entries.Actor.{Actor};
@@ -114,3 +115,4 @@ pub fn unwaiting_boards_settle()
     ensures law { (board : BoardSeen) (lines : List BoardLine) → IsBoard board
         → AreKept board lines → All NeverWaits (defs_of board) → NobodyHangs lines }
 {}
+pub use orders::{boards_play_is_ordered, ordered_play_is_one};

@@ -5,6 +5,7 @@
 #![tactic(auto)]
 
 mod writers;
+pub mod versions;
 
 ghost use Rattle.std.specs.Prelude.{◌≡◌, ℕ, List, Ok};
 ghost use Rattle.board_def.specs.Rules.{IsBoard};
@@ -17,3 +18,4 @@ pub use writers::Writer;
 pub fn board_of_a_text_keeps_the_rules()
     ensures { (bytes : List ℕ) (b : BoardSeen) → board_of_text bytes ≡ Ok b → IsBoard b }
 {}
+pub use versions::board_of_a_text_is_of_its_version;

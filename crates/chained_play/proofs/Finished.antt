@@ -22,7 +22,7 @@ use Rattle.board_play.specs.Order.{actors_of}
 use Rattle.board_play.specs.Play.{Done}
 use Rattle.board_report.specs.Moving.{AreAtRest}
 use Rattle.board_report.specs.Reporting.{IsHandedRoom, KeepRoom}
-use Rattle.play_orders.specs.Orders.{IsPlayed}
+use Rattle.board_play.specs.Orders.{IsPlayed}
 use Rattle.play_report.specs.Answers.{Answers}
 use Rattle.play_report.specs.declared.failing.PlayFailed.{PlayFailed}
 use Rattle.play_report.proofs.Answered as answered

@@ -6,3 +6,6 @@ mod Stating
 mod Named
 pub mod Allowed
 pub mod Lawful
+pub mod Making
+pub mod Beginning
+pub mod Alone

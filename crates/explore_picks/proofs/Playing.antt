@@ -27,8 +27,8 @@ use Rattle.board_report.proofs.Printable.{turned}
 use Rattle.std.proofs.Common.{ℕ, Option, Result, [], ◌∷◌}
 use Rattle.std.specs.Prelude.{All}
 use Rattle.std.proofs.lemmas.List.Elements.{All-cons, All-head, All-nil, All-tail}
-use Rattle.explore_play.proofs.Beginning.{begins_each}
-use Rattle.explore_play.specs.Made.{ArePicked, IsMade}
+use Rattle.explore_picks.proofs.Beginning.{begins_each}
+use Rattle.explore_picks.specs.Made.{ArePicked, IsMade}
 
 begin_plays : (b : BoardSeen) (picks : List Actor) (g : List Move) → ArePicked b (reverse picks) (reverse g) → BeginPlays b picks g
 begin_plays b picks g picked = λ more h end p.

@@ -7,7 +7,10 @@ pub mod failing;
 mod making;
 mod picks;
 mod small;
+mod others;
+mod playing;
 
 pub use failing::ExploreFailed;
 pub use making::play_to_and_print;
 pub use picks::print_picks;
+pub use playing::{PICKS, picks_begin_the_play, play_to};

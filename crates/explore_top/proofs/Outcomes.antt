@@ -2,7 +2,7 @@
 use Rattle.std.proofs.Common.{◌≡◌, ◌⊎◌, inl, inr, ℕ, true, false, Option, Some, None, Result, Ok, Err, List, refl, sym, ap, subst, ◌∙◌}
 use Rattle.board_def.specs.Rules.{IsBoard}
 use Rattle.board_def.specs.Seen.{BoardSeen}
-use Rattle.board_versions.proofs.OldTexts.{text_is_of_its_version}
+use Rattle.board_stated.proofs.OldTexts.{text_is_of_its_version}
 use Rattle.explore_picks.specs.declared.failing.ExploreFailed.{ExploreFailed}
 use Rattle.explore_picks.specs.declared.failing.ExploreFailed.TheVariants as fails
 use Rattle.explore_words.specs.Words.{may_ask}

@@ -4,7 +4,7 @@
 use Rattle.std.specs.Prelude.{◌≡◌, ◌⊎◌, ℕ, true, false, Option, Some, None, Result, Err, List, []}
 use Rattle.board_def.specs.Rules.{IsBoard}
 use Rattle.board_def.specs.Seen.{BoardSeen}
-use Rattle.board_versions.specs.OfVersion.{IsOfItsVersion}
+use Rattle.board_stated.specs.OfVersion.{IsOfItsVersion}
 use Rattle.explore_picks.specs.Printed.{HeardSome}
 use Rattle.explore_picks.specs.declared.failing.ExploreFailed.{ExploreFailed}
 use Rattle.explore_words.specs.Words.{may_ask}

@@ -6,3 +6,9 @@
 mod plays;
 #[cfg(test)]
 mod workers_step;
+#[cfg(test)]
+mod moved;
+#[cfg(test)]
+mod refused;
+#[cfg(test)]
+mod told;

@@ -22,9 +22,9 @@ use Rattle.irq_play.proofs.Told as stated
 use Rattle.irq_hotplug.specs.Fleet.{FleetSeen, fleet_after}
 use Rattle.irq_hotplug.specs.declared.events.Event.{Event}
 use Rattle.hotplug_plan.specs.Planned.{planned}
-use Rattle.hotplug_laws.specs.Aims.{AimEach}
-use Rattle.hotplug_laws.proofs.Aims.{moves_aim, moves_aim_beside, never_caught_by_last, takes_part}
-use Rattle.hotplug_laws.proofs.Moments.{keep_places}
+use Rattle.hotplug_play.specs.Aims.{AimEach}
+use Rattle.hotplug_play.proofs.Aims.{moves_aim, moves_aim_beside, never_caught_by_last, takes_part}
+use Rattle.hotplug_play.proofs.Moments.{keep_places}
 use Rattle.play_report.specs.Answers.{Answers}
 use Rattle.play_report.specs.Report.{moves_text}
 use Rattle.play_report.specs.declared.failing.PlayFailed.{PlayFailed}

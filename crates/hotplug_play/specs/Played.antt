@@ -19,8 +19,8 @@ use Rattle.irq_hotplug.specs.Fleet.{FleetSeen, fleet_after}
 use Rattle.irq_hotplug.specs.Notices.{notices_of}
 use Rattle.irq_hotplug.specs.declared.events.Event.{Event}
 use Rattle.hotplug_plan.specs.Planned.{IsForHotplug, planned}
-use Rattle.hotplug_laws.specs.Aims.{AimEach}
-use Rattle.hotplug_laws.specs.Moments.{KeepPlaces}
+use Rattle.hotplug_play.specs.Aims.{AimEach}
+use Rattle.hotplug_play.specs.Moments.{KeepPlaces}
 use Rattle.play_report.specs.Answers.{AnswersOfSome}
 use Rattle.play_report.specs.declared.failing.PlayFailed.{PlayFailed}
 use Rattle.play_report.specs.declared.failing.PlayFailed.TheVariants as fails

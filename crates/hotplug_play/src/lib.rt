@@ -11,5 +11,9 @@ mod ended;
 mod planning;
 mod playing;
 mod printing;
+mod fleet_rows;
+pub mod laws;
 
 pub use playing::{NotForHotplug, hotplug_and_print};
+pub use fleet_rows::fleet_row;
+pub use laws::{keep_places, moves_aim};

@@ -5,7 +5,7 @@ ghost use Rattle.board_def.specs.Rules.{IsBoard};
 ghost use Rattle.board_def.specs.Seen.{BoardSeen};
 ghost use Rattle.board_play.specs.Kept.{AreKept};
 ghost use Rattle.board_play.specs.Order.{due_move};
-ghost use Rattle.play_orders.specs.Orders.{IsMade};
+ghost use Rattle.board_play.specs.Orders.{IsMade};
 ghost use Rattle.irq_chained.specs.Chain.{IsChainLegal, chain_next, chain_order, lines_in};
 ghost use Rattle.irq_chained.specs.Fits.{is_for_chain};
 ghost use Rattle.irq_chained.specs.Promise.{HasOneFlow, KeepsSignals};

@@ -6,3 +6,5 @@ pub mod Rows
 pub mod Said
 pub mod Taken
 pub mod Rowed
+pub mod Writing
+pub mod Leaving

@@ -14,7 +14,11 @@ mod printing;
 mod small;
 mod survey_printing;
 pub mod surveying;
+pub mod printed_survey;
+pub mod rows;
 
 pub use explore_picks::ExploreFailed;
 pub use exploring::{Explored, explore_row, explore_survey};
 pub use playing::explore_play;
+pub use printed_survey::print_survey;
+pub use rows::{rest_row, totals_row};

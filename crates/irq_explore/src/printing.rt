@@ -10,7 +10,7 @@ ghost use Rattle.log_text.specs.Rows.{history_text};
 use board_report::hand_on;
 use irq_base::{Entry, LineNo};
 use irq_io::{Sink, WriteFailed, write_all};
-use kept_rows::KeptRows;
+use log_text::KeptRows;
 use line_survey::Answer;
 use text_row::TextRow;
 

@@ -10,7 +10,7 @@ use crate::surveying::LineSurvey;
 use board_def::{Board, Layout};
 use board_report::{hand_on, print_layout};
 use irq_io::{Sink, WriteFailed};
-use survey_rows::print_survey;
+use crate::print_survey;
 use text_row::TextRow;
 
 /// Prints the survey.

@@ -39,7 +39,7 @@ use Rattle.irq_model.specs.ValidRuns.{HasValidRuns, may_stand}
 use Rattle.irq_model.specs.Waits.{Want, flow_ends, threads_rest, thread_rests, mutex_free, nothing_wanted, wanted_by, wanted_of}
 use Rattle.irq_model.specs.Waits.{wanted_at_work, wanted, maker_of, mutex_holder, StandsIn, WaitsFor, IsHungPast}
 use Rattle.irq_model.specs.Waits.{IsCaughtPast, NobodyEndsWaits, is_unfinished_actor, NoStandstillPast}
-use Rattle.irq_steps.proofs.Same.{same_self_cpu, dev_from_same, cpu_from_same, actor_from_same}
+use Rattle.irq_model.proofs.Same.{same_self_cpu, dev_from_same, cpu_from_same, actor_from_same}
 use Rattle.irq_laws.specs.Actors.{due_of_actor}
 use Rattle.irq_laws.specs.Kept.{Kept, freeing, freed_on}
 use Rattle.irq_laws.proofs.Chosen.{the_same}

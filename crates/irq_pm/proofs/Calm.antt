@@ -21,7 +21,7 @@ use Rattle.board_play.specs.Lines.{BoardLine, defs_of}
 use Rattle.board_play.proofs.Listed.{def_at}
 use Rattle.board_play.proofs.OfBoard.{def_of_row, valid_defs}
 use Rattle.board_play.proofs.Standstill.{valid_runs_at}
-use Rattle.sleep_laws.specs.Sleeping.{moves_or_waits, has_calm_runs}
+use Rattle.irq_pm.specs.Sleeping.{moves_or_waits, has_calm_runs}
 use Rattle.irq_pm.specs.SleptBoard.{are_runs_calm, slept}
 
 none_of_line : (line : LineNo) (rs : List RunCall) → list_any (λ r. moves_or_waits r.call) rs ≡ false

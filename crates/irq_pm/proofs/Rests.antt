@@ -17,8 +17,8 @@ use Rattle.board_play.specs.Kept.{AreKept}
 use Rattle.board_play.specs.Lines.{BoardLine}
 use Rattle.board_play.specs.Order.{due_move}
 use Rattle.board_play.proofs.Standstill.{cpus_rest, threads_rest, valid_runs_at}
-use Rattle.sleep_laws.specs.Sleeping.{has_calm_runs}
-use Rattle.sleep_laws.proofs.Falls.{falls_asleep}
+use Rattle.irq_pm.specs.Sleeping.{has_calm_runs}
+use Rattle.irq_pm.proofs.Falls.{falls_asleep}
 
 module _ (board : BoardSeen) (is : IsBoard board) (lines : List BoardLine) (k : AreKept board lines) (unhung : NobodyHangs lines)
     (threads : (d : DevNo) → due_move board lines (actors.Thread d) ≡ None)

@@ -13,7 +13,7 @@ use Rattle.irq_base.specs.declared.numbers.LineNo.{LineNo}
 use Rattle.irq_model.specs.Due.{calls_by, entries_by, due_of as due_among, due_call}
 use Rattle.irq_model.specs.Kinds.{same_line, same_driver}
 use Rattle.irq_model.specs.Next.{next_of_driver, next_past}
-use Rattle.irq_steps.proofs.Same.{same_self_line}
+use Rattle.irq_model.proofs.Same.{same_self_line}
 use Rattle.irq_laws.proofs.Lists.{both_ways}
 use Rattle.irq_laws.proofs.Progress.{due_at}
 use Rattle.board_def.specs.Rules.{IsBoard, has_driver}
@@ -32,8 +32,8 @@ use Rattle.board_play.proofs.Members.{find_there}
 use Rattle.board_play.proofs.Moves.{line_stands}
 use Rattle.board_play.proofs.OfBoard.{calls_fit}
 use Rattle.board_play.proofs.Script.{is_on, in_all, done, current, no_current}
-use Rattle.sleep_laws.proofs.LeftAlone.{script, Position, at_none, at_disable, at_clear, at_synced, at_enable, position}
-use Rattle.sleep_laws.specs.Sleeping.{is_suspended}
+use Rattle.irq_pm.proofs.LeftAlone.{script, Position, at_none, at_disable, at_clear, at_synced, at_enable, position}
+use Rattle.irq_pm.specs.Sleeping.{is_suspended}
 use Rattle.irq_pm.specs.Phases.{due_of, is_disable_call, is_disable_due, last_move}
 use Rattle.irq_pm.specs.SleptBoard.{are_runs_calm, slept}
 use Rattle.irq_pm.proofs.Calm.{calm_boards_settle, calm_def}

@@ -12,7 +12,9 @@
 mod entries;
 mod fitting;
 mod promises;
+pub mod sleeping;
 
 pub use entries::SleepEntry;
 pub use fitting::{fits_sleep, with_sleep};
 pub use promises::{sleep_comes_to_rest, sleep_is_one, sleep_keeps_lines, sleeps_through};
+pub use sleeping::{falls_asleep, left_alone, resumes_as_it_was, sleeps_soundly};

@@ -39,7 +39,7 @@ use Rattle.irq_model.specs.Valid.{IsValid}
 use Rattle.irq_model.specs.ValidRuns.{HasValidRuns}
 use Rattle.irq_model.specs.Waits.{Want, threads_rest, thread_rests, mutex_free, wanted_by, wanted_of, wanted, maker_of}
 use Rattle.irq_model.specs.Waits.{mutex_holder, StandsIn, WaitsFor, WaitsThrough, IsHungPast}
-use Rattle.irq_steps.proofs.Same.{dev_from_same, same_self}
+use Rattle.irq_model.proofs.Same.{dev_from_same, same_self}
 use Rattle.act_thread.specs.Threads.{is_idle_at}
 use Rattle.line_scripts.specs.Rows.{RowSeen, calls_of, place_of, within_of}
 use Rattle.line_marks.proofs.CallsDue.{idle_is}

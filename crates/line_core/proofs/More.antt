@@ -32,9 +32,9 @@ use Rattle.irq_model.specs.Next.{next, next_past, next_of_driver}
 use Rattle.irq_model.specs.Reason.{is_being_freed}
 use Rattle.irq_model.specs.Rounds.{at_work}
 use Rattle.irq_model.specs.Runs.{due_in_run}
-use Rattle.irq_steps.proofs.DueSteps.{laid_start, laid_within, part_at}
-use Rattle.irq_steps.specs.Laid.{with_count}
-use Rattle.irq_steps.proofs.Same.{same_self_driver, driver_from_same}
+use Rattle.irq_model.proofs.DueSteps.{laid_start, laid_within, part_at}
+use Rattle.irq_model.specs.Laid.{with_count}
+use Rattle.irq_model.proofs.Same.{same_self_driver, driver_from_same}
 use Rattle.line_scripts.specs.Endings.{completes}
 use Rattle.line_scripts.specs.Rows.{RowSeen, calls_of, call_of, place_of, within_of}
 use Rattle.act_list.specs.Actions.{has}

@@ -23,7 +23,7 @@ use Rattle.irq_model.specs.Rounds.{is_cpu}
 use Rattle.irq_model.specs.Signal.{lowest_in}
 use Rattle.irq_model.specs.Valid.{IsValid}
 use Rattle.irq_model.specs.ValidRuns.{HasValidRuns}
-use Rattle.irq_steps.proofs.Same.{same_self_cpu, cpu_from_same}
+use Rattle.irq_model.proofs.Same.{same_self_cpu, cpu_from_same}
 use Rattle.act_list.specs.Lists.{first_left}
 use Rattle.irq_line.specs.Queries.{is_some_take}
 use Rattle.line_marks.proofs.CpuDueIs.{cpu_due_is}

@@ -36,8 +36,8 @@ use Rattle.irq_model.specs.Rounds.{is_cpu}
 use Rattle.irq_model.specs.Runs.{is_recognised, is_that_part, serves_by_word}
 use Rattle.irq_model.specs.Signal.{lowest_in}
 use Rattle.irq_model.specs.Spurious.{noted}
-use Rattle.irq_steps.proofs.Same.{same_self}
-use Rattle.irq_steps.specs.Laid.{with_count}
+use Rattle.irq_model.proofs.Same.{same_self}
+use Rattle.irq_model.specs.Laid.{with_count}
 use Rattle.device_table.specs.Rows.{at}
 use Rattle.act_list.specs.Actions.{answer_by as link_answer_by}
 use Rattle.act_list.specs.Lists.{cleared, first_left}

@@ -9,5 +9,7 @@
 mod actors;
 mod orders;
 mod pairs;
+pub mod storms;
 
 pub use orders::{Orders, compare};
+pub use storms::{next_step_is_not_full, step_within_bound};

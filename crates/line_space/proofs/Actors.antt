@@ -26,7 +26,7 @@ use Rattle.irq_model.specs.Rounds.{is_cpu}
 use Rattle.irq_model.specs.Signal.{lowest_in}
 use Rattle.irq_model.specs.Valid.{IsValid}
 use Rattle.irq_model.specs.ValidRuns.{HasValidRuns}
-use Rattle.irq_steps.proofs.Same.{dev_from_same, driver_from_same, cpu_from_same}
+use Rattle.irq_model.proofs.Same.{dev_from_same, driver_from_same, cpu_from_same}
 use Rattle.irq_line.specs.Queries.{is_some_take}
 use Rattle.act_thread.specs.declared.rows.ThreadRow.{ThreadRow}
 use Rattle.device_table.proofs.Tables.{at_none}

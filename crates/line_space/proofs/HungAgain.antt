@@ -19,7 +19,7 @@ use Rattle.irq_model.specs.Legal.{IsLegalPast}
 use Rattle.irq_model.specs.Valid.{IsValid}
 use Rattle.irq_model.specs.ValidRuns.{HasValidRuns}
 use Rattle.irq_model.specs.Waits.{IsLowestHungPast}
-use Rattle.irq_steps.proofs.Same.{driver_from_same}
+use Rattle.irq_model.proofs.Same.{driver_from_same}
 use Rattle.act_thread.specs.declared.rows.Stage.{Stage}
 use Rattle.act_thread.specs.declared.rows.Stage.TheVariants as stages
 use Rattle.act_thread.specs.declared.rows.ThreadRow.{ThreadRow}

@@ -10,3 +10,7 @@ pub mod Adding
 pub mod Firsts
 pub mod Pushing
 pub mod Gathering
+pub mod Nodes
+pub mod Searching
+pub mod FirstRows
+pub mod Resting

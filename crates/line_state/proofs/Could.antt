@@ -13,7 +13,7 @@ use Rattle.irq_base.specs.declared.numbers.DevNo.{DevNo}
 use Rattle.irq_model.specs.Lines.{has_device}
 use Rattle.irq_model.specs.Rounds.{is_cpu}
 use Rattle.irq_model.specs.ValidRuns.{HasValidRuns, may_wait}
-use Rattle.irq_steps.proofs.Same.{same_self_cpu}
+use Rattle.irq_model.proofs.Same.{same_self_cpu}
 use Rattle.device_table.specs.Rows.{at, has, lowest_where}
 use Rattle.act_thread.specs.Steps.{could_step, steps_at, is_returned_stage}
 use Rattle.act_thread.specs.Threads.{row_passes, AreRows}

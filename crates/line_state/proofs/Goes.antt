@@ -19,8 +19,8 @@ use Rattle.irq_laws.specs.Blocks.{block_of}
 use Rattle.irq_model.specs.Kinds.{same_dev}
 use Rattle.irq_model.specs.Lines.{has_device, kind_of, run_script, same_part, script_in}
 use Rattle.irq_model.specs.ValidRuns.{HasValidRuns, may_stand, may_wait}
-use Rattle.irq_steps.proofs.Same.{dev_from_same}
-use Rattle.irq_steps.specs.Laid.{with_count}
+use Rattle.irq_model.proofs.Same.{dev_from_same}
+use Rattle.irq_model.specs.Laid.{with_count}
 use Rattle.run_scripts.specs.Groups.{span_of}
 use Rattle.run_scripts.specs.Places.{place_at}
 use Rattle.line_marks.specs.Calls.{step_by}

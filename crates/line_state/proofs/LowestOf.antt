@@ -4,7 +4,7 @@ use Rattle.std.proofs.lemmas.Bool.{ltb-true, ltb-false, both_ways}
 use Rattle.std.proofs.lemmas.Option.{same_Some}
 use Rattle.irq_base.specs.declared.numbers.DevNo.{DevNo}
 use Rattle.irq_model.specs.Kinds.{same_dev}
-use Rattle.irq_steps.proofs.Same.{same_self, dev_from_same}
+use Rattle.irq_model.proofs.Same.{same_self, dev_from_same}
 use Rattle.device_table.specs.Rows.{at, has, lower, lowest_where, HasOwnKeys}
 use Rattle.act_thread.specs.Threads.{row_passes}
 use Rattle.act_thread.specs.declared.rows.ThreadRow.{ThreadRow}

@@ -19,7 +19,7 @@ use Rattle.irq_model.specs.Legal.{IsLegalPast, IsLegal}
 use Rattle.irq_model.specs.Lines.{is_edge_line}
 use Rattle.irq_model.specs.Links.{is_none_linked}
 use Rattle.irq_model.specs.Valid.{IsValid}
-use Rattle.irq_steps.proofs.Same.{same_self}
+use Rattle.irq_model.proofs.Same.{same_self}
 use Rattle.device_table.proofs.Steps.{there_at}
 use Rattle.device_table.proofs.Tables.{at_device}
 use Rattle.device_table.specs.Rows.{at}

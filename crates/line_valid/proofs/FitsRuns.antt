@@ -19,7 +19,7 @@ use Rattle.irq_model.specs.Lines.{script_in, told_in, run_script, told_answers}
 use Rattle.irq_model.specs.RunBounds.{arms_this, wakes_by_handler}
 use Rattle.irq_model.specs.ValidRuns.{HasValidRuns, WakesWhatItHas, names_own_device, has_script}
 use Rattle.irq_model.specs.ValidRuns.{may_stand, may_answer, is_told}
-use Rattle.irq_steps.proofs.Same.{dev_from_same}
+use Rattle.irq_model.proofs.Same.{dev_from_same}
 use Rattle.line_valid.specs.DecidingRuns.{fits_run, fits_answer, fits_device, fits_runs, same_truth, wakes_what_it_has, arms_unless_told}
 use Rattle.line_valid.proofs.FitsIsValid.{both, each}
 

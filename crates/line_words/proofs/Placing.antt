@@ -13,7 +13,7 @@ use Rattle.irq_model.specs.Due.{calls_by, entries_by, due_of}
 use Rattle.irq_model.specs.Kinds.{same_driver}
 use Rattle.irq_model.specs.Legal.{IsLegalPast}
 use Rattle.irq_laws.specs.Kept.{complete}
-use Rattle.irq_steps.proofs.Same.{driver_from_same}
+use Rattle.irq_model.proofs.Same.{driver_from_same}
 use Rattle.line_scripts.specs.Rows.{RowSeen, row_of, calls_of, place_of, within_of, unbegun, placed, gone_to}
 use Rattle.line_marks.specs.Scripts.{IsAt}
 use Rattle.line_futures.proofs.Placed.{placed as at_place}

@@ -13,7 +13,7 @@ use crate::verdict::Verdict;
 use board_def::{Board, Layout};
 use irq_base::NoMemory;
 use irq_line::{IrqLine, MakesLine};
-use kept_rows::KeptRows;
+use log_text::KeptRows;
 use log_read::{cut_row, place_of};
 use std::alloc::Global;
 

@@ -11,7 +11,7 @@ use crate::judging::step;
 use board_def::Board;
 use irq_base::{Actor, Entry, History, LineNo, NoMemory};
 use irq_line::IrqLine;
-use kept_rows::KeptRows;
+use log_text::KeptRows;
 use log_read::{cut_row, may_have, read_row};
 use std::marker::Model;
 

@@ -13,8 +13,11 @@ mod layouts;
 mod pieces;
 mod threads;
 mod words;
+mod kept;
+mod places;
 
 pub use entries::{MAX_ENTRY_ROW, entry_row};
 pub use laws::{rows_tell_entries, texts_tell_histories};
 pub use layouts::layout_row;
 pub use pieces::push_actor;
+pub use kept::KeptRows;

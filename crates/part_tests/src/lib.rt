@@ -11,3 +11,11 @@ mod boxes;
 mod controllers;
 #[cfg(test)]
 mod ends;
+#[cfg(test)]
+mod claims;
+#[cfg(test)]
+mod claiming_threads;
+#[cfg(test)]
+mod number_tests;
+pub mod numbers;
+pub use numbers::{Numbers, Step};

@@ -37,7 +37,7 @@ use Rattle.irq_laws.proofs.Mutex.{holder}
 use Rattle.irq_laws.proofs.Requested.{one_of}
 use Rattle.irq_laws.proofs.Standstill.{run_stands, holds_it, free_wants}
 use Rattle.irq_laws.proofs.WithinFree.{within_free}
-use Rattle.irq_steps.proofs.Same.{actor_from_same, same_self_actor}
+use Rattle.irq_model.proofs.Same.{actor_from_same, same_self_actor}
 
 -- ---- a run wants nothing
 

@@ -21,7 +21,7 @@ use Rattle.board_report.specs.Headline.{FullLog, Headline, SoFar}
 use Rattle.board_report.specs.Hung.{HungBoard}
 use Rattle.board_report.specs.Moving.{AreAtRest, HasNoRoom}
 use Rattle.board_report.specs.Reporting.{entries_in}
-use Rattle.play_orders.specs.Orders.{IsPlayed, Order, moves_in}
+use Rattle.board_play.specs.Orders.{IsPlayed, Order, moves_in}
 use Rattle.play_report.specs.Ordered.{HandsOut, lines_after}
 use Rattle.play_report.proofs.Scenario.{IsEnd, IsScenario}
 

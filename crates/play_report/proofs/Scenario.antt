@@ -19,7 +19,7 @@ use Rattle.board_play.proofs.Parts.{due_of}
 use Rattle.board_report.specs.Moving.{AreAtRest}
 use Rattle.board_report.proofs.Printable.{printable, turned}
 use Rattle.log_text.specs.EntryWords.{IsPrintable}
-use Rattle.play_orders.specs.Orders.{IsMade, IsPlayed, Order, moves_in}
+use Rattle.board_play.specs.Orders.{IsMade, IsPlayed, Order, moves_in}
 use Rattle.play_report.specs.Ordered.{lines_after}
 use Rattle.play_report.specs.Printing.{StepHasRow}
 

@@ -14,7 +14,7 @@ use Rattle.board_core.specs.declared.ends.PlayEnd.TheVariants as ends
 use Rattle.board_report.specs.Headline.{FullLog, Headline, Histories, SoFar}
 use Rattle.board_report.specs.Hung.{HungBoard}
 use Rattle.board_report.specs.Reporting.{entries_in}
-use Rattle.play_orders.specs.Orders.{IsMade, IsPlayed, Order, moves_in}
+use Rattle.board_play.specs.Orders.{IsMade, IsPlayed, Order, moves_in}
 
 module _ {S E : Type 0} (b : BoardSeen) (o : Order S E) where
   -- the board's lines after these steps

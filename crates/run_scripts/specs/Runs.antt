@@ -8,7 +8,7 @@ use Rattle.irq_base.specs.declared.lines.LineDef.{LineDef}
 use Rattle.irq_base.specs.declared.numbers.DevNo.{DevNo}
 use Rattle.irq_model.specs.Lines.{has_device, run_script, told_answers}
 use Rattle.irq_model.specs.ValidRuns.{may_wait}
-use Rattle.irq_steps.specs.Laid.{with_count}
+use Rattle.irq_model.specs.Laid.{with_count}
 use Rattle.device_table.specs.Rows.{at}
 use Rattle.run_scripts.specs.Groups.{GroupsSeen, group_of}
 use Rattle.run_scripts.specs.Places.{PlacesSeen, first_place, first_row, place_at, turn_at}

@@ -35,7 +35,7 @@ use Rattle.board_play.proofs.Members.{past_at}
 use Rattle.board_report.specs.Moving.{AreAtRest}
 use Rattle.board_report.specs.Reporting.{IsHandedRoom, KeepRoom, entries_in}
 use Rattle.board_report.proofs.Laid.{its_entries, line_laid}
-use Rattle.play_orders.specs.Orders.{IsMade, Order}
+use Rattle.board_play.specs.Orders.{IsMade, Order}
 use Rattle.log_text.specs.LayoutRows.{layout_rows}
 use Rattle.play_report.specs.Answers.{Answers, HandsOutStep}
 use Rattle.play_report.specs.declared.failing.PlayFailed.{PlayFailed}

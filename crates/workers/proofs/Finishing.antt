@@ -22,7 +22,7 @@ use Rattle.irq_model.specs.Due.{calls_by, entries_by, due_of, due_call}
 use Rattle.irq_model.specs.Kinds.{same_line, same_driver, same_actor}
 use Rattle.irq_model.specs.Legal.{IsLegalPast}
 use Rattle.irq_model.specs.Rounds.{flow}
-use Rattle.irq_steps.proofs.Same.{actor_from_same, driver_from_same, same_self_actor}
+use Rattle.irq_model.proofs.Same.{actor_from_same, driver_from_same, same_self_actor}
 use Rattle.std.specs.List.{list_any}
 use Rattle.std.proofs.lemmas.List.Sorted.{list_any-IsPermutation}
 use Rattle.irq_laws.proofs.Chosen.{the_same}

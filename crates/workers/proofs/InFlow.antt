@@ -19,7 +19,7 @@ use Rattle.irq_model.specs.Lines.{is_eoi_flow}
 use Rattle.irq_model.specs.Links.{is_disabled, is_none_linked}
 use Rattle.irq_model.specs.Places.{last_of}
 use Rattle.irq_model.specs.Rounds.{closes, cpu_of_handle, flow, has_flow, is_cpu}
-use Rattle.irq_steps.proofs.Same.{cpu_from_same, same_self_cpu}
+use Rattle.irq_model.proofs.Same.{cpu_from_same, same_self_cpu}
 use Rattle.line_lock.specs.Placed.{placed, placed_from}
 use Rattle.line_lock.specs.declared.view.Placed.{Placed}
 use Rattle.workers.specs.Fit.{own_past}

@@ -1,6 +1,6 @@
 use Rattle.std.proofs.Common.{reverse, ap, ◌∙◌}
 use Rattle.irq_model.specs.Rounds.{is_cpu}
-use Rattle.irq_steps.proofs.Same.{same_self_cpu}
+use Rattle.irq_model.proofs.Same.{same_self_cpu}
 use Rattle.play_laws.proofs.Moves.{flow_goes_on}
 use Rattle.play_laws.proofs.flow_goes_on.Goals as goal
 

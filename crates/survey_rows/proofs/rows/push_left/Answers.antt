@@ -1,5 +1,0 @@
-use Rattle.survey_rows.proofs.Leaving.{left_spoken}
-use Rattle.survey_rows.proofs.rows.push_left.Goals as goal
-
-pub returns-clause-text : goal.returns-clause-text
-returns-clause-text c = let e = left_spoken c.args.row.now c.args.line c.args.left in cc
