@@ -1,5 +1,5 @@
 -- What is done with a board that was read.
-use Rattle.std.proofs.Common.{◌≡◌, ◌⊎◌, inl, inr, ℕ, true, false, Option, Some, None, Result, Ok, Err, List, refl, sym, ap, subst, ◌∙◌}
+use Rattle.std.proofs.Common.{◌≡◌, ◌⊎◌, inl, inr, ℕ, true, false, Option, Some, None, Result, Ok, Err, List, [], refl, sym, ap, subst, ◌∙◌}
 use Rattle.board_def.specs.Rules.{IsBoard}
 use Rattle.board_def.specs.Seen.{BoardSeen}
 use Rattle.board_stated.proofs.OldTexts.{text_is_of_its_version}
@@ -12,10 +12,17 @@ use Rattle.explore_words.specs.declared.What.TheVariants as whats
 use Rattle.irq_base.specs.declared.devices.Run.{Run}
 use Rattle.irq_explore.specs.declared.exploring.Explored.{Explored}
 use Rattle.irq_explore.specs.declared.exploring.Explored.TheVariants as finds
+use Rattle.irq_explore.specs.Explored.{is_printed as is_whole, is_printing as is_saying, is_write_fault}
+use Rattle.irq_io.specs.Faults.{Counts}
+use Rattle.program_io.proofs.Streams.{output_early}
 use Rattle.program_io.specs.Reading.{IsStated, ReadsBoard}
+use Rattle.program_io.specs.Streams.{KeepsOutput}
+use Rattle.program_io.specs.declared.inputs.InputRefused.{InputRefused}
+use Rattle.program_io.specs.declared.inputs.InputRefused.TheVariants as refusals
 use Rattle.explore_top.specs.Does.{Does, ExploresAs, ExploresInput, ExploresOwn, ExploresWhat, HeardBefore, IsReadToEnd}
-use Rattle.explore_top.specs.Ending.{ending_of, is_read_fault_end}
+use Rattle.explore_top.specs.Ending.{end_seen, ending_of, ending_of_refusal, is_read_fault_end}
 use Rattle.explore_top.specs.declared.ending.Ending.{Ending}
+use Rattle.explore_top.specs.declared.ending.Ending.TheVariants as endings
 
 read_to_end : (told left : Option (List ℕ)) (b : BoardSeen) → ReadsBoard told left (Ok b) → IsReadToEnd told left
 read_to_end None left b read = tt
@@ -72,3 +79,37 @@ pub explored_unread : (asked : Asked) (heard : List Run → Type 0) (b : BoardSe
     → ExploresOwn asked heard b before now ending → is_read_fault_end ending ≡ false
 explored_unread asked heard b before now ending (inl (own, (end, is, done))) = ap is_read_fault_end is ∙ no_read_fault asked.states end
 explored_unread asked heard b before now ending (inr (another, is, unheard)) = ap is_read_fault_end is
+
+-- ---- what is left of the output
+
+module _ {same : Type 0} {kept : List ℕ} {before now : ℕ} (states : ℕ) where
+  by_exploring : (end : Result Explored ExploreFailed) → (is_whole end ≡ true → kept ≡ []) → Counts before now (is_write_fault end)
+      → (is_saying end ≡ false → same) → KeepsOutput (end_seen (ending_of states end)) same kept before now
+  by_exploring (Ok finds.Done) emptied counts silent = record { emptied = emptied; write_fault = counts; silent = silent }
+  by_exploring (Ok finds.Never) emptied counts silent = record { emptied = emptied; write_fault = counts; silent = silent }
+  by_exploring (Ok (finds.Cut line)) emptied counts silent = record { emptied = emptied; write_fault = counts; silent = silent }
+  by_exploring (Ok finds.NoPlay) emptied counts silent = record { emptied = emptied; write_fault = counts; silent = silent }
+  by_exploring (Err fails.NotThere) emptied counts silent = record { emptied = emptied; write_fault = counts; silent = silent }
+  by_exploring (Err fails.NoMemory) emptied counts silent = record { emptied = emptied; write_fault = counts; silent = silent }
+  by_exploring (Err (fails.Write failed)) emptied counts silent = record { emptied = emptied; write_fault = counts; silent = silent }
+
+  pub keeps_as_explored : (end : Result Explored ExploreFailed) (ending : Ending) → ending ≡ ending_of states end
+      → (is_whole end ≡ true → kept ≡ []) → Counts before now (is_write_fault end) → (is_saying end ≡ false → same)
+      → KeepsOutput (end_seen ending) same kept before now
+  keeps_as_explored end ending is emptied counts silent =
+      subst (λ (e : Ending). KeepsOutput (end_seen e) same kept before now) (sym is) (by_exploring end emptied counts silent)
+
+-- the source gave no board, or the board can't be asked for it
+module _ {O : Type 0} (kept : O → List ℕ) (writes : O → ℕ) (out : O) where
+  by_input : (refused : InputRefused) → KeepsOutput (end_seen (ending_of_refusal refused)) (out ≡ out) (kept out) (writes out) (writes out)
+  by_input (refusals.Fault fault) = output_early _ out (kept out) (writes out) refl refl
+  by_input refusals.ReadFault = output_early _ out (kept out) (writes out) refl refl
+  by_input refusals.NoMemory = output_early _ out (kept out) (writes out) refl refl
+
+  pub keeps_refused : (refused : InputRefused) (ending : Ending) → ending ≡ ending_of_refusal refused
+      → KeepsOutput (end_seen ending) (out ≡ out) (kept out) (writes out) (writes out)
+  keeps_refused refused ending is =
+      subst (λ (e : Ending). KeepsOutput (end_seen e) (out ≡ out) (kept out) (writes out) (writes out)) (sym is) (by_input refused)
+
+  pub keeps_unasked : KeepsOutput (end_seen endings.Usage) (out ≡ out) (kept out) (writes out) (writes out)
+  keeps_unasked = output_early _ out (kept out) (writes out) refl refl

@@ -1,7 +1,15 @@
 -- What a command does that takes a board.
-use Rattle.std.proofs.Common.{◌≡◌, ℕ, Bool, true, false, inr, is_ok, OnOk, Option, Some, None, Result, Ok, Err, List, refl, sym, subst}
+use Rattle.std.proofs.Common.{◌≡◌, ℕ, false, inr, OnOk, Option, Some, None, Result, Ok, Err, List, [], refl, sym, ap, subst}
 use Rattle.irq_base.specs.declared.reporting.LineReport.{LineReport}
+use Rattle.board_words.specs.declared.faults.BoardFault.{BoardFault}
 use Rattle.board_words.specs.declared.faults.FaultKind.{FaultKind}
+use Rattle.irq_check.specs.Ends as checked
+use Rattle.irq_check.specs.declared.answers.Judgement.{Judgement}
+use Rattle.irq_check.specs.declared.failing.CheckFailed.{CheckFailed}
+use Rattle.irq_check.specs.declared.failing.CheckFailed.TheVariants as checks
+use Rattle.irq_io.specs.Faults.{Counts}
+use Rattle.log_check.specs.declared.verdict.Verdict.{Verdict}
+use Rattle.log_check.specs.declared.verdict.Verdict.TheVariants as verdicts
 use Rattle.play_report.specs.declared.failing.PlayFailed.{PlayFailed}
 use Rattle.play_report.specs.declared.failing.PlayFailed.TheVariants as plays
 use Rattle.board_core.specs.declared.ends.PlayEnd.{PlayEnd}
@@ -12,9 +20,11 @@ use Rattle.irq_top.specs.declared.ending.Ending.{Ending}
 use Rattle.irq_top.specs.declared.ending.Ending.TheVariants as endings
 use Rattle.irq_top.specs.Commands.{EndsAs, EndsIfFit, IsReadToEnd, TakesBoard, TakesInput}
 use Rattle.irq_top.specs.Commands.{TellsPlay, TellsTaken}
-use Rattle.irq_top.specs.Ending.{ending_of_play, ending_of_refusal, is_printed, is_printing, is_read_fault_end, is_write_fault_end}
+use Rattle.irq_top.specs.Ending.{end_seen, ending_of_check, ending_of_play, ending_of_refusal, ending_of_verdict, is_read_fault_end}
 use Rattle.play_report.specs.Failing.{is_write_fault, is_printing as play_is_printing}
+use Rattle.program_io.proofs.Streams.{output_early}
 use Rattle.program_io.specs.Reading.{IsStated, ReadsBoard}
+use Rattle.program_io.specs.Streams.{KeepsOutput}
 use Rattle.program_io.specs.declared.inputs.InputRefused.{InputRefused}
 use Rattle.program_io.specs.declared.inputs.InputRefused.TheVariants as refusals
 
@@ -50,32 +60,6 @@ plays_read_nothing (Err plays.NoMemory) = refl
 plays_read_nothing (Err (plays.Step refused)) = refl
 plays_read_nothing (Err (plays.Write failed)) = refl
 
-pub plays_are_printed : (end : Result PlayEnd PlayFailed) → is_printed (ending_of_play end) ≡ is_ok end
-plays_are_printed (Ok ends.Settled) = refl
-plays_are_printed (Ok (ends.Hung line actor)) = refl
-plays_are_printed (Err plays.NoMemory) = refl
-plays_are_printed (Err (plays.Step refused)) = refl
-plays_are_printed (Err (plays.Write failed)) = refl
-
-pub plays_meet_faults : (end : Result PlayEnd PlayFailed) → is_write_fault_end (ending_of_play end) ≡ is_write_fault end
-plays_meet_faults (Ok ends.Settled) = refl
-plays_meet_faults (Ok (ends.Hung line actor)) = refl
-plays_meet_faults (Err plays.NoMemory) = refl
-plays_meet_faults (Err (plays.Step refused)) = refl
-plays_meet_faults (Err (plays.Write failed)) = refl
-
-pub plays_may_be_printed : (end : Result PlayEnd PlayFailed) → is_printing (ending_of_play end) ≡ play_is_printing end
-plays_may_be_printed (Ok ends.Settled) = refl
-plays_may_be_printed (Ok (ends.Hung line actor)) = refl
-plays_may_be_printed (Err plays.NoMemory) = refl
-plays_may_be_printed (Err (plays.Step refused)) = refl
-plays_may_be_printed (Err (plays.Write failed)) = refl
-
--- what holds of a play that came to its end and was printed holds of such an ending
-pub of_printed : {P : Type 0} (end : Result PlayEnd PlayFailed) {printed : Bool} → printed ≡ is_ok end → OnOk end P → printed ≡ true → P
-of_printed (Ok u) is holds so = holds
-of_printed (Err failed) is holds so = cc
-
 -- the call ends as the play did
 module _ (IsntFor : BoardSeen → Type 0) (nobody : Type 0) (kind : FaultKind)
     (Plays : BoardSeen → List LineReport → Option (List ℕ) → Option (List ℕ) → Result PlayEnd PlayFailed → Type 0) (b : BoardSeen)
@@ -101,6 +85,72 @@ pub ends_as_any_play : (Plays : BoardSeen → List LineReport → Option (List �
     → ending ≡ ending_of_play end → told ≡ reports → Plays b reports before now end → EndsAs Plays b told before now ending
 ends_as_any_play Plays b before now reports told end ending is handed played =
     (end, is, subst (λ (rs : List LineReport). Plays b rs before now end) (sym handed) played)
+
+-- ---- what is left of the output
+
+module _ {same : Type 0} {kept : List ℕ} {before now : ℕ} where
+  by_play : (end : Result PlayEnd PlayFailed) → OnOk end (kept ≡ []) → Counts before now (is_write_fault end)
+      → (play_is_printing end ≡ false → same) → KeepsOutput (end_seen (ending_of_play end)) same kept before now
+  by_play (Ok ends.Settled) emptied counts silent = record { emptied = λ printed. emptied; write_fault = counts; silent = silent }
+  by_play (Ok (ends.Hung line actor)) emptied counts silent =
+      record { emptied = λ printed. emptied; write_fault = counts; silent = silent }
+  by_play (Err plays.NoMemory) emptied counts silent = record { emptied = λ printed. cc; write_fault = counts; silent = silent }
+  by_play (Err (plays.Step refused)) emptied counts silent = record { emptied = λ printed. cc; write_fault = counts; silent = silent }
+  by_play (Err (plays.Write failed)) emptied counts silent = record { emptied = λ printed. cc; write_fault = counts; silent = silent }
+
+  -- by a play, or a run
+  pub keeps_as_played : (end : Result PlayEnd PlayFailed) (ending : Ending) → ending ≡ ending_of_play end → OnOk end (kept ≡ [])
+      → Counts before now (is_write_fault end) → (play_is_printing end ≡ false → same) → KeepsOutput (end_seen ending) same kept before now
+  keeps_as_played end ending is emptied counts silent =
+      subst (λ (e : Ending). KeepsOutput (end_seen e) same kept before now) (sym is) (by_play end emptied counts silent)
+
+  by_verdict : (verdict : Verdict) → kept ≡ [] → now ≡ before → KeepsOutput (end_seen (ending_of_verdict verdict)) same kept before now
+  by_verdict verdicts.Lawful emptied counts = record { emptied = λ printed. emptied; write_fault = counts; silent = λ unprinted. cc }
+  by_verdict (verdicts.Unlawful line entry) emptied counts =
+      record { emptied = λ printed. emptied; write_fault = counts; silent = λ unprinted. cc }
+  by_verdict (verdicts.Malformed row) emptied counts = record { emptied = λ printed. emptied; write_fault = counts; silent = λ unprinted. cc }
+
+  by_check : (end : Result Judgement CheckFailed) → OnOk end (kept ≡ []) → Counts before now (checked.is_write_fault end)
+      → (checked.is_printing end ≡ false → same) → KeepsOutput (end_seen (ending_of_check end)) same kept before now
+  by_check (Ok answer) emptied counts silent = by_verdict answer.verdict emptied counts
+  by_check (Err (checks.Input (refusals.Fault fault))) emptied counts silent =
+      record { emptied = λ printed. cc; write_fault = counts; silent = silent }
+  by_check (Err (checks.Input refusals.ReadFault)) emptied counts silent =
+      record { emptied = λ printed. cc; write_fault = counts; silent = silent }
+  by_check (Err (checks.Input refusals.NoMemory)) emptied counts silent =
+      record { emptied = λ printed. cc; write_fault = counts; silent = silent }
+  by_check (Err (checks.Write failed)) emptied counts silent = record { emptied = λ printed. cc; write_fault = counts; silent = silent }
+
+  -- by a check
+  pub keeps_as_checked : (end : Result Judgement CheckFailed) (ending : Ending) → ending ≡ ending_of_check end → OnOk end (kept ≡ [])
+      → Counts before now (checked.is_write_fault end) → (checked.is_printing end ≡ false → same)
+      → KeepsOutput (end_seen ending) same kept before now
+  keeps_as_checked end ending is emptied counts silent =
+      subst (λ (e : Ending). KeepsOutput (end_seen e) same kept before now) (sym is) (by_check end emptied counts silent)
+
+-- nothing was printed: the board isn't for what is asked, or the source gave none, or memory was refused
+module _ {O : Type 0} (kept : O → List ℕ) (writes : O → ℕ) (out : O) where
+  pub keeps_unfit : (now : O) (fault : BoardFault) (ending : Ending) → ending ≡ endings.Board fault → now ≡ out
+      → KeepsOutput (end_seen ending) (now ≡ out) (kept now) (writes out) (writes now)
+  keeps_unfit now fault ending is same =
+      subst (λ (e : Ending). KeepsOutput (end_seen e) (now ≡ out) (kept now) (writes out) (writes now)) (sym is)
+      (record { emptied = λ printed. cc; write_fault = ap writes same; silent = λ silent. same })
+
+  by_input : (refused : InputRefused) → KeepsOutput (end_seen (ending_of_refusal refused)) (out ≡ out) (kept out) (writes out) (writes out)
+  by_input (refusals.Fault fault) = output_early _ out (kept out) (writes out) refl refl
+  by_input refusals.ReadFault = output_early _ out (kept out) (writes out) refl refl
+  by_input refusals.NoMemory = output_early _ out (kept out) (writes out) refl refl
+
+  pub keeps_refused : (refused : InputRefused) (ending : Ending) → ending ≡ ending_of_refusal refused
+      → KeepsOutput (end_seen ending) (out ≡ out) (kept out) (writes out) (writes out)
+  keeps_refused refused ending is =
+      subst (λ (e : Ending). KeepsOutput (end_seen e) (out ≡ out) (kept out) (writes out) (writes out)) (sym is) (by_input refused)
+
+  pub keeps_without_memory : (ending : Ending) → ending ≡ endings.NoMemory
+      → KeepsOutput (end_seen ending) (out ≡ out) (kept out) (writes out) (writes out)
+  keeps_without_memory ending is =
+      subst (λ (e : Ending). KeepsOutput (end_seen e) (out ≡ out) (kept out) (writes out) (writes out)) (sym is)
+      (output_early _ out (kept out) (writes out) refl refl)
 
 -- ---- what is told of a step that was refused memory
 

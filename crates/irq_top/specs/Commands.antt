@@ -234,3 +234,19 @@ reads (commands.Sleep armed) = true
 -- no command that these words ask for reads the source: they ask for none, or for one that doesn't
 abbrev pub ReadsNothing : List (List ℕ) → Type 0
 ReadsNothing words = (asked : Command) → Asks words asked → reads asked ≡ false
+
+-- What is done of the command that is asked, which `IsAsked` tells. If none is, that is a fault of
+-- usage, unless memory was refused, and nothing is handed out or called. `same`: so is the source.
+pub record DoesAsked (heard : List Run → Type 0) (gave : Run → Answer → Type 0)
+    (placed : List Notice → Type 0) (may_want : Option Entry → Type 0) (same : Type 0)
+    (IsAsked : Command → Type 0) (told left : Option (List ℕ)) (reports : List LineReport)
+    (before now : Option (List ℕ)) (ending : Ending) : Type 0 where
+  pub form : (asked : Command) → IsAsked asked → ending ≡ endings.Usage → ⊥
+  pub usage : ((asked : Command) → IsAsked asked → ⊥)
+      → (ending ≡ endings.Usage) ⊎ (ending ≡ endings.NoMemory)
+  pub unasked : ((asked : Command) → IsAsked asked → ⊥) → reports ≡ []
+  pub uncalled : ((asked : Command) → IsAsked asked → ⊥) → CallsNobody heard placed
+  pub unread : ((asked : Command) → IsAsked asked → reads asked ≡ false) → same
+  pub does : (asked : Command) → IsAsked asked
+      → Does heard gave placed asked told left reports before now ending
+  pub wanted : (asked : Command) → IsAsked asked → TellsWanted may_want asked told reports ending

@@ -2,6 +2,7 @@
 use Rattle.std.specs.Prelude.{ℕ, Bool, true, false, List, [], ◌++◌, codes, Result}
 use Rattle.std.specs.Prelude.{Ok, Err}
 use Rattle.program_io.specs.ErrorRows.{fault_row, full_row, hung_row}
+use Rattle.program_io.specs.Streams.{EndSeen}
 use Rattle.program_io.specs.declared.inputs.InputRefused.{InputRefused}
 use Rattle.program_io.specs.declared.inputs.InputRefused.TheVariants as refusals
 use Rattle.board_core.specs.declared.ends.PlayEnd.{PlayEnd}
@@ -83,14 +84,25 @@ is_printed (endings.Malformed row) = true
 is_printed (endings.Hung line actor) = true
 is_printed _ = false
 
--- the ending has a row on the error sink
-abbrev pub is_told : Ending → Bool
-is_told endings.Done = false
-is_told (endings.Unlawful line entry) = false
-is_told (endings.Malformed row) = false
-is_told _ = true
+-- the ending has no row on the error sink
+abbrev pub is_quiet : Ending → Bool
+is_quiet endings.Done = true
+is_quiet (endings.Unlawful line entry) = true
+is_quiet (endings.Malformed row) = true
+is_quiet _ = false
 
 -- the ending at which something may have been printed
 abbrev pub is_printing : Ending → Bool
 is_printing endings.WriteFault = true
 is_printing ending = is_printed ending
+
+-- what an ending says of the streams
+abbrev pub end_seen : Ending → EndSeen
+end_seen ending = record {
+  printed = is_printed ending;
+  printing = is_printing ending;
+  is_quiet = is_quiet ending;
+  row = error_text ending;
+  read_failed = is_read_fault_end ending;
+  write_failed = is_write_fault_end ending;
+}
