@@ -1,7 +1,10 @@
 //! The play of a board of many lines by the stated order, and its laws, over the definitions alone:
 //! who moves next and where, what a play is, and what is promised of every play. Each law is the
 //! clause of a function with an empty body, so that crates above can call it or cite its lemma.
+//!
+//! The stated order is one of many: what a play by any of them is stands in `orders.rt`.
 #![tactic(auto)]
+
 pub mod orders;
 
 ghost use Rattle.std.specs.Prelude.{◌≡◌, ℕ, true, None, Some, All, List, [], reverse, slice_get};

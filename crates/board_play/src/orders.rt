@@ -1,7 +1,7 @@
 //! A play of a board by any stated order, over the definitions alone: what comes next follows from
-//! what has happened and from where the order stands. The play that `board_play` defines is the one
-//! by one such order; other scenarios state orders of their own. Each law is the clause of a
-//! function with an empty body, so that crates above can call it or cite its lemma.
+//! what has happened and from where the order stands. `Plays` is the play by one such order; other
+//! scenarios state orders of their own. Each law is the clause of a function with an empty body, so
+//! that crates above can call it or cite its lemma.
 
 ghost use Rattle.std.specs.Prelude.{◌≡◌, ◌↔◌, List};
 ghost use Rattle.irq_base.specs.declared.entries.Actor.{Actor};

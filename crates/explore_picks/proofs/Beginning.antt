@@ -8,7 +8,7 @@ use Rattle.board_def.specs.Seen.{BoardSeen}
 use Rattle.board_play.specs.Lines.{Move, part, lines_of}
 use Rattle.board_play.specs.Play.{End, Done, Full, IsChosen, IsEnd, Plays, choice}
 use Rattle.explore_picks.specs.Made.{ArePicked}
-use Rattle.explore_picks.proofs.Making.{begins}
+use Rattle.explore_picks.proofs.PickedMoves.{begins}
 
 -- a list without an item, or with a last one
 abbrev IsLast : {X : Type 0} → List X → Type 0

@@ -27,7 +27,7 @@ use Rattle.board_play.proofs.Listed.{def_at}
 use Rattle.board_play.proofs.Moves.{MovesOn, moves_on}
 use Rattle.board_play.proofs.OfBoard.{def_of_row, device_found, valid_defs}
 use Rattle.board_play.proofs.Script.{current}
-use Rattle.explore_picks.proofs.Making.{begins}
+use Rattle.explore_picks.proofs.PickedMoves.{begins}
 use Rattle.explore_picks.specs.Made.{ArePicked}
 use Rattle.explore_picks.specs.Stated.{IsNameable}
 

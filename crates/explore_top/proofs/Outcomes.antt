@@ -14,13 +14,10 @@ use Rattle.irq_explore.specs.declared.exploring.Explored.{Explored}
 use Rattle.irq_explore.specs.declared.exploring.Explored.TheVariants as finds
 use Rattle.irq_explore.specs.Explored.{is_printed as is_whole, is_printing as is_saying, is_write_fault}
 use Rattle.irq_io.specs.Faults.{Counts}
-use Rattle.program_io.proofs.Streams.{output_early}
 use Rattle.program_io.specs.Reading.{IsStated, ReadsBoard}
 use Rattle.program_io.specs.Streams.{KeepsOutput}
-use Rattle.program_io.specs.declared.inputs.InputRefused.{InputRefused}
-use Rattle.program_io.specs.declared.inputs.InputRefused.TheVariants as refusals
 use Rattle.explore_top.specs.Does.{Does, ExploresAs, ExploresInput, ExploresOwn, ExploresWhat, HeardBefore, IsReadToEnd}
-use Rattle.explore_top.specs.Ending.{end_seen, ending_of, ending_of_refusal, is_read_fault_end}
+use Rattle.explore_top.specs.Ending.{end_seen, ending_of, is_read_fault_end}
 use Rattle.explore_top.specs.declared.ending.Ending.{Ending}
 use Rattle.explore_top.specs.declared.ending.Ending.TheVariants as endings
 
@@ -98,18 +95,3 @@ module _ {same : Type 0} {kept : List ℕ} {before now : ℕ} (states : ℕ) whe
       → KeepsOutput (end_seen ending) same kept before now
   keeps_as_explored end ending is emptied counts silent =
       subst (λ (e : Ending). KeepsOutput (end_seen e) same kept before now) (sym is) (by_exploring end emptied counts silent)
-
--- the source gave no board, or the board can't be asked for it
-module _ {O : Type 0} (kept : O → List ℕ) (writes : O → ℕ) (out : O) where
-  by_input : (refused : InputRefused) → KeepsOutput (end_seen (ending_of_refusal refused)) (out ≡ out) (kept out) (writes out) (writes out)
-  by_input (refusals.Fault fault) = output_early _ out (kept out) (writes out) refl refl
-  by_input refusals.ReadFault = output_early _ out (kept out) (writes out) refl refl
-  by_input refusals.NoMemory = output_early _ out (kept out) (writes out) refl refl
-
-  pub keeps_refused : (refused : InputRefused) (ending : Ending) → ending ≡ ending_of_refusal refused
-      → KeepsOutput (end_seen ending) (out ≡ out) (kept out) (writes out) (writes out)
-  keeps_refused refused ending is =
-      subst (λ (e : Ending). KeepsOutput (end_seen e) (out ≡ out) (kept out) (writes out) (writes out)) (sym is) (by_input refused)
-
-  pub keeps_unasked : KeepsOutput (end_seen endings.Usage) (out ≡ out) (kept out) (writes out) (writes out)
-  keeps_unasked = output_early _ out (kept out) (writes out) refl refl

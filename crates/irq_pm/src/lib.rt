@@ -4,9 +4,10 @@
 //! A driver of the system's own, behind all others, disables each line and waits for its handlers
 //! and threads; devices go on asking until an interrupt of an armed line wakes the machine, or
 //! nothing is left to happen; then the driver enables each line, and the board is played on. All of
-//! it is a play by a stated order (`play_orders`) of the board with that driver, so each line's
-//! history is a legal one. What a sleep is stands in `specs/Phases.antt`, to be read top down; what
-//! is promised of it in `specs/Slept.antt`. Nothing here plays a board yet.
+//! it is a play by a stated order of the board with that driver, so each line's history is a legal
+//! one. What a sleep is stands in `specs/Phases.antt`, to be read top down; what is promised of it
+//! in `specs/Slept.antt`; what a line keeps while any driver has it asleep in `sleeping.rt`. Nothing
+//! here plays a board.
 #![tactic(auto)]
 
 mod entries;

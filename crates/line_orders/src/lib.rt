@@ -4,6 +4,8 @@
 //! then the last move is taken back, and the next actor that could have moved in its place does. A
 //! line can't take back a step, so the moves before it are made anew on new lines. Whoever compares
 //! lines of two kinds hands in a maker for each.
+//!
+//! What the bound on storms says of any line, of whatever kind, is in `storms.rt`.
 #![tactic(auto)]
 
 mod actors;

@@ -11,7 +11,7 @@ use Rattle.line_scripts.specs.Rows.{RowSeen, place_of, within_of}
 use Rattle.line_marks.proofs.StateFollows.{state_first}
 use Rattle.line_marks.specs.State.{StateSeen, first_state, state_of}
 use Rattle.line_futures.specs.Canon.{canon}
-use Rattle.line_space.proofs.Searching.{path_is_legal, steps_anywhere}
+use Rattle.line_space.proofs.SearchLaws.{path_is_legal, steps_anywhere}
 use Rattle.line_words.proofs.Past.{told_is}
 use Rattle.line_words.specs.Node.{node, drivers_in}
 use Rattle.line_words.specs.Scripts.{AreScripts}

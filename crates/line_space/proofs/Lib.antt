@@ -11,6 +11,6 @@ pub mod Firsts
 pub mod Pushing
 pub mod Gathering
 pub mod Nodes
-pub mod Searching
+pub mod SearchLaws
 pub mod FirstRows
 pub mod Resting

@@ -1,6 +1,5 @@
-//! The space of the states of one line, and what a search through it says of the line's histories.
-//! A state is written as numbers: those of its canonical state, and how far each driver is with its
-//! calls. There is no code: each law is the clause of a function with an empty body.
+//! What a search through the states of one line says of the line's histories. There is no code:
+//! each law is the clause of a function with an empty body.
 
 ghost use Rattle.std.specs.Prelude.{◌≡◌, ◌≤◌, ℕ, Bool, true, Option, None, Some, List, length};
 ghost use Rattle.std.specs.Prelude.{map, take, slice_get, Contains};
@@ -19,7 +18,7 @@ ghost use Rattle.state_search.specs.Paths.{IsPath, IsBelow, AreSteps, Searches};
 ghost use Rattle.state_search.specs.declared.firsts.First.{First};
 
 /// The paths of the search are the legal pasts of the line.
-#[tactic(auto, using(crate::proofs::Searching::path_is_legal, crate::proofs::Searching::legal_is_path))]
+#[tactic(auto, using(crate::proofs::SearchLaws::path_is_legal, crate::proofs::SearchLaws::legal_is_path))]
 pub fn paths_are_legal()
     ensures legal { (def : LineDef) (g : List Entry) → IsPath (IsDue def) g → IsLegalPast def g }
     ensures path { (def : LineDef) (g : List Entry) → IsLegalPast def g → IsPath (IsDue def) g }
@@ -47,7 +46,7 @@ pub fn steps_are_alike()
 /// What a search through the states of a line says of its histories: it has the state of each legal
 /// one, or, if it was cut, of each that is shorter than the cut; and for each state a legal past
 /// than which none that leads there is shorter.
-#[tactic(auto, using(crate::proofs::Searching::reached, crate::proofs::Searching::shortest))]
+#[tactic(auto, using(crate::proofs::SearchLaws::reached, crate::proofs::SearchLaws::shortest))]
 pub fn search_tells_of_states()
     ensures reached { (def : LineDef) (paths : List (List Entry)) (looked : ℕ) (cut : Option ℕ)
         → Searches (IsDue def) (node def) paths looked cut → (h : List Entry)
@@ -63,7 +62,7 @@ pub fn search_tells_of_states()
 /// What a search through the states of a line says of an entry. If it was met, the path to the
 /// state in which it came first is a shortest legal past before it. If it wasn't, no legal history
 /// has it; or, if the search was cut, none that isn't longer than the cut.
-#[tactic(auto, using(crate::proofs::Searching::never, crate::proofs::Searching::not_within))]
+#[tactic(auto, using(crate::proofs::SearchLaws::never, crate::proofs::SearchLaws::not_within))]
 pub fn search_tells_of_entries()
     ensures met { (def : LineDef) (eq : Entry → Entry → Bool) (paths : List (List Entry))
         (looked : ℕ) (cut : Option ℕ) (firsts : List (First Entry))

@@ -1,7 +1,6 @@
 -- A thread with an entry due could step; and one that could step has an entry due, where no run may wait. Nor does a processor spin then.
 use Rattle.std.proofs.Common.{◌≡◌, ℕ, Bool, true, false, not, ◌||◌, ◌&&◌, cond, is_some, is_none, option_map, Option, Some, None, List, refl, sym, ap}
 use Rattle.std.proofs.Common.{subst, ◌∙◌}
-use Rattle.std.proofs.lemmas.Bool.{both_ways}
 use Rattle.std.specs.List.{list_any}
 use Rattle.irq_base.specs.declared.calls.Call.{Call}
 use Rattle.irq_base.specs.declared.devices.Part.TheVariants as parts
@@ -22,7 +21,7 @@ use Rattle.act_thread.specs.declared.rows.Stage.TheVariants as stages
 use Rattle.act_thread.specs.declared.rows.ThreadRow.{ThreadRow}
 use Rattle.desc_state.specs.Desc.{DescSeen}
 use Rattle.line_marks.specs.Calls.{step_by}
-use Rattle.line_marks.specs.CpuDue.{cpu_due, in_flow_by, handler_or_return_by, next_take_by}
+use Rattle.line_marks.specs.CpuDue.{in_flow_by, handler_or_return_by, next_take_by}
 use Rattle.line_marks.specs.Due.{call_or_return_by, due_at_stage, due_of_row, thread_due}
 use Rattle.line_marks.specs.Runs.{due_in_run_at}
 use Rattle.line_marks.specs.State.{StateSeen}

@@ -27,7 +27,7 @@ use Rattle.line_marks.specs.Calls.{step_by}
 use Rattle.line_marks.specs.Places.{call_at}
 use Rattle.line_marks.specs.Runs.{due_in_run_at, makes_calls_at}
 use Rattle.line_marks.specs.State.{StateSeen}
-use Rattle.line_state.specs.Seen.{LineStateSeen, IsScripted, runs_seen}
+use Rattle.line_state.specs.Seen.{LineStateSeen, IsScripted}
 
 -- ---- what stands in a script
 

@@ -8,7 +8,7 @@ use Rattle.irq_base.proofs.SameEntries.{same_entries}
 use Rattle.irq_base.specs.contracts.entries.EntryEq.TheImpl.Laws as entry_laws
 use Rattle.irq_base.specs.declared.entries.Entry.{Entry}
 use Rattle.irq_model.specs.Legal.{IsDue, IsLegalPast}
-use Rattle.line_space.proofs.Searching.{path_is_legal}
+use Rattle.line_space.proofs.SearchLaws.{path_is_legal}
 use Rattle.line_wanted.specs.Left.{Leaves}
 use Rattle.line_wanted.specs.contracts.left.LeftEq.TheImpl.Laws as left_laws
 use Rattle.line_wanted.specs.contracts.left.LeftPartialEq.TheImpl as left_eq

@@ -15,7 +15,7 @@ use Rattle.irq_model.specs.Next.{next_past}
 use Rattle.irq_model.specs.Waits.{IsLowestHungPast}
 use Rattle.line_futures.proofs.Futures.{due_alike}
 use Rattle.line_space.proofs.Nodes.{node_tells}
-use Rattle.line_space.proofs.Searching.{path_is_legal, legal_is_path}
+use Rattle.line_space.proofs.SearchLaws.{path_is_legal, legal_is_path}
 use Rattle.line_space.proofs.HungAgain.{hung_alike}
 use Rattle.line_wanted.specs.Left.{Leaves}
 use Rattle.line_wanted.specs.Wanted.{IsShortest}

@@ -9,7 +9,7 @@ use Rattle.irq_base.specs.declared.entries.Entry.{Entry}
 use Rattle.irq_base.specs.declared.lines.LineDef.{LineDef}
 use Rattle.irq_model.specs.Legal.{IsDue, IsLegalPast}
 use Rattle.line_survey.specs.Kept.{IsValidLine}
-use Rattle.line_space.proofs.Searching.{path_is_legal, legal_is_path}
+use Rattle.line_space.proofs.SearchLaws.{path_is_legal, legal_is_path}
 use Rattle.line_wanted.specs.Wanted.{Meets, IsShortest, IsNever, IsNotWithin}
 use Rattle.line_wanted.specs.declared.left.Left.{Left}
 use Rattle.line_wanted.specs.declared.wanted.Wanted.{Wanted}

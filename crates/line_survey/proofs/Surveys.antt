@@ -7,7 +7,7 @@ use Rattle.irq_base.proofs.SameEntries.{same_entries}
 use Rattle.irq_base.specs.contracts.entries.EntryEq.TheImpl.Laws as entry_laws
 use Rattle.irq_base.specs.declared.entries.Entry.{Entry}
 use Rattle.irq_base.specs.declared.lines.LineDef.{LineDef}
-use Rattle.line_space.proofs.Searching.{met, legal_is_path}
+use Rattle.line_space.proofs.SearchLaws.{met, legal_is_path}
 use Rattle.line_space.specs.Found.{IsShortest as IsShortestBefore}
 use Rattle.line_wanted.specs.Left.{Leaves}
 use Rattle.line_wanted.specs.declared.wanted.Wanted.TheVariants as wants

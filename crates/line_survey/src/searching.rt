@@ -9,9 +9,10 @@ ghost use Rattle.line_words.specs.Node.{node};
 ghost use Rattle.state_search.specs.Paths.{Searches, AreCounted, LeavesOut};
 ghost use Rattle.state_search.specs.Seen.{cut_of};
 
+use crate::through::search_through;
 use irq_base::{Entry, LineDef, NoMemory};
 use line_space::LineSpace;
-use state_search::{Searched, search};
+use state_search::Searched;
 use std::alloc::Global;
 use std::marker::Model;
 
@@ -45,8 +46,8 @@ fn search_states(alloc: Global, def: &LineDef, most: usize) -> Result<Searched<E
     ensures within { IfOk result (λ s. length s.paths ≤ most) }
     ensures cut { IfOk result (λ s. IfSome (cut_of s) (λ _. length s.paths ≡ most)) }
 {
-    let mut space = LineSpace::new(alloc, def)?;
-    let sought = search(alloc, &mut space, most)?;
+    let space = LineSpace::new(alloc, def)?;
+    let sought = search_through(alloc, space, most)?;
     Ok(sought.found)
 }
 

@@ -12,10 +12,11 @@ ghost use Rattle.state_search.specs.Paths.{Searches, LeavesOut, IsNearest, NoneW
 ghost use Rattle.state_search.specs.Seen.{cut_of};
 
 use crate::answer::Answer;
+use crate::through::search_through;
 use crate::wanting::WantedSpace;
 use irq_base::{Entry, LineDef, NoMemory};
 use line_wanted::Wanted;
-use state_search::{Searched, Sought, search};
+use state_search::{Searched, Sought};
 use std::alloc::Global;
 
 /// A shortest legal history as wanted; or that there is none, or none as far as a search through at
@@ -64,8 +65,8 @@ fn seek(
     ensures cut { IfOk result (λ s. s.is_met ≡ false
         → IfSome (cut_of s.found) (λ _. length s.found.paths ≡ most)) }
 {
-    let mut space = WantedSpace::new(alloc, def, wanted)?;
-    search(alloc, &mut space, most)
+    let space = WantedSpace::new(alloc, def, wanted)?;
+    search_through(alloc, space, most)
 }
 
 /// The history as wanted that comes of the state at which the search stopped. The only error is

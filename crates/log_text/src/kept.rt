@@ -5,9 +5,9 @@ ghost use Rattle.log_text.specs.EntryWords.{IsPrintable};
 ghost use Rattle.log_text.specs.Rows.{entry_text};
 ghost use Rattle.log_text.specs.Kept.{IsKept};
 
+use crate::entry_row;
 use crate::places::{PLACES, place_of};
 use irq_base::{DevNo, Entry, History, LineNo, Packed, ThreadEntry};
-use log_text::entry_row;
 use std::marker::Model;
 use text_row::TextRow;
 

@@ -1,5 +1,5 @@
 -- What is gathered of those that an actor waits for, at once or through others, is all of it.
-use Rattle.std.proofs.Common.{◌≡◌, ◌↔◌, ℕ, zero, suc, ◌+◌, ◌-◌, ◌<◌, ◌≤◌, Bool, true, false, ◌||◌, IsTrue, Option, Some, None}
+use Rattle.std.proofs.Common.{◌≡◌, ◌↔◌, ℕ, zero, suc, ◌+◌, ◌-◌, ◌<◌, ◌≤◌, Bool, true, false, ◌||◌, Option, Some, None}
 use Rattle.std.proofs.Common.{List, [], ◌∷◌, length, get_or, refl, sym, ap, subst, ◌∙◌, eqb, eqb-true, arith}
 use Rattle.std.specs.List.{slice_get}
 use Rattle.std.proofs.lemmas.Bool.{eqb-false}
@@ -9,7 +9,7 @@ use Rattle.irq_base.specs.declared.lines.LineDef.{LineDef}
 use Rattle.irq_model.specs.Next.{next_past}
 use Rattle.irq_model.specs.Waits.{WaitsFor, WaitsThrough, wanted}
 use Rattle.irq_model.specs.Waits as waits
-use Rattle.plain_next.specs.Hanging.{AreInWay, AreReached, IsReached, StandIn, all_in_way, is_among, stands_in, with_new}
+use Rattle.plain_next.specs.Hanging.{AreInWay, AreReached, IsReached, StandIn, all_in_way, is_among, with_new}
 use Rattle.plain_next.proofs.Among.{among_new, at_place, left_true, missing, new_longer, new_stays, place_of, right_true, room}
 use Rattle.plain_next.proofs.InWay.{all_there, so_stands, stands_so}
 

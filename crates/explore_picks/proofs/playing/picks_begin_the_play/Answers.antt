@@ -1,5 +1,5 @@
 use Rattle.explore_picks.proofs.Beginning.{begins_each}
-use Rattle.explore_picks.proofs.Making.{begins}
+use Rattle.explore_picks.proofs.PickedMoves.{begins}
 use Rattle.explore_picks.proofs.playing.picks_begin_the_play.Goals as goal
 
 pub returns : goal.returns

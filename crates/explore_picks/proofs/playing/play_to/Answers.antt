@@ -16,7 +16,7 @@ use Rattle.board_core.specs.declared.turns.Turn.TheVariants as turns
 use Rattle.callbacks.specs.Heard.{Heard}
 use Rattle.explore_picks.specs.Made.{IsAlone, IsHeardPlay}
 use Rattle.explore_picks.proofs.Alone.{turns_next}
-use Rattle.explore_picks.proofs.Making.{heard_after, heard_now, made_here, made_elsewhere, one_more}
+use Rattle.explore_picks.proofs.PickedMoves.{heard_after, heard_now, made_here, made_elsewhere, one_more}
 use Rattle.explore_picks.proofs.playing.play_to.Given as given
 use Rattle.explore_picks.proofs.playing.play_to.Goals as goal
 use Rattle.explore_picks.proofs.playing.play_to.Goals.{After-turn_of-mover, In-Ok-Moved}

@@ -1,4 +1,4 @@
-use Rattle.line_space.proofs.Searching.{met}
+use Rattle.line_space.proofs.SearchLaws.{met}
 use Rattle.line_space.proofs.searching.search_tells_of_entries.Goals as goal
 
 pub returns-clause-met : goal.returns-clause-met

@@ -1,4 +1,4 @@
-use Rattle.line_space.proofs.Searching.{shortest}
+use Rattle.line_space.proofs.SearchLaws.{shortest}
 use Rattle.line_space.proofs.searching.search_tells_of_states.Goals as goal
 
 pub returns-clause-shortest : goal.returns-clause-shortest

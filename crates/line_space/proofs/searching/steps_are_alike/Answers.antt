@@ -1,4 +1,4 @@
-use Rattle.line_space.proofs.Searching.{steps_anywhere}
+use Rattle.line_space.proofs.SearchLaws.{steps_anywhere}
 use Rattle.line_space.proofs.searching.steps_are_alike.Goals as goal
 
 pub returns : goal.returns

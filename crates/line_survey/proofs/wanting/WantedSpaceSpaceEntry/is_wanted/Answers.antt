@@ -3,7 +3,7 @@ use Rattle.irq_base.specs.declared.entries.Entry.{Entry}
 use Rattle.irq_base.specs.declared.lines.LineDef.{LineDef}
 use Rattle.irq_model.specs.Legal.{IsLegalPast}
 use Rattle.irq_model.specs.ValidRuns.{HasValidRuns}
-use Rattle.line_space.proofs.Searching.{path_is_legal}
+use Rattle.line_space.proofs.SearchLaws.{path_is_legal}
 use Rattle.line_wanted.specs.Left.{Leaves}
 use Rattle.line_words.specs.Node.{node}
 use Rattle.line_survey.proofs.Lefts.{same_left}
