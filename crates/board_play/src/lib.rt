@@ -118,4 +118,5 @@ pub fn unwaiting_boards_settle()
     ensures law { (board : BoardSeen) (lines : List BoardLine) → IsBoard board
         → AreKept board lines → All NeverWaits (defs_of board) → NobodyHangs lines }
 {}
+
 pub use orders::{boards_play_is_ordered, ordered_play_is_one};

@@ -8,4 +8,5 @@ mod chains;
 #[cfg(test)]
 mod lines;
 pub mod worked;
+
 pub use worked::{chains_are_as_worked_out, sleeps_are_as_worked_out};

@@ -14,13 +14,13 @@ ghost use Rattle.play_report.specs.Report.{moves_text};
 
 use crate::failing::ExploreFailed;
 use crate::picks::print_picks;
+use crate::play_to;
 use crate::small::are_small;
 use board_core::System;
 use board_def::Board;
 use board_layout::lay;
 use board_report::hand_on;
 use callbacks::Handler;
-use crate::play_to;
 use irq_base::{Actor, Entry, LineNo, NoMemory};
 use irq_io::{Sink, WriteFailed};
 use irq_line::IrqLine;

@@ -97,7 +97,10 @@ where
 fn is_quiet(ending: Ending) -> bool
     ensures { result ≡ is_quiet ending }
 {
-    matches!(ending, Ending::Done | Ending::Unlawful { .. } | Ending::Malformed { .. })
+    matches!(
+        ending,
+        Ending::Done | Ending::Unlawful { .. } | Ending::Malformed { .. }
+    )
 }
 
 /// An ending before anything was read or played, which is said on `err`.

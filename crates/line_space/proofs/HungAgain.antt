@@ -165,11 +165,11 @@ module _ (def : LineDef) (g : List Entry) where
 pub hung_alike : (def : LineDef) (g h : List Entry) → IsValid def → HasValidRuns def → IsLegalPast def g → IsLegalPast def h → AreAlike def g h
     → (o : Option Actor) × IsLowestHungPast def g o × IsLowestHungPast def h o
 hung_alike def g h valid runs legal other like = (
-    lowest_hung_by def (canon (state_of def g)) (rows def g),
-    by_canon def g valid runs legal (rows def g) calls_are (stand g (λ r. refl) (λ r. refl) legal),
-    subst (λ (s : StateSeen). IsLowestHungPast def h (lowest_hung_by def s (rows def g))) (sym like.state)
-    (by_canon def h valid runs other (rows def g) calls_are (stand h (λ r. (like.places r).0) (λ r. (like.places r).1) other)),
-  )
+  lowest_hung_by def (canon (state_of def g)) (rows def g),
+  by_canon def g valid runs legal (rows def g) calls_are (stand g (λ r. refl) (λ r. refl) legal),
+  subst (λ (s : StateSeen). IsLowestHungPast def h (lowest_hung_by def s (rows def g))) (sym like.state)
+      (by_canon def h valid runs other (rows def g) calls_are (stand h (λ r. (like.places r).0) (λ r. (like.places r).1) other)),
+)
   where
     calls_are : (r : DriverNo) → calls_of (rows def g) r ≡ calls_by r def.calls
     calls_are r = (row_is def g r).calls

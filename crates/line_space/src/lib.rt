@@ -10,5 +10,8 @@ pub mod searching;
 pub mod space;
 
 pub use drivers::drivers_of;
-pub use searching::{histories_come_to_rest, node_is_told, paths_are_legal, search_tells_of_entries, search_tells_of_states, steps_are_alike};
+pub use searching::{
+    histories_come_to_rest, node_is_told, paths_are_legal, search_tells_of_entries,
+    search_tells_of_states, steps_are_alike,
+};
 pub use space::LineSpace;

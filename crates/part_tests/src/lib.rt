@@ -19,4 +19,5 @@ mod ends;
 #[cfg(test)]
 mod number_tests;
 pub mod numbers;
+
 pub use numbers::{Numbers, Step};

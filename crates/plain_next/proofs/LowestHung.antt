@@ -84,8 +84,11 @@ module _ (def : LineDef) (past : List Entry) where
     is_hung (Some a) low hung = by (is_before x a) refl
       where
         by : (t : Bool) → is_before x a ≡ t → IsLowestOf (seen ++ x ∷ []) (cond t (Some x) (Some a))
-        by true lower = (hung, either_is (λ b. IsHungPast def past b → is_before b x ≡ false)
-            (λ b there h. still_not b x a lower (low.1 b there h)) (λ h. not_itself x))
+        by true lower = (
+          hung,
+          either_is (λ b. IsHungPast def past b → is_before b x ≡ false)
+              (λ b there h. still_not b x a lower (low.1 b there h)) (λ h. not_itself x),
+        )
         by false higher = (low.0, either_is (λ b. IsHungPast def past b → is_before b a ≡ false) low.1 (λ h. higher))
 
     pub one_more : (o : Option Actor) (hung : Bool) → IsLowestOf seen o → IsTrue hung ↔ IsHungPast def past x

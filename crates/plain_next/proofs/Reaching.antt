@@ -21,9 +21,10 @@ module _ (def : LineDef) (past : List Entry) where
   -- else those who stand in the way of what it wants
   pub these_in_way : (a : Actor) (want : waits.Want) (found : List Actor) → next_past def past a ≡ None → want ≡ wanted def a past
       → StandIn def past want found → AreInWay def past a found
-  these_in_way a want found none is stand b =
-      (λ there. (none, subst (λ w. waits.StandsIn def past w b) is (stands_so def past want b (sym (stand b) ∙ there))),
-      λ w. stand b ∙ so_stands def past want b (subst (λ x. waits.StandsIn def past x b) (sym is) w.1))
+  these_in_way a want found none is stand b = (
+    λ there. (none, subst (λ w. waits.StandsIn def past w b) is (stands_so def past want b (sym (stand b) ∙ there))),
+    λ w. stand b ∙ so_stands def past want b (subst (λ x. waits.StandsIn def past x b) (sym is) w.1),
+  )
 
   -- one who is waited for is listed
   pub waited_listed : (a b : Actor) → WaitsFor def past a b → is_among (all_in_way def past) b ≡ true
