@@ -8,4 +8,5 @@ pub mod Growing
 pub mod Surveys
 pub mod OfLine
 pub mod Meeting
+pub mod Placing
 pub mod Sought

@@ -26,7 +26,7 @@ returns-in-Ok-clause-keeps g c =
     keeps_as_played c.in-Ok.played.end c.of_play.result.ending c.of_play.ensures.ending
     c.in-Ok.ensures.emptied c.in-Ok.ensures.write_fault c.in-Ok.ensures.silent
 
-pub returns-in-Err-clause-keeps : goal.returns-in-Err-clause-keeps
-returns-in-Err-clause-keeps g c =
+pub returns-clause-keeps : goal.returns-clause-keeps
+returns-clause-keeps g c =
     keeps_unfit g.O.Sink.kept g.O.Sink.faults c.args.out.now c.chained_and_print.new.out _ c.refused.result.ending
     c.refused.ensures.ending c.in-Err.ensures.quiet
