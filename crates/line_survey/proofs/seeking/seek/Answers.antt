@@ -16,13 +16,13 @@ returns-clause-paths c =
 pub returns-clause-met : goal.returns-clause-met
 returns-clause-met c =
     subst (λ (v : WantedSeen). IfOk c.search_through.result
-        (λ s. s.is_met ≡ true → IsNearest (IsDue v.def) (IsMetBy v.def v.wanted) s.found.paths s.found.looked))
+    (λ s. s.is_met ≡ true → IsNearest (IsDue v.def) (IsMetBy v.def v.wanted) s.found.paths s.found.looked))
     c.in_ok-space.ensures c.search_through.ensures.met
 
 pub returns-clause-none : goal.returns-clause-none
 returns-clause-none c =
     subst (λ (v : WantedSeen). IfOk c.search_through.result
-        (λ s. NoneWanted (IsDue v.def) (IsMetBy v.def v.wanted) s.found.paths s.found.looked (cut_of s.found)))
+    (λ s. NoneWanted (IsDue v.def) (IsMetBy v.def v.wanted) s.found.paths s.found.looked (cut_of s.found)))
     c.in_ok-space.ensures c.search_through.ensures.none
 
 pub returns-clause-left_out : goal.returns-clause-left_out
