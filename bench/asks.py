@@ -19,8 +19,10 @@ from second import Board  # noqa: E402
 from surveys import Survey  # noqa: E402
 
 ASK = re.compile(r"# ask (.*): (never|1 row|\d+ rows)")
-# How an empty log begins: with where its lines are.
+# How a row begins that is of no line's log.
 LAYOUT = "# "
+# The status with which genirq-explore says that there is no such log.
+NEVER = 1
 
 
 def said_of(rows):
@@ -39,9 +41,10 @@ def by_rules(board, surveys, row):
 
 def by_program(program, text, row):
     asked = subprocess.run([program, *row.split(" ")], input=text, capture_output=True, encoding="ascii")
-    if asked.returncode:
+    found = said_of([it for it in asked.stdout.splitlines() if not it.startswith(LAYOUT)])
+    if asked.returncode != (NEVER if found == "never" else 0):
         return f"status {asked.returncode} {asked.stderr.strip()}"
-    return said_of([it for it in asked.stdout.splitlines() if not it.startswith(LAYOUT)])
+    return found
 
 
 def judge(name, program):
