@@ -29,7 +29,7 @@ SECTIONS = {"board": 0, "cpus": 1, "spurious": 1, "log": 1, "domain": 2, "line":
 SECTIONS |= {"driver": 6, "picks": 7}
 NEW = {"pin", "odd", "told", "answers", "handler", "thread", "quiet", "arm", "serve", "wake", "sync_hard", "disable_hard"}
 # What may stand in no script of a run; the last three wait, and runs that wait aren't built yet.
-NEVER_IN_RUNS = ("request", "affinity", "ask", "moment", "sync_hard", "disable_hard", "disable", "sync", "free")
+NEVER_IN_RUNS = ("request", "affinity", "ask", "moment", "sync_hard", "disable_hard")
 
 
 class Words:

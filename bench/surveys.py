@@ -103,7 +103,7 @@ class Survey:
     """A search through the line's states: how many there are, how many steps they have, and of each way in which the line is left
     and of each row that can come a shortest history."""
 
-    def __init__(self, line):
+    def __init__(self, line, most=MOST_STATES):
         self.line, self.pasts, self.moves, self.rests, self.rows = line, [[]], 0, {}, {}
         known = {state_of(line, [])}
         for past in self.pasts:
@@ -112,7 +112,7 @@ class Survey:
                 if state not in known:
                     known.add(state)
                     self.pasts.append(after)
-            if len(self.pasts) > MOST_STATES:
+            if len(self.pasts) > most:
                 raise Unread("many states")
 
     def after(self, past):
@@ -169,9 +169,9 @@ class PlayTo(Play):
         return [*self.rows, *(" ".join(["# picks", *row]) for row in rows)]
 
 
-def surveys_of(text):
-    """The rows of all lines that take part."""
-    return [row for line in Board(text).lines for row in Survey(line).told()]
+def surveys_of(text, most=MOST_STATES):
+    """The rows of all lines that take part; no line may have more states."""
+    return [row for line in Board(text).lines for row in Survey(line, most).told()]
 
 
 def log_of(text, row):

@@ -29,9 +29,6 @@ OUTSIDE = ["tools", "bench", "kernel"]
 NOT_READ = re.compile(r"tools/(machines/|adds\.py$)|bench/edits/.*\.edit$|.*\.(board|rows|md)$")
 # Enums of which each variant is named wherever the program tells some of them apart.
 NAMED = ["Entry", "CpuEntry", "ThreadEntry", "DriverEntry", "CallEntry", "Call", "CallWord", "Actor"]
-# Functions in which `_ =>` stands for some all the same, since a new one is told by the proof: which words came with which
-# version is said of the words of a text.
-TOLD_BY_PROOF = ["is_call_of_later"]
 
 
 def hidden_variants():
@@ -45,7 +42,7 @@ def hidden_variants():
 
 
 def may_stand(rows, last):
-    """Whether the match tells one variant from all others, as `matches!` does, or stands in one of the functions named above."""
+    """Whether the match tells one variant from all others, as `matches!` does."""
     variant = re.compile(rf"\b(?:{'|'.join(NAMED)})::[A-Z]")
     depth, told = len(last) - len(last.lstrip()), 0
     for row in reversed(rows):
@@ -53,8 +50,7 @@ def may_stand(rows, last):
         if row.strip() and indent < depth:
             break
         told += len(variant.findall(row)) if indent == depth else 0
-    name = next(found[1] for row in reversed(rows) if (found := re.match(r" *(?:pub(?:\(.*?\))? )?fn (\w+)", row)))
-    return (told == 1 and last.strip() == "_ => false,") or name in TOLD_BY_PROOF
+    return told == 1 and last.strip() == "_ => false,"
 
 
 def enum_above(rows, last):

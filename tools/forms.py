@@ -37,7 +37,7 @@ ENTRIES = {
         f"affinity {NUMBER} (?:now|later|refused 22)",
     ],
 }
-REST = f"rest (?:stopped|enabled|disabled|killed) {NUMBER} (?:-|stored|pending|both)"
+REST = f"rest (?:hung [ctd]{NUMBER} )?(?:stopped|enabled|disabled|killed) {NUMBER} (?:-|stored|pending|both)"
 ROW = re.compile(f"{NUMBER} (?:{REST}|{'|'.join(f'{who}{NUMBER} (?:{it})' for who, rest in ENTRIES.items() for it in rest)})")
 
 

@@ -3,7 +3,7 @@ use Rattle.std.proofs.Common.{◌≡◌, ℕ, ◌≤◌, Bool, true, false, Some
 use Rattle.std.proofs.lemmas.Map.Steps.{set_value_same}
 use Rattle.irq_base.specs.declared.numbers.DevNo.{DevNo}
 use Rattle.irq_model.specs.Kinds.{same_dev}
-use Rattle.irq_steps.proofs.Same.{dev_from_same}
+use Rattle.irq_model.proofs.Same.{dev_from_same}
 use Rattle.device_table.specs.Rows.{at, put, change, changed}
 use Rattle.device_table.specs.Sums.{one_if}
 use Rattle.device_table.proofs.Lowest.{at_put_other}

@@ -1,5 +1,5 @@
 -- The lowest rank belongs to the lowest device.
-use Rattle.std.proofs.Common.{◌≡◌, ℕ, ◌+◌, ◌<◌, ◌≤◌, Bool, true, false, ◌||◌, ◌&&◌, ◌⊎◌, Option, Some, None, List, refl, sym, ap, ◌∙◌, inl, inr, arith}
+use Rattle.std.proofs.Common.{◌≡◌, ℕ, ◌+◌, ◌<◌, ◌≤◌, Bool, true, false, ◌||◌, ◌&&◌, ◌⊎◌, Option, Some, None, List, refl, sym, ap, subst, ◌∙◌, inl, inr, arith}
 use Rattle.std.proofs.lemmas.Bool.{cases_lt, or_cases, and_parts, both_ways}
 use Rattle.irq_base.specs.declared.numbers.DevNo.{DevNo}
 use Rattle.device_table.specs.RankSets.{holds, IsFirst}
@@ -9,6 +9,7 @@ use Rattle.device_table.proofs.Lowest.{lowest_is, lowest_none}
 use Rattle.device_table.proofs.Weights.{weight_has}
 use Rattle.act_thread.specs.Marked.{IsKept}
 use Rattle.act_thread.specs.Steps.{could_step, is_ready, is_in_run, is_returned_stage, steps_at, active_row}
+use Rattle.act_thread.specs.Threads.{AreRows}
 use Rattle.act_thread.specs.declared.rows.Stage.{Stage}
 use Rattle.act_thread.specs.declared.rows.Stage.TheVariants as stages
 use Rattle.act_thread.specs.declared.rows.ThreadRow.{ThreadRow}
@@ -25,6 +26,9 @@ at_rest false goes_on stages.Finished h = absurd (omega (arith, h))
 
 module _ (t : List (DevNo × ThreadRow)) (a h : ℕ) (ranks : List (DevNo × ℕ)) (ready returned : List ℕ) (goes_on : Bool)
     (kept : IsKept t a h ranks ready returned) where
+  pub rows_seen : (s : List (DevNo × ThreadRow)) → t ≡ s → AreRows s
+  rows_seen s seen = subst AreRows seen (record { few = kept.few; own = kept.own })
+
   abbrev test : ℕ → Bool
   test r = holds ready r || (goes_on && holds returned r)
 

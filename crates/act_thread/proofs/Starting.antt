@@ -14,6 +14,7 @@ use Rattle.device_table.proofs.Lowest.{own_by}
 use Rattle.device_table.proofs.Ranking.{is_ranking}
 use Rattle.device_table.proofs.Tables.{at_device, at_none}
 use Rattle.act_thread.specs.Marked.{AreMarked, IsKept}
+use Rattle.act_thread.proofs.Numbering.{rank_all}
 use Rattle.act_thread.specs.Steps.{idle_row, is_ready, is_returned, active_row}
 use Rattle.act_thread.specs.declared.rows.ThreadRow.{ThreadRow}
 
@@ -51,6 +52,7 @@ module _ (xs : List DeviceDef) where
     few = omega (arith, length_by (λ d. idle_row) xs, few);
     own = own_by (λ d. idle_row) xs distinct;
     ranking = is_ranking xs few;
+    numbered = rank_all (λ d. idle_row) xs;
     ranked = λ d row has. (rank_in xs d, at_device (rank_in xs) xs d (found d row (list_any (is_device d) xs) refl has).0);
     readies = none_marked is_ready ready refl few no_ready;
     returns = none_marked is_returned returned refl few no_returned;

@@ -6,7 +6,7 @@ use Rattle.device_table.specs.Ranks.{IsRanking}
 use Rattle.device_table.specs.RankSets.{holds}
 use Rattle.device_table.specs.Rows.{at, HasOwnKeys}
 use Rattle.act_thread.specs.Steps.{is_ready, is_returned}
-use Rattle.act_thread.specs.Threads.{active_in, held_in}
+use Rattle.act_thread.specs.Threads.{active_in, held_in, rank_at}
 use Rattle.act_thread.specs.declared.rows.ThreadRow.{ThreadRow}
 
 abbrev pub is_rank : ℕ → Option ℕ → Bool
@@ -28,6 +28,7 @@ pub record IsKept (t : List (DevNo × ThreadRow)) (a h : ℕ) (ranks : List (Dev
   pub few : length t ≤ 256
   pub own : HasOwnKeys t
   pub ranking : IsRanking ranks
+  pub numbered : (d : DevNo) → at ranks d ≡ rank_at t d
   pub ranked : (d : DevNo) (row : ThreadRow) → at t d ≡ Some row → (r : ℕ) × (at ranks d ≡ Some r)
   pub readies : AreMarked is_ready t ranks ready
   pub returns : AreMarked is_returned t ranks returned

@@ -1,6 +1,7 @@
 -- The threads of a line: what is read off all rows, and what an entry makes of them.
-use Rattle.std.specs.Prelude.{ℕ, Bool, true, false, not, ◌&&◌, if◌then◌else◌, Option, Some, None}
-use Rattle.std.specs.Prelude.{List}
+use Rattle.std.specs.Prelude.{ℕ, ◌≤◌, Bool, true, false, not, ◌&&◌, if◌then◌else◌, nat_lt, Option}
+use Rattle.std.specs.Prelude.{Some, None, List, length}
+use Rattle.std.specs.List.{sum_by}
 use Rattle.irq_base.specs.declared.devices.Answer.TheVariants as answers
 use Rattle.irq_base.specs.declared.entries.Entry.{Entry}
 use Rattle.irq_base.specs.declared.entries.Entry.TheVariants as by
@@ -9,8 +10,8 @@ use Rattle.irq_base.specs.declared.entries.ThreadEntry.TheVariants as threads
 use Rattle.irq_base.specs.declared.entries.CallEntry.{CallEntry}
 use Rattle.irq_base.specs.declared.entries.CallEntry.TheVariants as called
 use Rattle.irq_base.specs.declared.numbers.DevNo.{DevNo}
-use Rattle.device_table.specs.Rows.{at, change}
-use Rattle.device_table.specs.Sums.{weigh_all, how_many}
+use Rattle.device_table.specs.Rows.{at, has, change, HasOwnKeys}
+use Rattle.device_table.specs.Sums.{one_if, weigh_all, how_many}
 use Rattle.act_thread.specs.Steps.{is_idle_row, finished_by, active_row, woken_row, begun_row}
 use Rattle.act_thread.specs.Steps.{returned_row, finished_row, done_row}
 use Rattle.act_thread.specs.declared.rows.Finished.{Finished}
@@ -32,6 +33,15 @@ row_passes p absent (Some r) = p r
 
 abbrev pub is_idle_at : List (DevNo × ThreadRow) → DevNo → Bool
 is_idle_at t d = row_passes is_idle_row true (at t d)
+
+-- a line has at most 256 devices, and each has one row
+pub record AreRows (t : List (DevNo × ThreadRow)) : Type 0 where
+  pub few : length t ≤ 256
+  pub own : HasOwnKeys t
+
+-- how many of the line's devices have lower numbers than d, which is one of them
+abbrev pub rank_at : List (DevNo × ThreadRow) → DevNo → Option ℕ
+rank_at t d = if has t d then Some (sum_by (λ e. one_if (nat_lt e.0.0 d.0)) t) else None
 
 abbrev pub finish_of : Option ThreadRow → Finished
 finish_of None = finishes.NotDue

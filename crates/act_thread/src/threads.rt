@@ -1,5 +1,6 @@
 //! The threads of a line.
-ghost use Rattle.std.specs.Prelude.{◌≡◌, ℕ, ◌<◌, ◌≤◌, ◌==◌, true, if◌then◌else◌, length, Some};
+ghost use Rattle.std.specs.Prelude.{◌≡◌, ◌↔◌, ℕ, ◌<◌, ◌≤◌, ◌==◌, true, if◌then◌else◌, length};
+ghost use Rattle.std.specs.Prelude.{Some};
 ghost use Rattle.std.specs.Prelude.{IfOk};
 ghost use Rattle.irq_model.specs.Valid.{HasDistinctDevices};
 ghost use Rattle.device_table.specs.Rows.{at, put, change, all_with, lowest_where};
@@ -8,7 +9,7 @@ ghost use Rattle.device_table.specs.RankSets.{holds};
 ghost use Rattle.act_thread.specs.Steps.{woken_row, begun_row, returned_row, finished_row};
 ghost use Rattle.act_thread.specs.Steps.{done_row, could_step, idle_row, is_ready, is_returned};
 ghost use Rattle.act_thread.specs.Threads.{active_in, held_in, is_idle_at, finishes_at};
-ghost use Rattle.act_thread.specs.Threads.{wakes_at, called_at};
+ghost use Rattle.act_thread.specs.Threads.{wakes_at, called_at, rank_at, AreRows};
 ghost use Rattle.act_thread.specs.Marked.{is_rank};
 
 use crate::rows::{Finished, Stage, ThreadRow};
@@ -100,12 +101,22 @@ impl Threads {
     /// The lowest device by number whose thread could step. `goes_on`: a run whose handler has
     /// returned may go on, since the line isn't one-shot or no flow is in progress.
     pub fn lowest(&self, goes_on: bool) -> Option<DevNo>
-        ensures { result ≡ lowest_where (could_step goes_on) self.now }
+        ensures lowest { result ≡ lowest_where (could_step goes_on) self.now }
+        ensures rows { AreRows self.now }
     {
         if self.active == 0 {
             return None;
         }
         let rank = self.ready.first(&self.returned, goes_on)?;
+        self.ranks.device(rank)
+    }
+
+    /// The device of this rank: so many of the line's devices have lower numbers. None if the line
+    /// has no more devices.
+    pub fn device(&self, rank: u32) -> Option<DevNo>
+        ensures device { (d : DevNo) → (result ≡ Some d) ↔ (rank_at self.now d ≡ Some rank) }
+        ensures rows { AreRows self.now }
+    {
         self.ranks.device(rank)
     }
 

@@ -12,7 +12,7 @@ use Rattle.irq_model.specs.Asks.{serves_itself, serving}
 use Rattle.irq_model.specs.Kinds.{same_dev}
 use Rattle.irq_model.specs.Lines.{is_device, kind_in, kind_of, same_part, script_in}
 use Rattle.irq_model.specs.Valid.{HasDistinctDevices}
-use Rattle.irq_steps.proofs.Same.{same_self, same_both}
+use Rattle.irq_model.proofs.Same.{same_self, same_both}
 use Rattle.ask_counts.specs.Facts.{facts_of}
 
 both_none : (a b : Bool) → (a || b) ≡ false → (a ≡ false) × (b ≡ false)

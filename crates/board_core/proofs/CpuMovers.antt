@@ -1,38 +1,44 @@
 -- What the ready actors tell of a processor: the lines on which a take of it is due, its flow, and where it steps.
-use Rattle.std.proofs.Common.{◌≡◌, ℕ, zero, suc, ◌+◌, ◌<◌, ◌==◌, ◌⊎◌, inl, inr, Bool, true, false, ◌&&◌, cond}
-use Rattle.std.proofs.Common.{is_some, nat_lt, IsSome, Option, Some, None, List, [], ◌∷◌, ◌++◌}
+use Rattle.std.proofs.Common.{◌≡◌, ℕ, zero, suc, ◌+◌, ◌<◌, ◌==◌, ◌⊎◌, inl, inr, Bool, true, false, not, ◌&&◌, cond}
+use Rattle.std.proofs.Common.{is_none, is_some, nat_lt, IsSome, Option, Some, None, List, [], ◌∷◌, ◌++◌}
 use Rattle.std.proofs.Common.{map, length, reverse, slice_get, refl, sym, ap, ◌∙◌, subst, arith, eq-eqb}
 use Rattle.std.specs.Option.{option_map}
 use Rattle.std.proofs.Math.ListN.{length-map}
 use Rattle.std.proofs.lemmas.Bool.{lt-ltb, ltb-false}
 use Rattle.std.proofs.lemmas.Bool.Decides.{nat_tests}
 use Rattle.std.proofs.lemmas.Option.{slice_get-map}
+use Rattle.irq_base.specs.Who.{actor_of}
 use Rattle.irq_base.specs.declared.entries.Actor.{Actor}
 use Rattle.irq_base.specs.declared.entries.Actor.TheVariants as actors
 use Rattle.irq_base.specs.declared.entries.Entry.{Entry}
 use Rattle.irq_base.specs.declared.lines.LineDef.{LineDef}
 use Rattle.irq_base.specs.declared.numbers.CpuNo.{CpuNo}
+use Rattle.irq_base.specs.declared.numbers.LineNo.{LineNo}
+use Rattle.irq_model.specs.Kinds.{same_cpu}
+use Rattle.irq_model.specs.Legal.{IsLegalPast}
 use Rattle.irq_model.specs.Next.{next, next_past}
 use Rattle.irq_model.specs.Rounds.{flow, is_cpu}
-use Rattle.irq_steps.proofs.Same.{cpu_from_same}
+use Rattle.irq_model.specs.Valid.{IsValid}
+use Rattle.irq_model.proofs.Same.{cpu_from_same}
 use Rattle.irq_laws.proofs.Chosen.{the_same}
-use Rattle.irq_line.specs.Queries.{IsTaker, is_some_take}
+use Rattle.irq_laws.proofs.Lists.{both_ways}
+use Rattle.irq_line.specs.Queries.{IsTaker, flow_of, is_some_take, spins, spins_at}
 use Rattle.irq_line.specs.Seen.{LineSeen}
 use Rattle.play_laws.specs.Actors.{count_up, IsOneOf, threads_of as threads_of_line, cpus_of as cpus_of_line}
 use Rattle.play_laws.specs.Actors.{drivers_of as drivers_of_line, actors_of as actors_of_line}
 use Rattle.play_laws.proofs.Listed.{mover_listed}
-use Rattle.play_laws.proofs.Moves.{flow_goes_on}
 use Rattle.board_play.specs.Lines.{BoardLine, Move}
 use Rattle.board_play.specs.Order.{line_for, flow_line, due_line, or_line, move_on, due_on, due_move}
-use Rattle.board_play.proofs.Moves.{line_stands}
+use Rattle.board_play.proofs.Moves.{flow_stands}
 use Rattle.board_play.proofs.OfBoard.{def_of_row}
-use Rattle.board_play.proofs.Standstill.{calm_line}
+use Rattle.board_play.proofs.Flows.{flow_after, has_the_flow}
 use Rattle.board_ready.specs.First.{first_of}
-use Rattle.board_ready.specs.Ready.{has_flow, has_take, flow_line as flow_place, take_line, flow_or_take, cpu_line}
-use Rattle.board_ready.specs.Ready.{is_cpu as is_number}
+use Rattle.board_ready.specs.Ready.{has_flow, has_spinner, has_take, flow_line as flow_place, take_line, flow_or_take, cpu_line}
+use Rattle.board_ready.specs.Ready.{is_cpu as is_number, is_cpu_ready, moves_on}
 use Rattle.board_ready.specs.declared.parts.LineReadiness.{LineReadiness}
 use Rattle.board_core.specs.Firsts.{is_take_due}
 use Rattle.board_core.specs.Places.{IsPlace}
+use Rattle.board_core.specs.ReadyFor.{IsReadinessOf}
 use Rattle.board_core.specs.Seen.{board_line, board_lines}
 use Rattle.board_core.proofs.Searches.{first_that, in_flow_of, due_of_cpu, flow_is, due_is, first_place, due_is_take, same_truth, no_flow_at}
 use Rattle.board_core.proofs.InLists.{map_back}
@@ -77,10 +83,25 @@ module _ {view : SystemSeen} (system : KeptSystem view) where
     ]
   ]
 
-  -- a processor for which an entry is due is the board's
+  -- a processor with its flow on a line took there, so it is the line's
+  flow_listed : (def : LineDef) (past : List Entry) (c : CpuNo) → IsValid def → IsLegalPast def past → is_cpu c (flow def past) ≡ true
+      → IsOneOf (actors.Cpu c) (actors_of_line def)
+  flow_listed def [] c valid legal its = absurd cc
+  flow_listed def (e ∷ past) c valid legal its = elim (flow_after def past c e its) [
+    | inl before ↦ flow_listed def past c valid legal.1 before
+    | inr made ↦ subst (λ (a : Actor). IsOneOf a (actors_of_line def)) made (mover_listed def past (actor_of e) e valid legal.1 legal.0)
+  ]
+
+  -- a processor for which an entry is due is the board's, and so is one with its flow on a line
   due_below : (c : CpuNo) (k : ℕ) (x : LineSeen) (e : Entry) → slice_get lines k ≡ Some x → next x.def x.entries (actors.Cpu c) ≡ Some e → c.0 < board.cpus
   due_below c k x e at due =
       let l = only_cpu c x.def (mover_listed x.def (reverse x.entries) (actors.Cpu c) e (valid system k x at) (legal system k x at) due) in
+      let o = def_of_row board k x.def (definition system k x at) in
+      subst (λ (def : LineDef). c.0 < def.cpus) (sym o.is) l
+
+  flow_below : (c : CpuNo) (k : ℕ) (x : LineSeen) → slice_get lines k ≡ Some x → in_flow_of c (board_line x) ≡ true → c.0 < board.cpus
+  flow_below c k x at its =
+      let l = only_cpu c x.def (flow_listed x.def (reverse x.entries) c (valid system k x at) (legal system k x at) its) in
       let o = def_of_row board k x.def (definition system k x at) in
       subst (λ (def : LineDef). c.0 < def.cpus) (sym o.is) l
 
@@ -201,36 +222,85 @@ module _ {view : SystemSeen} (system : KeptSystem view) where
             ∙ (is ∙ ap (λ (o : Option BoardLine). or_line o (due_line (board_lines lines) c)) (sym is)),
       )
 
-  -- on that line something is due of it
-  line_is_due : (c : CpuNo) (y : BoardLine) → line_for board (board_lines lines) (actors.Cpu c) ≡ Some y → IsSome (next_past y.def y.past (actors.Cpu c))
-  line_is_due c y its = by_flow (flow_line (board_lines lines) c) refl its
+  passes : (p : BoardLine → Bool) (ls : List BoardLine) (y : BoardLine) → first_that p ls ≡ Some y → p y ≡ true
+  passes p [] y h = cc
+  passes p (z ∷ zs) y h = by_test (p z) refl h (passes p zs y)
     where
-      passes : (p : BoardLine → Bool) (ls : List BoardLine) → first_that p ls ≡ Some y → p y ≡ true
-      passes p [] h = cc
-      passes p (z ∷ zs) h = by_test (p z) refl h (passes p zs)
-        where
-          by_test : (b : Bool) → p z ≡ b → cond b (Some z) (first_that p zs) ≡ Some y → (first_that p zs ≡ Some y → p y ≡ true) → p y ≡ true
-          by_test true is h deeper = ap p (sym (the_same z y h)) ∙ is
-          by_test false is h deeper = deeper h
+      by_test : (b : Bool) → p z ≡ b → cond b (Some z) (first_that p zs) ≡ Some y → (first_that p zs ≡ Some y → p y ≡ true) → p y ≡ true
+      by_test true is h deeper = ap p (sym (the_same z y h)) ∙ is
+      by_test false is h deeper = deeper h
 
-      flow_due : is_cpu c (flow y.def y.past) ≡ true → IsSome (next_past y.def y.past (actors.Cpu c))
-      flow_due is =
-          let s = line_stands board (board_lines lines) (actors.Cpu c) y its in
-          let r = calm_line board is_board (board_lines lines) kept.system.kept s.place y s.at in
-          flow_goes_on y.def y.past r.runs r.waits c is
-
+  -- on that line something is due of it, unless it has its flow there
+  takes_there : (c : CpuNo) (y : BoardLine) → line_for board (board_lines lines) (actors.Cpu c) ≡ Some y → in_flow_of c y ≡ false → due_of_cpu c y ≡ true
+  takes_there c y its off = by_flow (flow_line (board_lines lines) c) refl its
+    where
       by_flow : (o : Option BoardLine) → flow_line (board_lines lines) c ≡ o
-          → or_line o (due_line (board_lines lines) c) ≡ Some y → IsSome (next_past y.def y.past (actors.Cpu c))
-      by_flow None none its = passes (due_of_cpu c) (board_lines lines) (due_is (board_lines lines) c ∙ its)
-      by_flow (Some z) is its = flow_due (passes (in_flow_of c) (board_lines lines) (flow_is (board_lines lines) c ∙ (is ∙ its)))
+          → or_line o (due_line (board_lines lines) c) ≡ Some y → due_of_cpu c y ≡ true
+      by_flow None none its = passes (due_of_cpu c) (board_lines lines) y (due_is (board_lines lines) c ∙ its)
+      by_flow (Some z) is its =
+          both_ways (in_flow_of c y) (passes (in_flow_of c) (board_lines lines) y (flow_is (board_lines lines) c ∙ (is ∙ its))) off
 
-  due_at_place : (c : CpuNo) (k : ℕ) → IsPlace (board_lines lines) (Some k)
-      (line_for board (board_lines lines) (actors.Cpu c))
-      → (m : Move) × (due_move board (board_lines lines) (actors.Cpu c) ≡ Some m)
-  due_at_place c k place =
+  -- it spins there, if it has its flow there and nothing is due of it
+  spins_told : (c : CpuNo) (x : LineSeen) (told : LineReadiness) → IsReadinessOf x told
+      → has_spinner c.0 (Some told) ≡ (in_flow_of c (board_line x) && not (due_of_cpu c (board_line x)))
+  spins_told c x told is =
+      ap (λ (b : Bool). is_number c.0 (cond b told.flow None)) is.spins
+      ∙ (ap (λ (o : Option CpuNo). is_number c.0 (cond (spins x) o None)) is.flow ∙ by_flow (flow_of x))
+    where
+      next_is : CpuNo → Option Entry
+      next_is g = next_past x.def (reverse x.entries) (actors.Cpu g)
+
+      other_way : (m n : ℕ) → (m == n) ≡ (n == m)
+      other_way m n = grind (arith, nat_tests)
+
+      if_spins : (b : Bool) (g : CpuNo) → is_number c.0 (cond b (Some g) None) ≡ ((g.0 == c.0) && b)
+      if_spins true g = by_same (g.0 == c.0)
+        where
+          by_same : (t : Bool) → t ≡ (t && true)
+          by_same true = refl
+          by_same false = refl
+      if_spins false g = by_same (g.0 == c.0)
+        where
+          by_same : (t : Bool) → false ≡ (t && false)
+          by_same true = refl
+          by_same false = refl
+
+      none_or_some : (o : Option Entry) → is_none o ≡ not (is_some o)
+      none_or_some None = refl
+      none_or_some (Some e) = refl
+
+      its_own : (g : CpuNo) (t : Bool) → same_cpu c g ≡ t → (t && is_none (next_is g)) ≡ (t && not (is_some (next_is c)))
+      its_own g true same = none_or_some (next_is g) ∙ ap (λ (z : CpuNo). not (is_some (next_is z))) (sym (cpu_from_same c g same))
+      its_own g false other = refl
+
+      by_flow : (o : Option CpuNo) → is_number c.0 (cond (spins_at x.def (reverse x.entries) o) o None)
+          ≡ (is_cpu c o && not (due_of_cpu c (board_line x)))
+      by_flow None = refl
+      by_flow (Some g) =
+          if_spins (is_none (next_is g)) g
+          ∙ (ap (λ (b : Bool). b && is_none (next_is g)) (other_way g.0 c.0) ∙ its_own g (same_cpu c g) refl)
+
+  -- so it moves there exactly if it doesn't spin
+  moves_at : (c : CpuNo) (k : ℕ) → IsPlace (board_lines lines) (Some k) (line_for board (board_lines lines) (actors.Cpu c))
+      → is_some (due_move board (board_lines lines) (actors.Cpu c)) ≡ not (has_spinner c.0 (slice_get ready.lines k))
+  moves_at c k place =
       let y = some_of (line_for board (board_lines lines) (actors.Cpu c)) place.0 in
-      let e = some_of (next_past y.0.def y.0.past (actors.Cpu c)) (line_is_due c y.0 y.1) in
-      ((y.0.def.line, e.0), ap (λ (o : Option BoardLine). due_on o (actors.Cpu c)) y.1 ∙ ap (λ (o : Option Entry). move_on y.0.def.line o) e.1)
+      let x = map_back board_line lines k y.0 (place.1 ∙ y.1) in
+      let p = part_of system k x.0 x.1 in
+      ap (λ (o : Option BoardLine). is_some (due_on o (actors.Cpu c))) y.1
+      ∙ (moved y.0.def.line (next_past y.0.def y.0.past (actors.Cpu c))
+      ∙ (by_flow (in_flow_of c y.0) (due_of_cpu c y.0) (takes_there c y.0 y.1)
+      ∙ ap not (sym (ap (λ (o : Option LineReadiness). has_spinner c.0 o) p.1 ∙ (spins_told c x.0 p.0 p.2
+      ∙ ap (λ (z : BoardLine). in_flow_of c z && not (due_of_cpu c z)) x.2)))))
+    where
+      moved : (line : LineNo) (o : Option Entry) → is_some (move_on line o) ≡ is_some o
+      moved line None = refl
+      moved line (Some e) = refl
+
+      by_flow : (f d : Bool) → (f ≡ false → d ≡ true) → d ≡ not (f && not d)
+      by_flow true true h = refl
+      by_flow true false h = refl
+      by_flow false d h = h refl
 
   -- the line of its flow
   pub flow_there : (c : CpuNo) (o : Option ℕ) → o ≡ cond (nat_lt c.0 32) (flow_place ready.lines c.0) None
@@ -240,12 +310,10 @@ module _ {view : SystemSeen} (system : KeptSystem view) where
       no_flow : nat_lt c.0 32 ≡ false → (z : Option BoardLine) → flow_line (board_lines lines) c ≡ z → flow_line (board_lines lines) c ≡ None
       no_flow high None is = is
       no_flow high (Some y) is =
-          let its : line_for board (board_lines lines) (actors.Cpu c) ≡ Some y = ap (λ (x : Option BoardLine). or_line x (due_line (board_lines lines) c)) is in
-          let e = some_of (next_past y.def y.past (actors.Cpu c)) (line_is_due c y its) in
-          let move : due_move board (board_lines lines) (actors.Cpu c)
-          ≡ Some (y.def.line, e.0) = ap (λ (x : Option BoardLine). due_on x (actors.Cpu c)) its
-          ∙ ap (λ (x : Option Entry). move_on y.def.line x) e.1 in
-          absurd (let l = few_cpus c (y.def.line, e.0) move in let f = is_board.few_cpus in let h = ltb-false c.0 32 high in omega (arith, l, f, h))
+          let s = flow_stands (board_lines lines) c y is in
+          let x = map_back board_line lines s.place y s.at in
+          let its = ap (λ (z : BoardLine). in_flow_of c z) x.2 ∙ has_the_flow (board_lines lines) c y is in
+          absurd (let l = flow_below c s.place x.0 x.1 its in let f = is_board.few_cpus in let h = ltb-false c.0 32 high in omega (arith, l, f, h))
 
       by_number : (b : Bool) → nat_lt c.0 32 ≡ b → o ≡ cond b (flow_place ready.lines c.0) None
           → IsPlace (board_lines lines) o (flow_line (board_lines lines) c)
@@ -257,14 +325,14 @@ module _ {view : SystemSeen} (system : KeptSystem view) where
   abbrev CpuStands : CpuNo → Option ℕ → Type 0
   CpuStands c None = due_move board (board_lines lines) (actors.Cpu c) ≡ None
   CpuStands c (Some k) = IsPlace (board_lines lines) (Some k) (line_for board (board_lines lines) (actors.Cpu c))
-      × ((m : Move) × (due_move board (board_lines lines) (actors.Cpu c) ≡ Some m))
+      × (is_some (due_move board (board_lines lines) (actors.Cpu c)) ≡ not (has_spinner c.0 (slice_get ready.lines k)))
 
   pub cpu_stands : (c : CpuNo) (o : Option ℕ) → o ≡ cpu_line ready.lines c.0 → CpuStands c o
   cpu_stands c o is = subst (λ (x : Option ℕ). CpuStands c x) (sym is) (by_number (nat_lt c.0 32) refl)
     where
       of_place : (o : Option ℕ) → IsPlace (board_lines lines) o (line_for board (board_lines lines) (actors.Cpu c)) → CpuStands c o
       of_place None place = ap (λ (o : Option BoardLine). due_on o (actors.Cpu c)) place
-      of_place (Some k) place = (place, due_at_place c k place)
+      of_place (Some k) place = (place, moves_at c k place)
 
       too_high : nat_lt c.0 32 ≡ false → (o : Option Move) → due_move board (board_lines lines) (actors.Cpu c) ≡ o → o ≡ None
       too_high high None due = refl
@@ -274,3 +342,19 @@ module _ {view : SystemSeen} (system : KeptSystem view) where
       by_number true low = of_place (flow_or_take (flow_place ready.lines c.0) (take_line ready.lines c.0))
           (cpu_place c (flow_place ready.lines c.0) (take_line ready.lines c.0) refl refl)
       by_number false high = too_high high (due_move board (board_lines lines) (actors.Cpu c)) refl
+
+  -- the ready actors tell whether it can move
+  pub cpu_ready_is : (c : CpuNo) → is_cpu_ready ready.lines c.0 ≡ is_some (due_move board (board_lines lines) (actors.Cpu c))
+  cpu_ready_is c = by_line (cpu_line ready.lines c.0) (cpu_stands c (cpu_line ready.lines c.0) refl)
+    where
+      by_line : (o : Option ℕ) → CpuStands c o → moves_on ready.lines c.0 o ≡ is_some (due_move board (board_lines lines) (actors.Cpu c))
+      by_line None none = sym (ap (λ (m : Option Move). is_some m) none)
+      by_line (Some k) stands = sym stands.1
+
+  -- who can move has a line
+  pub ready_line : (c : CpuNo) → is_cpu_ready ready.lines c.0 ≡ true → (k : ℕ) × (cpu_line ready.lines c.0 ≡ Some k)
+  ready_line c is = by_line (cpu_line ready.lines c.0) refl is
+    where
+      by_line : (o : Option ℕ) → cpu_line ready.lines c.0 ≡ o → moves_on ready.lines c.0 o ≡ true → (k : ℕ) × (cpu_line ready.lines c.0 ≡ Some k)
+      by_line None at is = absurd cc
+      by_line (Some k) at is = (k, at)

@@ -7,7 +7,7 @@ use Rattle.irq_base.specs.declared.numbers.DriverNo.{DriverNo}
 use Rattle.irq_base.specs.declared.numbers.LineNo.{LineNo}
 use Rattle.irq_model.specs.Due.{calls_by}
 use Rattle.irq_model.specs.Kinds.{same_line, same_driver}
-use Rattle.irq_steps.proofs.Same.{line_from_same, same_self_line}
+use Rattle.irq_model.proofs.Same.{line_from_same, same_self_line}
 use Rattle.irq_laws.proofs.Chosen.{the_same}
 use Rattle.irq_laws.proofs.Lists.{both_ways}
 use Rattle.board_def.specs.LineOf.{with_driver}

@@ -9,7 +9,7 @@ use Rattle.irq_base.specs.declared.numbers.DriverNo.{DriverNo}
 use Rattle.irq_base.specs.declared.numbers.LineNo.{LineNo}
 use Rattle.irq_laws.proofs.Chosen.{the_same}
 use Rattle.irq_model.specs.Kinds.{same_driver, same_line}
-use Rattle.irq_steps.proofs.Same.{driver_from_same, same_self_driver, line_from_same}
+use Rattle.irq_model.proofs.Same.{driver_from_same, same_self_driver, line_from_same}
 use Rattle.std.proofs.lemmas.Bool.{false_from_ne_true}
 use Rattle.std.proofs.lemmas.Option.{slice_get-get_or, slice_get_within}
 use Rattle.board_def.specs.Rules.{IsBoard}

@@ -5,7 +5,7 @@ use Rattle.irq_base.specs.declared.devices.Run.{Run}
 use Rattle.irq_base.specs.declared.lines.LineDef.{LineDef}
 use Rattle.irq_base.specs.declared.numbers.LineNo.{LineNo}
 use Rattle.irq_model.specs.Kinds.{same_line}
-use Rattle.irq_steps.proofs.Same.{line_from_same}
+use Rattle.irq_model.proofs.Same.{line_from_same}
 use Rattle.callbacks.specs.Heard.{Heard, one_run}
 use Rattle.callbacks.specs.Seen.{answer_to}
 use Rattle.irq_line.specs.Given.{AreGiven}

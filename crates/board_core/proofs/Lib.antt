@@ -34,3 +34,4 @@ pub mod OwnScripts
 pub mod CutCounts
 pub mod Placed
 pub mod PlacedSystem
+pub mod HungLines

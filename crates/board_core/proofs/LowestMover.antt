@@ -14,7 +14,7 @@ use Rattle.irq_base.specs.declared.numbers.DevNo.{DevNo}
 use Rattle.irq_base.specs.declared.numbers.DriverNo.{DriverNo}
 use Rattle.irq_base.specs.declared.numbers.LineNo.{LineNo}
 use Rattle.irq_model.specs.Lines.{is_device}
-use Rattle.irq_steps.proofs.Same.{dev_from_same}
+use Rattle.irq_model.proofs.Same.{dev_from_same}
 use Rattle.irq_laws.proofs.Chosen.{the_same}
 use Rattle.irq_line.specs.Seen.{LineSeen}
 use Rattle.play_laws.specs.Actors.{count_up}
@@ -37,7 +37,7 @@ use Rattle.board_core.specs.Scripts.{ScriptSeen}
 use Rattle.board_core.specs.Seen.{board_lines}
 use Rattle.board_core.proofs.Movers.{some_of, none_of, not_both, first_append, first_there, none_there, thread_ready}
 use Rattle.board_core.proofs.Movers.{line_of, thread_device_of, driver_can}
-use Rattle.board_core.proofs.CpuMovers.{few_cpus, cpu_stands}
+use Rattle.board_core.proofs.CpuMovers.{few_cpus, cpu_ready_is, ready_line}
 use Rattle.board_core.proofs.InLists.{map_there, map_back}
 use Rattle.board_core.specs.Seen.{SystemSeen}
 use Rattle.board_core.proofs.Kept.{KeptSystem}
@@ -244,7 +244,7 @@ module _ {view : SystemSeen} (system : KeptSystem view) where
   -- ---- processors
 
   not_ready : (c : ℕ) → is_cpu_ready ready.lines c ≡ false → due (actors.Cpu (record { 0 = c })) ≡ None
-  not_ready c none = cpu_stands system (record { 0 = c }) None (sym (none_of (cpu_line ready.lines c) none))
+  not_ready c none = none_of (due (actors.Cpu (record { 0 = c }))) (sym (cpu_ready_is system (record { 0 = c })) ∙ none)
 
   pub no_cpu : lowest_cpu ready.lines ≡ None → None_of (cpus_of board)
   unfolding lowest_cpu
@@ -258,20 +258,19 @@ module _ {view : SystemSeen} (system : KeptSystem view) where
   unfolding lowest_cpu
   cpu_first c low =
       let f = first_some (is_cpu_ready ready.lines) 32 c.0 low in
-      let k = some_of (cpu_line ready.lines c.0) f.1 in
-      let h = cpu_stands system c (Some k.0) (sym k.1) in
-      let few = few_cpus system c h.1.0 h.1.1 in
+      let h = some_of (due (actors.Cpu c)) (sym (cpu_ready_is system c) ∙ f.1) in
+      let few = few_cpus system c h.0 h.1 in
       let at : slice_get (cpus_of board) c.0 ≡ Some (actors.Cpu c) = count_at 0 board.cpus c.0 few
       ∙ ap (λ (n : ℕ). Some (actors.Cpu (record { 0 = n }))) (let e : 0 + c.0 ≡ c.0 = omega arith in e) in (
         record {
           place = c.0;
           at = at;
-          move = h.1.0;
-          due_is = h.1.1;
+          move = h.0;
+          due_is = h.1;
           before = λ j a less at_a. (let b = count_back 0 board.cpus j a at_a in
               subst (λ (x : Actor). due x ≡ None) b.1 (not_ready (0 + j) (f.2 (0 + j) (omega (arith, less)))));
         },
-        k,
+        ready_line system c f.1,
       )
 
   pub lowest_is_cpu : (c : CpuNo) → lowest_thread ready.lines ≡ None → lowest_cpu ready.lines ≡ Some c.0

@@ -13,7 +13,7 @@ use Rattle.std.proofs.Math.ListN.{length-map}
 use Rattle.std.proofs.lemmas.Option.{slice_get-map, slice_get_read, slice_get_within}
 use Rattle.irq_line.specs.Seen.{LineSeen, IsSound}
 use Rattle.irq_model.specs.Due.{calls_by, due_of, due_call}
-use Rattle.irq_steps.proofs.Same.{line_from_same, same_self_line}
+use Rattle.irq_model.proofs.Same.{line_from_same, same_self_line}
 use Rattle.irq_laws.proofs.Progress.{fresh}
 use Rattle.board_def.specs.Rules.{IsBoard}
 use Rattle.board_def.specs.Seen.{BoardSeen}

@@ -16,7 +16,7 @@ use Rattle.irq_model.specs.Due.{calls_by, due_call}
 use Rattle.irq_model.specs.Kinds.{same_driver, is_driver, is_by_driver}
 use Rattle.irq_model.specs.Legal.{IsDue}
 use Rattle.irq_model.specs.Next.{next_of_driver, next_past}
-use Rattle.irq_steps.proofs.Same.{driver_from_same, same_self_driver}
+use Rattle.irq_model.proofs.Same.{driver_from_same, same_self_driver}
 use Rattle.irq_laws.proofs.Chosen.{the_same}
 use Rattle.irq_laws.proofs.Progress.{fresh}
 use Rattle.board_def.proofs.Rising.{Rises}

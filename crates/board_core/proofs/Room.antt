@@ -4,7 +4,7 @@ use Rattle.std.proofs.Common.{Some, List, [], ◌∷◌, length, refl, sym, ap, 
 use Rattle.std.proofs.Common.{arith}
 use Rattle.irq_base.specs.declared.numbers.LineNo.{LineNo}
 use Rattle.irq_model.specs.Kinds.{same_line}
-use Rattle.irq_steps.proofs.Same.{line_from_same, same_self_line}
+use Rattle.irq_model.proofs.Same.{line_from_same, same_self_line}
 use Rattle.irq_laws.proofs.Lists.{both_ways}
 use Rattle.irq_line.specs.Seen.{LineSeen}
 use Rattle.board_def.specs.Seen.{BoardSeen}

@@ -10,7 +10,7 @@ use Rattle.irq_base.specs.declared.numbers.LineNo.{LineNo}
 use Rattle.irq_model.specs.Due.{calls_by, due_call}
 use Rattle.irq_model.specs.Kinds.{same_line, same_driver, is_by_driver}
 use Rattle.irq_model.specs.Next.{next_of_driver, next_past}
-use Rattle.irq_steps.proofs.Same.{same_self_line}
+use Rattle.irq_model.proofs.Same.{same_self_line}
 use Rattle.irq_laws.proofs.Chosen.{the_same}
 use Rattle.board_def.specs.LineOf.{with_driver}
 use Rattle.board_def.specs.declared.rows.ScriptCall.{ScriptCall}

@@ -1,5 +1,5 @@
 -- Where an actor steps, as a system answers it.
-use Rattle.std.proofs.Common.{◌≡◌, ℕ, suc, ◌==◌, inl, inr, true, false, is_some, Option, Some, None, List, [], ◌∷◌, Result}
+use Rattle.std.proofs.Common.{◌≡◌, ℕ, suc, ◌==◌, inl, inr, Bool, true, false, cond, is_some, IfSome, Option, Some, None, List, [], ◌∷◌, Result}
 use Rattle.std.proofs.Common.{map, slice_get, refl, sym, ap, ◌∙◌, subst, eq-eqb}
 use Rattle.std.proofs.lemmas.Bool.{leb-true, le-leb, or_cases}
 use Rattle.irq_line.specs.declared.answers.StepRefused.{StepRefused}
@@ -12,19 +12,19 @@ use Rattle.irq_base.specs.declared.numbers.DevNo.{DevNo}
 use Rattle.irq_base.specs.declared.numbers.DriverNo.{DriverNo}
 use Rattle.irq_base.specs.declared.numbers.LineNo.{LineNo}
 use Rattle.irq_model.specs.Next.{next}
-use Rattle.irq_steps.proofs.Same.{line_from_same, driver_from_same}
+use Rattle.irq_model.proofs.Same.{line_from_same, driver_from_same}
 use Rattle.irq_laws.proofs.Lists.{both_ways}
 use Rattle.irq_line.specs.Queries.{IsLowestThread}
 use Rattle.irq_line.specs.Seen.{LineSeen}
 use Rattle.board_def.specs.Rules.{find_device, has_driver}
 use Rattle.board_play.specs.Current.{current_line}
 use Rattle.board_play.specs.Lines.{BoardLine, Move, find_line}
-use Rattle.board_play.specs.Order.{device_line, line_for, move_on, due_on, due_move}
+use Rattle.board_play.specs.Order.{device_line, due_line, flow_line, line_for, move_on, or_line, due_on, due_move}
 use Rattle.board_play.proofs.KeptAlways.{apart_kept}
 use Rattle.board_play.proofs.Members.{AreApart, find_there, found}
-use Rattle.board_play.proofs.Moves.{line_stands}
+use Rattle.board_play.proofs.Moves.{flow_stands, line_stands}
 use Rattle.board_play.proofs.Script.{current}
-use Rattle.board_ready.specs.Ready.{cpu_line, can_go_on, current_call, is_driver_ready, lowest}
+use Rattle.board_ready.specs.Ready.{cpu_line, is_cpu_ready, moving_line, can_go_on, current_call, is_driver_ready, lowest}
 use Rattle.board_ready.specs.declared.parts.CurrentCall.{CurrentCall}
 use Rattle.board_ready.specs.declared.parts.LineReadiness.{LineReadiness}
 use Rattle.board_core.specs.Inside.{seen_of}
@@ -40,7 +40,7 @@ use Rattle.board_core.specs.declared.turns.Turn.{Turn}
 use Rattle.board_core.specs.declared.stands.Stand.{Stand}
 use Rattle.board_core.proofs.LowestMover.{script_of, current_is, driver_ready_is}
 use Rattle.board_core.proofs.Movers.{some_of, none_of, some_with, not_both, somebody, line_of_due, thread_moves, script_place}
-use Rattle.board_core.proofs.CpuMovers.{cpu_stands}
+use Rattle.board_core.proofs.CpuMovers.{cpu_ready_is, cpu_stands, ready_line}
 use Rattle.board_core.proofs.InLists.{map_there, map_back}
 use Rattle.board_core.proofs.Kept.{KeptSystem}
 
@@ -52,23 +52,33 @@ module _ {view : SystemSeen} (system : KeptSystem view) where
 
   -- ---- processors
 
-  pub cpu_there : (c : CpuNo) (k : ℕ) (stand : Stand) → Some k ≡ cpu_line parts.ready.lines c.0
+  moving : (r : Bool) (o : Option ℕ) (k : ℕ) → Some k ≡ cond r o None → (r ≡ true) × (Some k ≡ o)
+  moving true o k is = (refl, is)
+  moving false o k is = absurd cc
+
+  pub cpu_there : (c : CpuNo) (k : ℕ) (stand : Stand) → Some k ≡ moving_line parts.ready.lines c.0
       → stand ≡ record { line = k; script = None } → IsStand view (actors.Cpu c) (Some stand)
   cpu_there c k stand at same =
-      let h = cpu_stands system c (Some k) at in
-      let some = ap (λ (o : Option _). is_some o) h.1.1 in
+      let v = moving (is_cpu_ready parts.ready.lines c.0) (cpu_line parts.ready.lines c.0) k at in
+      let h = cpu_stands system c (Some k) v.1 in
+      let some = sym (cpu_ready_is system c) ∙ v.0 in
+      let m = some_of (due_move board (board_lines lines) (actors.Cpu c)) some in
       subst (λ (s : SystemSeen). IsStand s (actors.Cpu c) (Some stand)) view_is
       (subst (λ (t : Stand). IsStand seen (actors.Cpu c) (Some t)) (sym same) (
         record { line = h.0; script = tt },
-        record {
-          actor = some;
-          somebody
-              = somebody system (actors.Cpu c) h.1.0 h.1.1;
-        },
+        record { actor = some; somebody = somebody system (actors.Cpu c) m.0 m.1 },
       ))
 
-  pub cpu_nowhere : (c : CpuNo) → None ≡ cpu_line parts.ready.lines c.0 → IsStand view (actors.Cpu c) None
-  cpu_nowhere c at = subst (λ (s : SystemSeen). IsStand s (actors.Cpu c) None) view_is (cpu_stands system c None at)
+  pub cpu_nowhere : (c : CpuNo) → None ≡ moving_line parts.ready.lines c.0 → IsStand view (actors.Cpu c) None
+  cpu_nowhere c at = subst (λ (s : SystemSeen). IsStand s (actors.Cpu c) None) view_is (by_ready (is_cpu_ready parts.ready.lines c.0) refl at)
+    where
+      by_ready : (r : Bool) → is_cpu_ready parts.ready.lines c.0 ≡ r → None ≡ cond r (cpu_line parts.ready.lines c.0) None
+          → due_move board (board_lines lines) (actors.Cpu c) ≡ None
+      by_ready true is none = let k = ready_line system c is in absurd (not_both (cpu_line parts.ready.lines c.0) k.0 (sym none) k.1)
+      by_ready false is none = none_of (due_move board (board_lines lines) (actors.Cpu c)) (sym (cpu_ready_is system c) ∙ is)
+
+  pub cpu_can_move : (c : CpuNo) → is_cpu_ready parts.ready.lines c.0 ≡ is_some (move_of view (actors.Cpu c))
+  cpu_can_move c = subst (λ (s : SystemSeen). is_cpu_ready parts.ready.lines c.0 ≡ is_some (move_of s (actors.Cpu c))) view_is (cpu_ready_is system c)
 
   -- ---- threads
 
@@ -283,7 +293,14 @@ module _ {view : SystemSeen} (system : KeptSystem view) where
       ))
     where
       is_current : (a : Actor) → IsCurrentOn seen line a → slice_get (board_lines lines) k ≡ find_line (board_lines lines) line → IsCurrentAt seen a k
-      is_current (actors.Cpu c) cur place = tt
+      is_current (actors.Cpu c) cur place = its_flow (flow_line (board_lines lines) c) refl cur
+        where
+          its_flow : (o : Option BoardLine) → flow_line (board_lines lines) c ≡ o → IfSome o (λ y. y.def.line ≡ line)
+              → IfSome o (λ y. slice_get (board_lines lines) k ≡ Some y)
+          its_flow None is cur = tt
+          its_flow (Some y) is cur =
+              let s = flow_stands (board_lines lines) c y is in
+              place ∙ (ap (λ (l : LineNo). find_line (board_lines lines) l) (sym cur) ∙ find_there (board_lines lines) apart s.place y s.at)
       is_current (actors.Thread d) cur place = tt
       is_current (actors.Driver r) cur place =
           let y = some_with (λ z. z.def.line ≡ line) (current_line board.calls (board_lines lines) r) cur in
@@ -320,7 +337,11 @@ can_step s a stand at = record { line = ap (λ (o : Option BoardLine). is_some o
   where
     by_actor : (a : Actor) → IsPlace (board_lines s.lines) (Some stand.line) (line_for s.board (board_lines s.lines) a) → IsCurrentAt s a stand.line
     by_actor (actors.Driver r) place = sym place.1
-    by_actor (actors.Cpu c) place = tt
+    by_actor (actors.Cpu c) place = its_flow (flow_line (board_lines s.lines) c) refl
+      where
+        its_flow : (o : Option BoardLine) → flow_line (board_lines s.lines) c ≡ o → IfSome o (λ y. slice_get (board_lines s.lines) stand.line ≡ Some y)
+        its_flow None is = tt
+        its_flow (Some y) is = place.1 ∙ ap (λ (o : Option BoardLine). or_line o (due_line (board_lines s.lines) c)) is
     by_actor (actors.Thread d) place = tt
 
 pub steps_by_move : (old new : SystemSeen) (a : Actor) (stand : Stand) (turn : Result Turn StepRefused) → IsAt old a stand

@@ -1,5 +1,5 @@
 -- What a turn makes of a system.
-use Rattle.std.proofs.Common.{◌≡◌, ℕ, ◌<◌, inl, inr, Bool, true, false, IsSome, IsSomeAnd, Option}
+use Rattle.std.proofs.Common.{◌≡◌, ℕ, ◌<◌, inl, inr, Bool, true, false, IsSome, IsSomeAnd, IfSome, Option}
 use Rattle.std.proofs.Common.{Some, None, Result, Ok, Err, List, [], ◌∷◌, ◌++◌, map, length, reverse, slice_get}
 use Rattle.std.proofs.Common.{slice_set, refl, sym, ap, ◌∙◌, subst, arith}
 use Rattle.std.proofs.lemmas.List.{map-set, reverse-append, length-reverse}
@@ -16,14 +16,14 @@ use Rattle.irq_line.specs.declared.answers.Stepped.TheVariants as stepped
 use Rattle.irq_line.specs.declared.answers.StepRefused.TheVariants as refusals
 use Rattle.irq_model.specs.Kinds.{same_driver, is_driver, is_by_driver}
 use Rattle.irq_model.specs.Next.{next}
-use Rattle.irq_steps.proofs.Same.{driver_from_same, same_self_driver}
+use Rattle.irq_model.proofs.Same.{driver_from_same, same_self_driver}
 use Rattle.irq_laws.proofs.Chosen.{the_same}
 use Rattle.irq_laws.proofs.OwnLaws.{due_is_own_past}
 use Rattle.std.proofs.lemmas.Bool.{false_from_ne_true}
 use Rattle.board_def.proofs.Rising.{Rises}
 use Rattle.board_play.specs.Kept.{AreKept}
 use Rattle.board_play.specs.Lines.{BoardLine, Move, find_line, lines_after}
-use Rattle.board_play.specs.Order.{line_for, move_on, due_on}
+use Rattle.board_play.specs.Order.{flow_line, line_for, move_on, due_on}
 use Rattle.board_play.proofs.KeptAlways.{apart_kept}
 use Rattle.board_play.proofs.Listed.{def_at}
 use Rattle.board_play.proofs.Members.{AreApart, find_there}
@@ -72,11 +72,15 @@ module _ (L : Type 0) {view : SystemSeen} (system : KeptSystem view) {a : Actor}
   move_is : (x : LineSeen) → slice_get lines k ≡ Some x → (o : Option Entry) → next x.def x.entries a ≡ o → due_here ≡ move_on x.def.line o
   move_is x at o due = ap (λ (l : Option BoardLine). due_on l a) (line_is x at) ∙ ap (λ (o : Option Entry). move_on x.def.line o) due
 
-  -- a driver is on its line
+  -- a driver is on its line, and a processor with a flow on that
   current_as : (b : Actor) {x : BoardLine} → slice_get (board_lines lines) k ≡ Some x
       → IsCurrentAt seen b k → IsCurrentOf board (board_lines lines) b x
   current_as (actors.Driver r) at cur = cur ∙ at
-  current_as (actors.Cpu c) at cur = tt
+  current_as (actors.Cpu c) {x} at cur = its_flow (flow_line (board_lines lines) c) cur
+    where
+      its_flow : (o : Option BoardLine) → IfSome o (λ y. slice_get (board_lines lines) k ≡ Some y) → IfSome o (λ y. y ≡ x)
+      its_flow None cur = tt
+      its_flow (Some y) cur = the_same y x (sym cur ∙ at)
   current_as (actors.Thread d) at cur = tt
 
   log_is : (x : LineSeen) → slice_get lines k ≡ Some x → x.def.log ≡ board.log

@@ -17,3 +17,4 @@ pub mod Making
 pub mod Placing
 pub mod Runs
 pub mod Settled
+pub mod Hung

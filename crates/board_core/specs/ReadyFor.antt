@@ -4,7 +4,7 @@ use Rattle.std.specs.Prelude.{◌≡◌, ℕ, Bool, false, nat_le, IsSomeAnd, Op
 use Rattle.std.specs.Prelude.{length, slice_get}
 use Rattle.irq_base.specs.declared.numbers.DevNo.{DevNo}
 use Rattle.irq_laws.specs.Blocks.{block_of}
-use Rattle.irq_line.specs.Queries.{IsTaker, IsLowestThread, flow_of, blocks_of}
+use Rattle.irq_line.specs.Queries.{IsTaker, IsLowestThread, flow_of, blocks_of, spins}
 use Rattle.irq_line.specs.Seen.{LineSeen}
 use Rattle.board_ready.specs.Seen.{ReadySeen}
 use Rattle.board_ready.specs.declared.parts.CurrentCall.{CurrentCall}
@@ -16,6 +16,7 @@ use Rattle.board_core.specs.declared.scripts.PlacedCall.{PlacedCall}
 pub record IsReadinessOf (x : LineSeen) (told : LineReadiness) : Type 0 where
   pub thread : IsLowestThread x told.thread
   pub flow : told.flow ≡ flow_of x
+  pub spins : told.spins ≡ spins x
   pub taker : IsTaker x told.taker
   pub blocks : told.blocks ≡ blocks_of x
 

@@ -1,11 +1,11 @@
 -- Where an actor steps, if it can.
-use Rattle.std.specs.Prelude.{◌≡◌, ℕ, IsSome, IsSomeAnd, Option, Some, None, slice_get}
+use Rattle.std.specs.Prelude.{◌≡◌, ℕ, IsSome, IsSomeAnd, IfSome, Option, Some, None, slice_get}
 use Rattle.irq_base.specs.declared.entries.Actor.{Actor}
 use Rattle.irq_base.specs.declared.entries.Actor.TheVariants as actors
 use Rattle.irq_base.specs.declared.numbers.LineNo.{LineNo}
 use Rattle.board_play.specs.Current.{current_line}
 use Rattle.board_play.specs.Lines.{find_line}
-use Rattle.board_play.specs.Order.{line_for}
+use Rattle.board_play.specs.Order.{flow_line, line_for}
 use Rattle.board_core.specs.Places.{IsPlace}
 use Rattle.board_core.specs.Seen.{SystemSeen, board_lines}
 use Rattle.board_core.specs.Turned.{IsScriptOf}
@@ -18,11 +18,14 @@ pub record IsAt (s : SystemSeen) (a : Actor) (stand : Stand) : Type 0 where
       (line_for s.board (board_lines s.lines) a)
   pub script : IsScriptOf s.board.drivers a stand.script
 
--- a driver's current call is on the line at place k; a thread and a processor may step anywhere
+-- a driver's current call is on the line at place k, and a processor that has a flow has it there;
+-- a thread may step anywhere
 abbrev pub IsCurrentAt : SystemSeen → Actor → ℕ → Type 0
 IsCurrentAt s (actors.Driver r) k =
     current_line s.board.calls (board_lines s.lines) r ≡ slice_get (board_lines s.lines) k
-IsCurrentAt s _ k = Unit {0}
+IsCurrentAt s (actors.Cpu c) k =
+    IfSome (flow_line (board_lines s.lines) c) (λ x. slice_get (board_lines s.lines) k ≡ Some x)
+IsCurrentAt s (actors.Thread d) k = Unit {0}
 
 -- the stand's line is there, the actor may step on it, and the stand's script is the actor's own
 pub record CanStepAt (s : SystemSeen) (a : Actor) (stand : Stand) : Type 0 where
@@ -30,11 +33,14 @@ pub record CanStepAt (s : SystemSeen) (a : Actor) (stand : Stand) : Type 0 where
   pub current : IsCurrentAt s a stand.line
   pub script : IsScriptOf s.board.drivers a stand.script
 
--- a driver's current call is on the line of this number; a thread and a processor may step anywhere
+-- a driver's current call is on the line of this number, and a processor that has a flow has it
+-- there; a thread may step anywhere
 abbrev pub IsCurrentOn : SystemSeen → LineNo → Actor → Type 0
 IsCurrentOn s line (actors.Driver r) =
     IsSomeAnd (current_line s.board.calls (board_lines s.lines) r) (λ x. x.def.line ≡ line)
-IsCurrentOn s line _ = Unit {0}
+IsCurrentOn s line (actors.Cpu c) =
+    IfSome (flow_line (board_lines s.lines) c) (λ x. x.def.line ≡ line)
+IsCurrentOn s line (actors.Thread d) = Unit {0}
 
 -- where the actor may move; none if it can't
 abbrev pub IsStand : SystemSeen → Actor → Option Stand → Type 0

@@ -7,6 +7,7 @@
 //! time whether one actor waits or three hundred.
 #![tactic(auto)]
 
+pub mod ends;
 pub mod making;
 pub mod moves;
 pub mod numbers;
@@ -19,6 +20,7 @@ pub mod system;
 pub mod turning;
 pub mod turns;
 
+pub use ends::PlayEnd;
 pub use making::make_lines;
 pub use moves::{MovePlace, Moves};
 pub use system::System;

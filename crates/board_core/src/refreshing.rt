@@ -81,6 +81,7 @@ fn readiness_of<L: IrqLine>(line: &L) -> LineReadiness
     LineReadiness {
         thread: line.lowest_thread(),
         flow: line.in_flow(),
+        spins: line.spins(),
         taker: line.taker(),
         blocks: line.blocks(),
     }

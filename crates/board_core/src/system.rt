@@ -1,6 +1,6 @@
 //! The lines of a board, and their moves.
 ghost use Rattle.std.specs.Prelude.{◌≡◌, ◌<◌, ◌++◌, ℕ, List, [], IfOk, length, map, reverse};
-ghost use Rattle.std.specs.Prelude.{slice_get};
+ghost use Rattle.std.specs.Prelude.{is_some, slice_get};
 ghost use Rattle.std.specs.Option.{option_map};
 ghost use Rattle.irq_base.specs.declared.entries.Actor.{Actor};
 ghost use Rattle.irq_base.specs.declared.entries.Actor.TheVariants as actors;
@@ -330,12 +330,20 @@ impl<'b, L: IrqLine> System<'b, L> {
         }
     }
 
-    /// Where the processor steps.
+    /// Whether the processor can move: its line has an entry due of it.
+    pub fn can_cpu_move(&self, cpu: CpuNo) -> bool
+        ensures { result ≡ is_some (move_of self.now (actors.Cpu cpu)) }
+    {
+        self.board.is_board();
+        self.ready.is_ready(ReadyActor::Cpu(cpu))
+    }
+
+    /// Where the processor steps: nowhere while it spins.
     fn cpu_stand(&self, cpu: CpuNo) -> Option<Stand>
         ensures { IsStand self.now (actors.Cpu cpu) result }
     {
         self.board.is_board();
-        match self.ready.cpu_line(cpu) {
+        match self.ready.moving_line(cpu) {
             Some(k) => Some(Stand {
                 line: k,
                 script: None,
@@ -406,7 +414,8 @@ impl<'b, L: IrqLine> System<'b, L> {
     }
 
     /// One step of the actor on this line, whichever line it would step on in a turn; a driver's
-    /// current call is on it. `NotYet` if the line takes no part. So the plays of other scenarios
+    /// current call is on it, and so is a processor's flow, if it has one. `NotYet` if the line
+    /// takes no part. So the plays of other scenarios
     /// are made, which choose lines by a rule of their own.
     pub fn step_on<H: Handler>(
         &mut self,

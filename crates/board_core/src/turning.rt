@@ -9,6 +9,7 @@ use irq_line::{StepRefused, Stepped};
 use std::convert::Infallible;
 
 /// The script at place `script` goes on by the entry that the step added, if it added one.
+#[inline(always)]
 pub(crate) fn advance(
     scripts: &mut Vec<Script>,
     script: Option<usize>,
@@ -19,7 +20,9 @@ pub(crate) fn advance(
 {
     if let Some(j) = script {
         if let Ok(Stepped::Added(entry)) = stepped {
-            scripts[j].advance(entry);
+            // a copy, so that the answer itself needs no place in memory
+            let entry = *entry;
+            scripts[j].advance(&entry);
         }
     }
 }

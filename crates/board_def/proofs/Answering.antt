@@ -26,7 +26,7 @@ use Rattle.irq_model.specs.Kinds.{same_dev}
 use Rattle.irq_model.specs.Lines.{same_part}
 use Rattle.irq_model.specs.Places.{count_of}
 use Rattle.irq_model.specs.RunBounds.{is_wake_word}
-use Rattle.irq_model.specs.ValidRuns.{is_told, may_stand, may_wait, may_answer}
+use Rattle.irq_model.specs.ValidRuns.{is_told, may_stand, may_answer}
 use Rattle.domain_rules.specs.Domains.{EachAfter}
 use Rattle.board_def.specs.Rules.{IsBoard, IsLineAfter, IsDeviceAfter, IsCallAfter, IsActorOf, AreRuns, AreAnswers}
 use Rattle.board_def.specs.Rules.{find_device, fits_line, is_on_line, is_threaded, with_answers}
@@ -108,7 +108,7 @@ stands_alike parts.Primary d calls.DisableHard t = refl
 stands_alike parts.Thread d calls.DisableHard t = refl
 
 calls_on : (part : Part) (d : DevNo) (call : Call) (t : Bool) → may_call (kinds.Told t) part d call ≡ true → may_call (kinds.Told true) part d call ≡ true
-calls_on parts.Primary d call t h = ap (λ s. s && not (may_wait call)) (sym (stands_alike parts.Primary d call t)) ∙ h
+calls_on parts.Primary d call t h = sym (stands_alike parts.Primary d call t) ∙ h
 calls_on parts.Thread d call true h = h
 calls_on parts.Thread d call false h = absurd cc
 

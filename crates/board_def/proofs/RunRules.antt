@@ -21,8 +21,7 @@ use Rattle.irq_model.specs.Kinds.{same_dev}
 use Rattle.irq_model.specs.Lines.{has_device, kind_in, kind_of, same_part, script_in, told_in}
 use Rattle.irq_model.specs.Places.{count_of}
 use Rattle.irq_model.specs.RunBounds.{arms_this, is_wake_word, wakes_by_handler}
-use Rattle.irq_model.specs.ValidRuns.{HasValidRuns, WakesWhatItHas, NeverWaits, names_own_device, has_script, is_told, may_stand, may_wait}
-use Rattle.irq_model.specs.ValidRuns.{may_answer}
+use Rattle.irq_model.specs.ValidRuns.{HasValidRuns, WakesWhatItHas, names_own_device, has_script, is_told, may_stand, may_answer}
 use Rattle.board_def.specs.LineOf.{line_of_row, with_driver}
 use Rattle.board_def.specs.Rules.{IsBoard, find_device, is_on_line, fits_line}
 use Rattle.board_def.specs.Runs.{of_run, of_told, is_call_of, may_call, wakes_by_call}
@@ -149,11 +148,6 @@ record IsOfRun (def : LineDef) (c : DevNo × Part × Call) : Type 0 where
   device : has_device def c.0 ≡ true
   script : has_script (kind_of def c.0) c.1 ≡ true
   stands : may_stand (kind_of def c.0) c.1 c.0 c.2 ≡ true
-  waits : may_wait c.2 ≡ false
-
-no_wait : (w : Bool) → not w ≡ true → w ≡ false
-no_wait true e = absurd cc
-no_wait false e = refl
 
 module _ (b : BoardSeen) (h : IsBoard b) (row : LineRow) where
   abbrev def : LineDef
@@ -175,14 +169,12 @@ module _ (b : BoardSeen) (h : IsBoard b) (row : LineRow) where
       let first = on_its_line (x.line.0 == r.line.0) _ allowed in
       let second = on_its_line (may_call x.kind r.part r.dev r.call) _ first.1 in
       let third = on_its_line (has_script x.kind r.part) _ second.0 in
-      let fourth = on_its_line (may_stand x.kind r.part r.dev r.call) (not (may_wait r.call)) third.1 in
       let own : (x.line.0 == row.line.0) ≡ true = on_line x.line r.line first.0 kept in
       let kind : kind_of def r.dev ≡ x.kind = kind_found row.line r.dev b.devices x found own in
       record {
         device = among row.line r.dev b.devices (ap (is_on_line row.line) found ∙ own);
         script = ap (λ k. has_script k r.part) kind ∙ third.0;
-        stands = ap (λ k. may_stand k r.part r.dev r.call) kind ∙ fourth.0;
-        waits = no_wait (may_wait r.call) fourth.1;
+        stands = ap (λ k. may_stand k r.part r.dev r.call) kind ∙ third.1;
       }
 
   answer_of : (r : ToldRow) (o : Option DeviceDef) → find_device b.devices r.dev ≡ o → is_allowed_answer r o ≡ true → keep_told r ≡ true
@@ -366,9 +358,6 @@ module _ (b : BoardSeen) (h : IsBoard b) (row : LineRow) where
     threads = λ d. its_thread d (kind_of def d) refl;
   }
 
-  pub never_waits : NeverWaits def
-  never_waits = λ k d within. (all_runs k d within).waits
-
 -- each definition of a board's lines
 runs_from : (b : BoardSeen) → IsBoard b → (rows : List LineRow) → All HasValidRuns (map (line_of_row b) rows)
 runs_from b h [] = All-nil HasValidRuns
@@ -376,10 +365,3 @@ runs_from b h (row ∷ rows) = All-cons HasValidRuns (line_of_row b row) (map (l
 
 pub all_valid_runs : (b : BoardSeen) (defs : List LineDef) → IsBoard b → defs ≡ map (line_of_row b) b.lines → All HasValidRuns defs
 all_valid_runs b defs h are = subst (All HasValidRuns) (sym are) (runs_from b h b.lines)
-
-waits_from : (b : BoardSeen) → IsBoard b → (rows : List LineRow) → All NeverWaits (map (line_of_row b) rows)
-waits_from b h [] = All-nil NeverWaits
-waits_from b h (row ∷ rows) = All-cons NeverWaits (line_of_row b row) (map (line_of_row b) rows) (never_waits b h row) (waits_from b h rows)
-
-pub all_never_wait : (b : BoardSeen) (defs : List LineDef) → IsBoard b → defs ≡ map (line_of_row b) b.lines → All NeverWaits defs
-all_never_wait b defs h are = subst (All NeverWaits) (sym are) (waits_from b h b.lines)

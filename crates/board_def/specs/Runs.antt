@@ -13,7 +13,7 @@ use Rattle.irq_base.specs.declared.numbers.DevNo.{DevNo}
 use Rattle.irq_model.specs.Kinds.{same_dev}
 use Rattle.irq_model.specs.Lines.{same_part}
 use Rattle.irq_model.specs.RunBounds.{arms_this, is_wake_word, wakes_by_handler}
-use Rattle.irq_model.specs.ValidRuns.{has_script, is_told, may_stand, may_wait, may_answer}
+use Rattle.irq_model.specs.ValidRuns.{has_script, is_told, may_stand, may_answer}
 use Rattle.board_def.specs.declared.rows.RunCall.{RunCall}
 use Rattle.board_def.specs.declared.rows.ToldRow.{ToldRow}
 
@@ -29,9 +29,9 @@ of_told r = (r.dev, r.part, r.answer)
 abbrev pub is_call_of : DevNo → Part → RunCall → Bool
 is_call_of d part r = same_dev d r.dev && same_part part r.part
 
--- what may stand in a script of d's runs; runs that wait aren't built yet
+-- what may stand in a script of d's runs, those that a driver wrote
 abbrev pub may_call : Kind → Part → DevNo → Call → Bool
-may_call kind part d call = has_script kind part && (may_stand kind part d call && not (may_wait call))
+may_call kind part d call = has_script kind part && may_stand kind part d call
 
 -- the thread of d arms d
 abbrev pub arms_itself : DevNo → RunCall → Bool

@@ -2,7 +2,7 @@
 ghost use Rattle.std.specs.Prelude.{◌≡◌, ◌+◌, ◌∷◌, ◌++◌, [], Some, All, IfOk, OnOk, slice_get};
 ghost use Rattle.std.specs.Prelude.{take};
 ghost use Rattle.irq_model.specs.Valid.{IsValid};
-ghost use Rattle.irq_model.specs.ValidRuns.{HasValidRuns, NeverWaits};
+ghost use Rattle.irq_model.specs.ValidRuns.{HasValidRuns};
 ghost use Rattle.board_def.specs.LineOf.{line_of_row, line_defs_of, with_driver, with_parts};
 ghost use Rattle.board_def.specs.Runs.{of_run, of_told};
 
@@ -20,7 +20,6 @@ impl Board {
         ensures defs { IfOk result (λ defs. defs.items ≡ line_defs_of self.now) }
         ensures valid { IfOk result (λ defs. All IsValid defs.items) }
         ensures runs { IfOk result (λ defs. All HasValidRuns defs.items) }
-        ensures waits { IfOk result (λ defs. All NeverWaits defs.items) }
     {
         self.is_board();
         let mut defs = bare_defs(alloc, self)?;

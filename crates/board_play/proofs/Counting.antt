@@ -12,7 +12,7 @@ use Rattle.irq_model.specs.Due.{calls_by, entries_by, entries_of_call, due_of, d
 use Rattle.irq_model.specs.Kinds.{is_by_driver}
 use Rattle.irq_laws.specs.Kept.{complete, complete_by}
 use Rattle.irq_laws.proofs.Chosen.{the_same}
-use Rattle.irq_steps.proofs.DueSteps.{entries_more, entries_same}
+use Rattle.irq_model.proofs.DueSteps.{entries_more, entries_same}
 use Rattle.irq_laws.proofs.Progress.{makes_one, same_count, due_at, fresh}
 
 -- the calls that are complete, counted

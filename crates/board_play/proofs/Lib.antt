@@ -2,6 +2,7 @@ pub mod OnePlay
 pub mod Members
 pub mod OfBoard
 pub mod Moves
+pub mod Flows
 pub mod Parts
 pub mod Counting
 pub mod Script
@@ -10,3 +11,5 @@ pub mod KeptAlways
 pub mod Listed
 pub mod Standstill
 pub mod Rest
+pub mod OneOrderedPlay
+pub mod BoardsPlay

@@ -41,7 +41,7 @@ first_stands : (test : Bool) (y : BoardLine) (ys : List BoardLine) (other : Opti
 first_stands true y ys other x is deeper = record { place = zero; at = is }
 first_stands false y ys other x is deeper = further y ys x (deeper is)
 
-flow_stands : (lines : List BoardLine) (c : CpuNo) (x : BoardLine) → flow_line lines c ≡ Some x → Stands lines x
+pub flow_stands : (lines : List BoardLine) (c : CpuNo) (x : BoardLine) → flow_line lines c ≡ Some x → Stands lines x
 flow_stands [] c x is = cc
 flow_stands (y ∷ ys) c x is = first_stands (is_cpu c (flow y.def y.past)) y ys (flow_line ys c) x is (flow_stands ys c x)
 

@@ -12,7 +12,7 @@ use Rattle.irq_base.specs.declared.numbers.LineNo.{LineNo}
 use Rattle.irq_model.specs.Due.{due_call}
 use Rattle.irq_model.specs.Kinds.{same_line, same_driver, is_driver, is_by_driver}
 use Rattle.irq_model.specs.Next.{next_of_driver, next_past}
-use Rattle.irq_steps.proofs.Same.{driver_from_same, line_from_same, same_self_line}
+use Rattle.irq_model.proofs.Same.{driver_from_same, line_from_same, same_self_line}
 use Rattle.irq_laws.proofs.Chosen.{the_same}
 use Rattle.irq_laws.proofs.Lists.{both_ways}
 use Rattle.irq_laws.proofs.OwnLaws.{due_is_own_past}

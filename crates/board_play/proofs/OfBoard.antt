@@ -14,8 +14,8 @@ use Rattle.irq_model.specs.Due.{calls_by}
 use Rattle.irq_model.specs.Kinds.{same_line, same_driver}
 use Rattle.irq_model.specs.Lines.{is_device, has_device}
 use Rattle.irq_model.specs.Valid.{IsValid}
-use Rattle.irq_model.specs.ValidRuns.{HasValidRuns, NeverWaits}
-use Rattle.irq_steps.proofs.Same.{dev_from_same, line_from_same}
+use Rattle.irq_model.specs.ValidRuns.{HasValidRuns}
+use Rattle.irq_model.proofs.Same.{dev_from_same, line_from_same}
 use Rattle.irq_laws.proofs.Chosen.{the_same}
 use Rattle.board_def.specs.Layout.{layout_of}
 use Rattle.domain_rules.specs.Layout.{is_mapped}
@@ -25,7 +25,7 @@ use Rattle.board_def.specs.Seen.{BoardSeen}
 use Rattle.domain_rules.specs.declared.layouts.Placement.{Placement}
 use Rattle.board_def.specs.declared.rows.LineRow.{LineRow}
 use Rattle.board_def.specs.declared.rows.ScriptCall.{ScriptCall}
-use Rattle.board_def.proofs.RunRules.{valid_runs, never_waits}
+use Rattle.board_def.proofs.RunRules.{valid_runs}
 use Rattle.board_def.proofs.Validity.{valid_row}
 use Rattle.board_def.proofs.Rising.{Rises, rises_on, head_of, differ_back, device_at}
 use Rattle.board_play.specs.Current.{calls_on}
@@ -67,18 +67,10 @@ AreValid board = (i : ℕ) (def : LineDef) → slice_get (defs_of board) i ≡ S
 pub valid_defs : (b : BoardSeen) → IsBoard b → AreValid b
 valid_defs b board i d at = let o = def_of_row b i d at in subst (λ (d : LineDef). IsValid d) o.is (valid_row b o.place o.row board o.at)
 
--- ---- what their runs call is valid, and never waits
+-- ---- what their runs call is valid
 
--- what is known of the runs of a line
-pub record HasCalmRuns (def : LineDef) : Type 0 where
-  pub runs : HasValidRuns def
-  pub waits : NeverWaits def
-
-pub calm_row : (b : BoardSeen) → IsBoard b → (row : LineRow) → HasCalmRuns (line_of_row b row)
-calm_row b board row = record { runs = valid_runs b board row; waits = never_waits b board row }
-
-pub calm_defs : (b : BoardSeen) → IsBoard b → (i : ℕ) (def : LineDef) → slice_get (defs_of b) i ≡ Some def → HasCalmRuns def
-calm_defs b board i d at = let o = def_of_row b i d at in subst (λ (d : LineDef). HasCalmRuns d) o.is (calm_row b board o.row)
+pub valid_runs_defs : (b : BoardSeen) → IsBoard b → (i : ℕ) (def : LineDef) → slice_get (defs_of b) i ≡ Some def → HasValidRuns def
+valid_runs_defs b board i d at = let o = def_of_row b i d at in subst (λ (d : LineDef). HasValidRuns d) o.is (valid_runs b board o.row)
 
 -- ---- their numbers differ
 

@@ -7,12 +7,14 @@ use Rattle.irq_base.specs.declared.numbers.LineNo.{LineNo}
 use Rattle.irq_model.specs.Kinds.{same_line}
 use Rattle.irq_model.specs.Legal.{IsDue}
 use Rattle.irq_model.specs.Next.{next_past}
+use Rattle.irq_model.proofs.Same.{same_self_line}
 use Rattle.irq_laws.proofs.Chosen.{the_same}
+use Rattle.irq_laws.proofs.Lists.{both_ways}
 use Rattle.irq_laws.proofs.OwnLaws.{due_is_own_past}
 use Rattle.board_def.specs.Seen.{BoardSeen}
 use Rattle.board_play.specs.Lines.{BoardLine, Move, part, defs_of, lines_at, lines_of, find_line}
 use Rattle.board_play.specs.Play.{End, IsChosen, Plays}
-use Rattle.board_play.proofs.Members.{AreApart, find_there}
+use Rattle.board_play.proofs.Members.{AreApart, def_there, find_there}
 use Rattle.board_play.proofs.Moves.{moves_on, choice_is}
 
 -- a line of some number is the one that stands there
@@ -20,6 +22,21 @@ pub the_line : (lines : List BoardLine) → AreApart (map (λ (x : BoardLine). x
     → slice_get lines i ≡ Some x → slice_get lines j ≡ Some y → x.def.line ≡ y.def.line → x ≡ y
 the_line lines apart i j x y at_x at_y same =
     the_same x y (sym (find_there lines apart i x at_x) ∙ (ap (λ (l : LineNo). find_line lines l) same ∙ find_there lines apart j y at_y))
+
+-- and it stands there alone
+pub the_place : (lines : List BoardLine) → AreApart (map (λ (x : BoardLine). x.def) lines) → (i j : ℕ) (x y : BoardLine)
+    → slice_get lines i ≡ Some x → slice_get lines j ≡ Some y → x.def.line ≡ y.def.line → i ≡ j
+the_place [] apart i j x y at_x at_y same = cc
+the_place (z ∷ zs) apart zero zero x y at_x at_y same = refl
+the_place (z ∷ zs) apart zero (suc j) x y at_x at_y same =
+    both_ways (same_line y.def.line z.def.line)
+    (ap (λ (l : LineNo). same_line y.def.line l) (ap (λ (w : BoardLine). w.def.line) (the_same z x at_x) ∙ same) ∙ same_self_line y.def.line)
+    (apart.0 j y.def (def_there zs j y at_y))
+the_place (z ∷ zs) apart (suc i) zero x y at_x at_y same =
+    both_ways (same_line x.def.line z.def.line)
+    (ap (λ (l : LineNo). same_line x.def.line l) (ap (λ (w : BoardLine). w.def.line) (the_same z y at_y) ∙ sym same) ∙ same_self_line x.def.line)
+    (apart.0 i x.def (def_there zs i x at_x))
+the_place (z ∷ zs) apart (suc i) (suc j) x y at_x at_y same = ap suc (the_place zs apart.1 i j x y at_x at_y same)
 
 pub due_of : (def : LineDef) (past : List Entry) (a : Actor) (e : Entry) → next_past def past a ≡ Some e → IsDue def e past
 due_of def past a e due = ap (λ (b : Actor). next_past def past b) (due_is_own_past def past a e due) ∙ due

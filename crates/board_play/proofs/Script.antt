@@ -6,7 +6,7 @@ use Rattle.std.proofs.lemmas.Bool.{and_parts, false_from_ne_true}
 use Rattle.irq_base.specs.declared.numbers.DriverNo.{DriverNo}
 use Rattle.irq_base.specs.declared.numbers.LineNo.{LineNo}
 use Rattle.irq_model.specs.Kinds.{same_line, same_driver}
-use Rattle.irq_steps.proofs.Same.{same_self_line, line_from_same}
+use Rattle.irq_model.proofs.Same.{same_self_line, line_from_same}
 use Rattle.irq_laws.specs.Kept.{complete_by}
 use Rattle.irq_laws.proofs.Chosen.{the_same}
 use Rattle.board_def.specs.declared.rows.ScriptCall.{ScriptCall}

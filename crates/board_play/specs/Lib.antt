@@ -3,3 +3,5 @@ pub mod Current
 pub mod Order
 pub mod Play
 pub mod Kept
+pub mod Hanging
+pub mod Orders

@@ -3,7 +3,8 @@ use Rattle.std.specs.Prelude.{◌≡◌, ℕ, ◌<◌, Option, Some, None, List,
 use Rattle.irq_base.specs.declared.numbers.DevNo.{DevNo}
 use Rattle.board_ready.specs.Sets.{has, leaf, is_of, CallsSeen, on_line, word_for, is_on}
 use Rattle.board_ready.specs.Sets.{is_waiting}
-use Rattle.board_ready.specs.Ready.{thread_on, has_flow, has_take, current_call, can_go_on}
+use Rattle.board_ready.specs.Ready.{thread_on, has_flow, has_spinner, has_take, current_call}
+use Rattle.board_ready.specs.Ready.{can_go_on}
 use Rattle.board_ready.specs.declared.parts.CurrentCall.{CurrentCall}
 use Rattle.board_ready.specs.declared.parts.LineReadiness.{LineReadiness}
 use Rattle.board_ready.specs.declared.parts.ReadyThread.{ReadyThread}
@@ -21,6 +22,10 @@ AreThreads lines nodes =
 abbrev pub AreFlows : List LineReadiness → List ℕ → Type 0
 AreFlows lines words =
     (c k : ℕ) → c < 32 → k < 64 → is_of words c k ≡ has_flow c (slice_get lines k)
+
+abbrev pub AreSpinners : List LineReadiness → List ℕ → Type 0
+AreSpinners lines words =
+    (c k : ℕ) → c < 32 → k < 64 → is_of words c k ≡ has_spinner c (slice_get lines k)
 
 abbrev pub AreTakes : List LineReadiness → List ℕ → Type 0
 AreTakes lines words =

@@ -1,6 +1,6 @@
 -- Who can move, by a search over the lists.
-use Rattle.std.specs.Prelude.{ℕ, ◌+◌, ◌==◌, Bool, false, not, if◌then◌else◌, nat_lt, is_some}
-use Rattle.std.specs.Prelude.{unwrap_or, Option, Some, None, List, [], ◌∷◌, length, slice_get}
+use Rattle.std.specs.Prelude.{ℕ, ◌+◌, ◌==◌, Bool, false, not, if◌then◌else◌, nat_lt, unwrap_or}
+use Rattle.std.specs.Prelude.{Option, Some, None, List, [], ◌∷◌, length, slice_get}
 use Rattle.irq_base.specs.declared.numbers.CpuNo.{CpuNo}
 use Rattle.irq_base.specs.declared.numbers.DevNo.{DevNo}
 use Rattle.board_ready.specs.First.{first_of}
@@ -19,6 +19,7 @@ abbrev pub idle : LineReadiness
 idle = record {
   thread = None;
   flow = None;
+  spins = false;
   taker = None;
   blocks = record { flow = false; threads = false; mutex = false; freed = false };
 }
@@ -60,6 +61,14 @@ abbrev pub has_take : ℕ → Option LineReadiness → Bool
 has_take c None = false
 has_take c (Some x) = is_cpu c x.taker
 
+-- the line's flow is on a processor that can't go on
+abbrev pub spinner : LineReadiness → Option CpuNo
+spinner x = if x.spins then x.flow else None
+
+abbrev pub has_spinner : ℕ → Option LineReadiness → Bool
+has_spinner c None = false
+has_spinner c (Some x) = is_cpu c (spinner x)
+
 -- the first line that has its flow on processor c, and the first on which a take is due of it
 abbrev pub flow_line : List LineReadiness → ℕ → Option ℕ
 flow_line lines c = first_of (λ k. has_flow c (slice_get lines k)) (length lines)
@@ -72,13 +81,22 @@ abbrev pub flow_or_take : Option ℕ → Option ℕ → Option ℕ
 flow_or_take None take = take
 flow_or_take (Some k) take = Some k
 
--- the line on which a processor moves; processors of 32 and above don't
+-- the line on which a processor moves, if it can; processors of 32 and above don't
 abbrev pub cpu_line : List LineReadiness → ℕ → Option ℕ
 cpu_line lines c =
     if nat_lt c 32 then flow_or_take (flow_line lines c) (take_line lines c) else None
 
+-- it can move there, unless it spins
+abbrev pub moves_on : List LineReadiness → ℕ → Option ℕ → Bool
+moves_on lines c None = false
+moves_on lines c (Some k) = not (has_spinner c (slice_get lines k))
+
 abbrev pub is_cpu_ready : List LineReadiness → ℕ → Bool
-is_cpu_ready lines c = is_some (cpu_line lines c)
+is_cpu_ready lines c = moves_on lines c (cpu_line lines c)
+
+-- the line on which it can move
+abbrev pub moving_line : List LineReadiness → ℕ → Option ℕ
+moving_line lines c = if is_cpu_ready lines c then cpu_line lines c else None
 
 -- the first of processors 0 to 31 that moves; opened by name, so that a goal doesn't spell out all
 -- 32

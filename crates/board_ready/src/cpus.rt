@@ -1,5 +1,6 @@
 //! The lines of each processor.
-ghost use Rattle.std.specs.Prelude.{◌≡◌, ℕ, ◌<◌, ◌≤◌, ◌==◌, ◌&&◌, false, is_some, if◌then◌else◌};
+ghost use Rattle.std.specs.Prelude.{◌≡◌, ℕ, ◌<◌, ◌≤◌, ◌==◌, ◌&&◌, true, false, is_some};
+ghost use Rattle.std.specs.Prelude.{if◌then◌else◌};
 ghost use Rattle.board_ready.specs.First.{first_of};
 ghost use Rattle.board_ready.specs.Ready.{is_cpu};
 ghost use Rattle.board_ready.specs.Sets.{has, is_of};
@@ -56,6 +57,25 @@ impl CpuLines {
                 let word = with_bit(self.words[place], line, to);
                 self.words[place] = word;
                 self.some = with_bit(self.some, place, word != 0);
+            }
+        }
+    }
+
+    /// Takes the line away from the one processor, and gives it to the other. Mostly there is
+    /// neither.
+    #[inline(always)]
+    pub fn pass(&mut self, from: Option<CpuNo>, to: Option<CpuNo>, line: usize)
+        requires { line < 64 }
+        ensures { (c k : ℕ) → c < 32 → k < 64
+            → is_of self.new c k
+            ≡ (if is_cpu c to && (k == line) then true
+            else (if is_cpu c from && (k == line) then false else is_of self.old c k)) }
+    {
+        match (from, to) {
+            (None, None) => {}
+            _ => {
+                self.put(from, line, false);
+                self.put(to, line, true);
             }
         }
     }

@@ -11,6 +11,8 @@ pub struct LineReadiness {
     pub thread: Option<DevNo>,
     /// The processor of the flow in progress.
     pub flow: Option<CpuNo>,
+    /// That processor can't go on: it moves nowhere.
+    pub spins: bool,
     /// The processor that has a take due.
     pub taker: Option<CpuNo>,
     /// What stands in the way.
@@ -54,6 +56,7 @@ impl LineReadiness {
         LineReadiness {
             thread: None,
             flow: None,
+            spins: false,
             taker: None,
             blocks: Blocks {
                 flow: false,
@@ -65,14 +68,17 @@ impl LineReadiness {
     }
 }
 
-/// Whether the two parts are the same in all that they say.
+/// Whether the two parts are the same in all that they say. Of `first` no more is read than it
+/// takes to tell; what differs most comes first.
 #[tactic(auto, using(crate::proofs::Same::same_readiness))]
-pub(crate) fn is_same_readiness(first: LineReadiness, second: LineReadiness) -> bool
-    ensures { IsTrue result → first ≡ second }
+#[inline(always)]
+pub(crate) fn is_same_readiness(first: &LineReadiness, second: &LineReadiness) -> bool
+    ensures { IsTrue result → first.now ≡ second.now }
 {
-    is_same_dev(first.thread, second.thread)
-        && is_same_cpu(first.flow, second.flow)
+    is_same_cpu(first.flow, second.flow)
         && is_same_cpu(first.taker, second.taker)
+        && is_same_dev(first.thread, second.thread)
+        && first.spins == second.spins
         && first.blocks.flow == second.blocks.flow
         && first.blocks.threads == second.blocks.threads
         && first.blocks.mutex == second.blocks.mutex

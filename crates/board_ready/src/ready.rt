@@ -1,10 +1,12 @@
 //! The two lists, and the answers to a search over them.
 ghost use Rattle.std.specs.Prelude.{◌≡◌, ℕ, ◌<◌, ◌≤◌, ◌&&◌, nat_lt, if◌then◌else◌, length};
-ghost use Rattle.std.specs.Prelude.{replicate, slice_get, slice_set, None, IfOk, IfSome};
+ghost use Rattle.std.specs.Prelude.{replicate, slice_get, slice_set, is_some, Some, None, IfOk};
+ghost use Rattle.std.specs.Prelude.{IfSome};
 ghost use Rattle.board_ready.specs.Ready.{idle, lowest, lowest_thread_or_cpu, lowest_cpu};
 ghost use Rattle.board_ready.specs.Ready.{lowest_driver, flow_line, cpu_line, has_take};
 ghost use Rattle.board_ready.specs.Ready.{can_go_on, is_ready, is_driver_ready, has_thread};
-ghost use Rattle.board_ready.specs.Ready.{is_barred, current_call};
+ghost use Rattle.board_ready.specs.Ready.{is_barred, current_call, is_cpu_ready, has_spinner};
+ghost use Rattle.board_ready.specs.Ready.{moving_line, spinner};
 ghost use Rattle.board_ready.specs.Sets.{has, may_go_on, on_line};
 
 use crate::bits::{chosen, first_bit, with_bit};
@@ -29,6 +31,7 @@ pub struct ReadyActors {
     drivers: Vec<Option<CurrentCall>>,
     threads: ThreadTree,
     flows: CpuLines,
+    spins: CpuLines,
     takes: CpuLines,
     calls: CallSets,
     ready: u64,
@@ -62,6 +65,7 @@ impl ReadyActors {
             drivers,
             threads: ThreadTree::new(),
             flows: CpuLines::new(),
+            spins: CpuLines::new(),
             takes: CpuLines::new(),
             calls: CallSets::new(),
             ready: 0,
@@ -76,7 +80,7 @@ impl ReadyActors {
         requires { line < length self.now.lines }
         ensures { self.new ≡ record self.old { lines = slice_set self.old.lines line readiness } }
     {
-        if !is_same_readiness(self.lines[line], readiness) {
+        if !is_same_readiness(&self.lines[line], &readiness) {
             self.put_line(line, readiness);
         }
     }
@@ -91,6 +95,7 @@ impl ReadyActors {
         self.threads.set(line, readiness.thread);
         self.flows.put(old.flow, line, false);
         self.flows.put(readiness.flow, line, true);
+        self.spins.pass(spinner(old), spinner(readiness), line);
         self.takes.put(old.taker, line, false);
         self.takes.put(readiness.taker, line, true);
         self.ready = rechosen(self.ready, &self.calls, line, readiness.blocks);
@@ -172,7 +177,52 @@ impl ReadyActors {
         ensures first { result ≡ lowest_cpu self.now.lines }
         ensures few { IfSome result (λ c. c < 32) }
     {
-        first_bit(self.flows.cpus() | self.takes.cpus())
+        let waiting = self.flows.cpus() | self.takes.cpus();
+        if self.spins.cpus() == 0 {
+            return first_bit(waiting);
+        }
+        self.lowest_that_moves(waiting)
+    }
+
+    /// The first of these processors that can move: it doesn't spin on its line.
+    #[inline(never)]
+    fn lowest_that_moves(&self, waiting: u64) -> Option<usize>
+        requires { (c : ℕ) → c < 64 → has waiting c
+            ≡ (nat_lt c 32 && is_some (cpu_line self.now.lines c)) }
+        ensures first { result ≡ lowest_cpu self.now.lines }
+        ensures few { IfSome result (λ c. c < 32) }
+    {
+        for cpu in 0..CPUS {
+            if self.is_moving(waiting, cpu) {
+                return Some(cpu as usize);
+            }
+        }
+        None
+    }
+
+    /// Whether the processor is one of those, and can move.
+    fn is_moving(&self, waiting: u64, cpu: u32) -> bool
+        requires cpu { cpu < 32 }
+        requires waiting { (c : ℕ) → c < 64 → has waiting c
+            ≡ (nat_lt c 32 && is_some (cpu_line self.now.lines c)) }
+        ensures { result ≡ is_cpu_ready self.now.lines cpu }
+    {
+        (waiting >> cpu) & 1 == 1 && self.can_cpu_move(CpuNo(cpu))
+    }
+
+    /// Whether the processor can move: it has a line, and doesn't spin there.
+    fn can_cpu_move(&self, cpu: CpuNo) -> bool
+        ensures { result ≡ is_cpu_ready self.now.lines cpu.0 }
+    {
+        self.moving_line(cpu).is_some()
+    }
+
+    /// Whether the processor spins on the line at this place, which is its own.
+    fn spins_on(&self, cpu: CpuNo, line: usize) -> bool
+        requires { cpu_line self.now.lines cpu.0 ≡ Some line }
+        ensures { result ≡ has_spinner cpu.0 (slice_get self.now.lines line) }
+    {
+        (self.spins.lines(cpu) >> line) & 1 == 1
     }
 
     /// The first driver that can move, by its place.
@@ -189,7 +239,7 @@ impl ReadyActors {
     {
         match actor {
             ReadyActor::Thread(thread) => self.is_thread_ready(thread),
-            ReadyActor::Cpu(cpu) => self.cpu_line(cpu).is_some(),
+            ReadyActor::Cpu(cpu) => self.can_cpu_move(cpu),
             ReadyActor::Driver(driver) => self.is_driver_ready(driver),
         }
     }
@@ -233,8 +283,8 @@ impl ReadyActors {
         self.flows.first(cpu)
     }
 
-    /// The line on which a processor moves: the first on which it has its flow, else the first on
-    /// which it has a take due. None for processors of 32 and above.
+    /// The line on which a processor moves, if it can: the first on which it has its flow, else the
+    /// first on which it has a take due. None for processors of 32 and above.
     pub fn cpu_line(&self, cpu: CpuNo) -> Option<usize>
         ensures { result ≡ cpu_line self.now.lines cpu.0 }
     {
@@ -245,6 +295,33 @@ impl ReadyActors {
             Some(line) => Some(line),
             None => self.takes.first(cpu),
         }
+    }
+
+    /// The line on which a processor can move: none if it spins on its line, or has none.
+    pub fn moving_line(&self, cpu: CpuNo) -> Option<usize>
+        ensures { result ≡ moving_line self.now.lines cpu.0 }
+    {
+        match self.cpu_line(cpu) {
+            Some(line) => {
+                if self.spins_on(cpu, line) {
+                    None
+                } else {
+                    Some(line)
+                }
+            }
+            None => None,
+        }
+    }
+}
+
+/// The processor that spins on the line.
+fn spinner(readiness: LineReadiness) -> Option<CpuNo>
+    ensures { result ≡ spinner readiness }
+{
+    if readiness.spins {
+        readiness.flow
+    } else {
+        None
     }
 }
 

@@ -10,7 +10,7 @@ use Rattle.irq_base.specs.declared.numbers.LineNo.{LineNo}
 use Rattle.irq_base.specs.declared.reporting.LineReport.{LineReport}
 use Rattle.irq_line.specs.Seen.{LineSeen}
 use Rattle.irq_model.specs.Kinds.{same_line}
-use Rattle.irq_steps.proofs.Same.{same_self_line, line_from_same}
+use Rattle.irq_model.proofs.Same.{same_self_line, line_from_same}
 use Rattle.irq_laws.proofs.Chosen.{the_same}
 use Rattle.irq_laws.proofs.Lists.{both_ways}
 use Rattle.domain_rules.specs.Layout.{is_mapped}

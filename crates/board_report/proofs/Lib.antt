@@ -2,6 +2,7 @@ pub mod LineLaws
 pub mod OfRows
 pub mod Laid
 pub mod Kept
+pub mod Hanging
 pub mod Resting
 pub mod FullAt
 pub mod Ample

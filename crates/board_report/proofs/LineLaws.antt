@@ -5,8 +5,9 @@ use Rattle.irq_base.specs.declared.entries.Entry.{Entry}
 use Rattle.irq_base.specs.declared.lines.LineDef.{LineDef}
 use Rattle.irq_model.specs.Legal.{IsLegal, IsLegalPast}
 use Rattle.irq_model.specs.Valid.{IsValid}
-use Rattle.irq_model.specs.Waits.{IsAtRest}
+use Rattle.irq_model.specs.Waits.{IsAtRest, is_unfinished_actor}
 use Rattle.irq_laws.proofs.CoverLaws.{is_covered_law}
+use Rattle.irq_laws.proofs.Lists.{both_ways}
 use Rattle.irq_laws.proofs.ReasonLaws.{has_reason}
 use Rattle.irq_laws.proofs.RunLaws.{no_overlap, silent_after_free, keeps_oneshot, synchronised}
 use Rattle.irq_laws.proofs.ScriptLaws.{follows_scripts, follows_run_scripts}
@@ -14,6 +15,7 @@ use Rattle.irq_laws.proofs.LeftEnabled.{left_enabled}
 use Rattle.irq_laws.proofs.RestLaws.{at_rest_is_delivered, at_rest_is_quiet, at_rest_is_settled}
 use Rattle.irq_laws.proofs.ServedLaws.{served_when_idle}
 use Rattle.irq_laws.proofs.TakeLaws.{takes_are_counted}
+use Rattle.play_laws.proofs.Rest.{hung_unfinished}
 use Rattle.board_report.specs.Headline.{HoldsAt, KeepsLaws, LineHeadline}
 
 -- a beginning of a legal history is legal
@@ -55,5 +57,6 @@ line_headline def h valid legal at_rest =
       settled = at_rest_is_settled def h at_rest;
       delivered = at_rest_is_delivered def h valid legal at_rest;
       quiet = at_rest_is_quiet def h valid legal at_rest;
+      unhung = λ a hung. both_ways (is_unfinished_actor def (reverse h) a) (hung_unfinished def (reverse h) a hung) (at_rest.done a);
       left_enabled = λ fits. left_enabled def h valid fits legal at_rest;
     }

@@ -1,7 +1,8 @@
 -- The headline: what holds of the histories of a board's lines when nothing moves any more, however
 -- the lines came to be as they are, and of the reports that hand them out. The entries of a history
 -- stand oldest first. Nothing is said of the order between lines.
-use Rattle.std.specs.Prelude.{◌≡◌, ◌≤◌, ℕ, IsSome, Some, List, [], ◌++◌, length, map, slice_get}
+use Rattle.std.specs.Prelude.{◌≡◌, ◌≤◌, ℕ, IsSome, Some, List, [], ◌++◌, length, map, reverse}
+use Rattle.std.specs.Prelude.{slice_get}
 use Rattle.irq_base.specs.declared.entries.Actor.{Actor}
 use Rattle.irq_base.specs.declared.entries.Entry.{Entry}
 use Rattle.irq_base.specs.declared.lines.LineDef.{LineDef}
@@ -16,6 +17,7 @@ use Rattle.irq_model.specs.Reason.{HasReason}
 use Rattle.irq_model.specs.RunLaws.{FollowsRunScripts, EnablesWhatItDisables, IsLeftEnabled}
 use Rattle.irq_model.specs.Scripts.{FollowsScripts}
 use Rattle.irq_model.specs.Settled.{IsSettled}
+use Rattle.irq_model.specs.Waits.{IsHungPast}
 use Rattle.irq_laws.specs.Quiet.{IsQuiet}
 use Rattle.irq_storms.specs.Lengths.{history_bound, IsBounded}
 use Rattle.domain_rules.specs.declared.layouts.Placement.TheVariants as placements
@@ -72,6 +74,8 @@ pub record LineHeadline (def : LineDef) (h : List Entry) : Type 0 where
   pub delivered : IsDelivered def h
   -- nothing is at work: each handler that was called has returned
   pub quiet : IsQuiet def h
+  -- nobody waits for himself
+  pub unhung : (a : Actor) → IsHungPast def (reverse h) a → ⊥
   -- where each run that disables the line has its thread enable it, and each driver enables as
   -- often as it disables, a line with something linked is enabled, unless an end killed it
   pub left_enabled : EnablesWhatItDisables def → IsLeftEnabled def h

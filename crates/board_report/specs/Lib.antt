@@ -4,3 +4,4 @@ pub mod Moving
 pub mod Rows
 pub mod Summable
 pub mod Totals
+pub mod Hung

@@ -1,9 +1,12 @@
 //! Hands out the histories of a board's lines.
 ghost use Rattle.std.specs.Prelude.{◌≡◌, ◌≤◌, ℕ, All, length, map};
+ghost use Rattle.irq_base.specs.declared.entries.Actor.{Actor};
 ghost use Rattle.irq_base.specs.declared.numbers.LineNo.{LineNo};
 ghost use Rattle.board_core.specs.Making.{AreSound};
 ghost use Rattle.board_core.specs.Seen.{board_lines};
+ghost use Rattle.board_play.specs.Hanging.{IsFirstHung, NobodyHangs};
 ghost use Rattle.board_report.specs.Headline.{FullLog, Headline, SoFar};
+ghost use Rattle.board_report.specs.Hung.{HungBoard};
 ghost use Rattle.board_report.specs.Moving.{AreAtRest, HasNoRoom};
 ghost use Rattle.board_report.specs.Reporting.{HasRoom, KeepRoom, entries_in};
 ghost use Rattle.board_report.specs.Rows.{HasRows};
@@ -33,7 +36,13 @@ pub fn hand_out<L: IrqLine>(board: &Board, system: System<'_, L>, room: ReportRo
     ensures so_far { SoFar board.now (entries_in (board_lines system.entry.lines))
         result.reports }
     ensures done { AreAtRest board.now (board_lines system.entry.lines)
+        → NobodyHangs (board_lines system.entry.lines)
         → Headline board.now (entries_in (board_lines system.entry.lines)) result.reports }
+    ensures hung { (line : LineNo) (actor : Actor)
+        → AreAtRest board.now (board_lines system.entry.lines)
+        → IsFirstHung (board_lines system.entry.lines) line actor
+        → HungBoard board.now (entries_in (board_lines system.entry.lines)) result.reports line
+        actor }
     ensures full { (line : LineNo) (len : ℕ)
         → HasNoRoom board.now (board_lines system.entry.lines) line len
         → FullLog board.now (entries_in (board_lines system.entry.lines)) result.reports line len }

@@ -3,3 +3,4 @@ pub mod Stated
 pub mod FaultsAfter
 pub mod TextOf
 pub mod Sound
+pub mod OfVersion

@@ -25,7 +25,7 @@ use Rattle.board_text.specs.Owned.{Owns}
 use Rattle.board_text.specs.declared.owners.Owner.{Owner}
 use Rattle.board_text.specs.declared.reader.Reader.{Reader}
 use Rattle.board_text.specs.declared.stood.Stood.{Stood}
-use Rattle.board_text.proofs.Drafts.{names_same}
+use Rattle.board_text.proofs.Drafts.{names_same, not_there_read, parent_read, unlazy_read, mask_read, run_read, room_read}
 use Rattle.board_text.proofs.OneMore.{next_is_board, agrees_more, owns_read}
 
 -- the fault of a call, by whether it is late, whose script it is of, and whether it names nothing
@@ -110,6 +110,9 @@ no_owner writers.Nobody b s other = refl
 no_owner (writers.Runs dev part) b s other = refl
 no_owner writers.Driver b (statements.Call c) other = absurd (other c refl)
 no_owner writers.Driver b _ other = refl
+
+-- what is wrong with another statement, on the reader's board as on the board
+pub ruleset faults_read = (not_there_read, parent_read, unlazy_read, mask_read, run_read, room_read, no_owner)
 
 -- nor does it change the calls
 pub calls_stay : (whose : Writer) (b : BoardSeen) (s : Statement) → IsNoCall s → b.calls ≡ (with_statement whose s b).calls

@@ -246,7 +246,7 @@ impl Reader {
     }
 
     /// What is wrong with the statement, which is no call, after the statements so far.
-    #[tactic(auto, using(crate::proofs::Drafts::not_there_read, crate::proofs::Drafts::parent_read, crate::proofs::Drafts::unlazy_read, crate::proofs::Drafts::mask_read, crate::proofs::Drafts::run_read, crate::proofs::Drafts::room_read, crate::proofs::Made::no_owner))]
+    #[tactic(auto, using(crate::proofs::Made::faults_read))]
     fn fault_of(&self, statement: &Statement) -> Option<FaultKind>
         requires { IsNoCall statement.now }
         ensures { (past : List Statement) → Agrees past self.now

@@ -8,7 +8,7 @@ ghost use Rattle.board_stated.specs.FaultsAfter.{is_written, wakes_what_arms, ma
 ghost use Rattle.board_stated.specs.FaultsAfter.{has_bad_run};
 ghost use Rattle.board_stated.specs.Stated.{run_call};
 ghost use Rattle.irq_model.specs.RunBounds.{arms_this, wakes_this};
-ghost use Rattle.irq_model.specs.ValidRuns.{has_script, is_told, is_direct, may_stand, may_wait};
+ghost use Rattle.irq_model.specs.ValidRuns.{has_script, is_told, is_direct, may_stand};
 
 use crate::adding::run_call;
 use board_def::{Board, RunCall};
@@ -85,7 +85,7 @@ fn is_allowed(board: &Board, call: RunCall) -> bool
 fn may_call(kind: Kind, part: Part, dev: DevNo, call: Call) -> bool
     ensures { result ≡ may_call kind part dev call }
 {
-    has_script(kind, part) && may_stand(kind, part, dev, call) && !may_wait(call)
+    has_script(kind, part) && may_stand(kind, part, dev, call)
 }
 
 /// Whether a driver wrote that part of the handler of a device of this kind.
@@ -130,13 +130,6 @@ fn may_arm(kind: Kind, part: Part, dev: DevNo, armed: DevNo) -> bool
         Part::Thread => dev.0 == armed.0,
         Part::Primary => dev.0 == armed.0 && kind == Kind::Direct,
     }
-}
-
-/// Whether the call may wait for its own run.
-fn may_wait(call: Call) -> bool
-    ensures { result ≡ may_wait call }
-{
-    matches!(call, Call::Disable | Call::Sync | Call::Free { .. })
 }
 
 /// Whether a told device's thread arms it by this call, though a handler wakes it by a call.

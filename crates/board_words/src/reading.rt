@@ -70,7 +70,14 @@ fn is_call_of_later(call: CallWord, version: u32) -> bool
         | CallWord::Quiet
         | CallWord::Arm
         | CallWord::Serve => !has_runs(version),
-        _ => false,
+        CallWord::Request
+        | CallWord::Free
+        | CallWord::Ask
+        | CallWord::Disable
+        | CallWord::DisableNosync
+        | CallWord::Enable
+        | CallWord::Sync
+        | CallWord::Affinity => false,
     }
 }
 

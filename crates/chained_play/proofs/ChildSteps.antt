@@ -14,7 +14,7 @@ use Rattle.board_play.proofs.Moves.{line_stands}
 use Rattle.board_ready.specs.First.{first_of}
 use Rattle.board_core.specs.Places.{line_at}
 use Rattle.irq_laws.proofs.Chosen.{the_same}
-use Rattle.play_orders.specs.Orders.{moves_in}
+use Rattle.board_play.specs.Orders.{moves_in}
 use Rattle.play_report.proofs.Scenario.{IsOn, MovesDue}
 use Rattle.irq_chained.specs.Chain.{chain_next, chain_order, child, cpu_0, first_left, in_chain, is_left, lines_in}
 use Rattle.irq_chained.specs.Chain.{of_cpu_0, open_status, or_exit, status_of, told}

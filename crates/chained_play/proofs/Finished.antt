@@ -10,8 +10,10 @@ use Rattle.irq_line.specs.Seen.{LineSeen}
 use Rattle.irq_line.specs.declared.answers.StepRefused.{StepRefused}
 use Rattle.irq_line.specs.declared.answers.StepRefused.TheVariants as refusals
 use Rattle.play_laws.specs.Actors.{IsOneOf}
+use Rattle.board_core.specs.Hung.{IsEndOf, SaysEnd, stop_of}
 use Rattle.board_core.specs.Seen.{board_lines}
 use Rattle.board_core.specs.Wanted.{HasSpare}
+use Rattle.board_core.specs.declared.ends.PlayEnd.{PlayEnd}
 use Rattle.board_def.specs.Rules.{IsBoard}
 use Rattle.board_def.specs.Seen.{BoardSeen}
 use Rattle.board_play.specs.Kept.{AreKept}
@@ -20,7 +22,7 @@ use Rattle.board_play.specs.Order.{actors_of}
 use Rattle.board_play.specs.Play.{Done}
 use Rattle.board_report.specs.Moving.{AreAtRest}
 use Rattle.board_report.specs.Reporting.{IsHandedRoom, KeepRoom}
-use Rattle.play_orders.specs.Orders.{IsPlayed}
+use Rattle.board_play.specs.Orders.{IsPlayed}
 use Rattle.play_report.specs.Answers.{Answers}
 use Rattle.play_report.specs.declared.failing.PlayFailed.{PlayFailed}
 use Rattle.play_report.proofs.Answered as answered
@@ -101,16 +103,18 @@ module _ (d : DemuxSeen) (board : IsBoard d.board) (fits : is_for_chain d.board 
   }
 
   -- the reports of the lines that were taken out of it
-  pub hands_out : (end : Result Unit StepRefused) → IsPlay d d.board.picks end → (lines : List LineSeen) → lines ≡ d.lines → (reports : List LineReport)
+  pub hands_out : (end : Result PlayEnd StepRefused) → IsPlay d d.board.picks (stop_of end) → SaysEnd (board_lines d.lines) end
+      → (lines : List LineSeen) → lines ≡ d.lines → (reports : List LineReport)
       → Reported d.board (board_lines lines) reports → ChainHandsOut d.board d.log end reports
-  hands_out end play lines out reports told =
+  hands_out end play says lines out reports told =
       handed_out d.board (chain_order d.board) d.board.picks (KeepsChain d.board) d.log scenario
-      (board_lines lines) (ap board_lines out ∙ (lines_are ∙ same_lines)) reports told end (as_end end play)
+      (board_lines lines) (ap board_lines out ∙ (lines_are ∙ same_lines)) reports told end (as_end end play says)
     where
-      as_end : (end : Result Unit StepRefused) → IsPlay d d.board.picks end → IsEnd d.board (chain_order d.board) d.board.picks d.log end
-      as_end (Ok _) p = p
-      as_end (Err (refusals.Full line len)) p = (p.0, ap (λ (ms : List Move). length (part line ms)) (sym (same_children d.board (reverse d.log))) ∙ p.1)
-      as_end (Err refusals.NoMemory) p = p
+      as_end : (end : Result PlayEnd StepRefused) → IsPlay d d.board.picks (stop_of end) → SaysEnd (board_lines d.lines) end
+          → IsEnd d.board (chain_order d.board) d.board.picks d.log end
+      as_end (Ok e) p says = (p, subst (λ (ls : List BoardLine). IsEndOf ls e) (lines_are ∙ same_lines) says)
+      as_end (Err (refusals.Full line len)) p says = (p.0, ap (λ (ms : List Move). length (part line ms)) (sym (same_children d.board (reverse d.log))) ∙ p.1)
+      as_end (Err refusals.NoMemory) p says = p
 
 -- ---- which step was refused memory
 
@@ -141,13 +145,14 @@ module _ (may_want : Option Entry → Type 0) where
           subst (λ (n : ℕ). 1 ≤ n) (keep k i x report (subst (λ (ls : List LineSeen). slice_get ls k ≡ Some x) (sym out) at_x) at (its ∙ sym same)) room
 
   -- the reports, and the step
-  pub hands_out_step : (d : DemuxSeen) (end : Result Unit StepRefused) → PlayWants may_want d d.board.picks end → (lines : List LineSeen) → lines ≡ d.lines
+  pub hands_out_step : (d : DemuxSeen) (end : Result PlayEnd StepRefused) → PlayWants may_want d d.board.picks (stop_of end)
+      → (lines : List LineSeen) → lines ≡ d.lines
       → (reports : List LineReport) → KeepRoom lines reports → ChainHandsOut d.board d.log end reports → HandsOutChain may_want d end reports
   hands_out_step d end wants lines out reports keep h =
       with_step (ChainHandsOut d.board d.log) (RefusedStep may_want d.board d.log) end reports h
-      (λ is. step_done d lines out reports keep (subst (λ (e : Result Unit StepRefused). PlayWants may_want d d.board.picks e) is wants))
+      (λ is. step_done d lines out reports keep (subst (λ (e : Result PlayEnd StepRefused). PlayWants may_want d d.board.picks (stop_of e)) is wants))
 
-  module _ (b : BoardSeen) (d : DemuxSeen) (of : d.board ≡ b) (reports : List LineReport) (before now : Option (List ℕ)) (end : Result Unit PlayFailed) where
+  module _ (b : BoardSeen) (d : DemuxSeen) (of : d.board ≡ b) (reports : List LineReport) (before now : Option (List ℕ)) (end : Result PlayEnd PlayFailed) where
     pub chains_board : (heard : List Run → Type 0) → Answers (chain_text b d.log) (HandsOutChain may_want d) reports before now end
         → heard (runs_of_steps b d.log) → ChainsBoard b heard reports before now end
     chains_board heard told called =

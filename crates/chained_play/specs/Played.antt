@@ -4,7 +4,10 @@ use Rattle.irq_base.specs.declared.devices.Run.{Run}
 use Rattle.irq_base.specs.declared.entries.Entry.{Entry}
 use Rattle.irq_base.specs.declared.reporting.LineReport.{LineReport}
 use Rattle.irq_line.specs.declared.answers.StepRefused.{StepRefused}
+use Rattle.board_core.specs.Hung.{SaysEnd, stop_of}
 use Rattle.board_core.specs.Runs.{runs_of}
+use Rattle.board_core.specs.Seen.{board_lines}
+use Rattle.board_core.specs.declared.ends.PlayEnd.{PlayEnd}
 use Rattle.board_def.specs.Layout.{layout_of}
 use Rattle.board_def.specs.Seen.{BoardSeen}
 use Rattle.irq_chained.specs.Chain.{children}
@@ -23,17 +26,17 @@ runs_of_steps b g = runs_of b (children (reverse g))
 -- What the play answers and prints, by how it ended, and for which runs handlers were called;
 -- `heard` says of runs that it is these. Nothing is printed unless the play came to its end.
 abbrev pub ChainsBoard : BoardSeen → (List Run → Type 0) → List LineReport → Option (List ℕ)
-    → Option (List ℕ) → Result Unit PlayFailed → Type 0
+    → Option (List ℕ) → Result PlayEnd PlayFailed → Type 0
 ChainsBoard b heard = AnswersOfSome (chain_text b) (ChainHandsOut b) (runs_of_steps b) heard
 
 -- If a step was refused memory, it is told which step it was; `may_want` says for which entry that
 -- is due a line may want memory though there is room.
 abbrev pub TellsStep : (Option Entry → Type 0) → BoardSeen → List LineReport
-    → Result Unit PlayFailed → Type 0
+    → Result PlayEnd PlayFailed → Type 0
 TellsStep may_want b = TellsOfSome (ChainCut b) (RefusedStep may_want b)
 
 -- what the reports hand out, and of a step that was refused memory which it was
-abbrev pub HandsOutChain : (Option Entry → Type 0) → DemuxSeen → Result Unit StepRefused
+abbrev pub HandsOutChain : (Option Entry → Type 0) → DemuxSeen → Result PlayEnd StepRefused
     → List LineReport → Type 0
 HandsOutChain may_want d =
     HandsOutStep (ChainHandsOut d.board d.log) (RefusedStep may_want d.board d.log)
@@ -41,9 +44,10 @@ HandsOutChain may_want d =
 -- what is seen of a play that has ended
 pub record ChainPlaySeen : Type 0 where
   pub demux : DemuxSeen
-  pub end : Result Unit StepRefused
+  pub end : Result PlayEnd StepRefused
 
 -- a demultiplexer in which its board was played, and how the play ended
-pub record IsPlayedDemux (d : DemuxSeen) (end : Result Unit StepRefused) : Type 0 where
+pub record IsPlayedDemux (d : DemuxSeen) (end : Result PlayEnd StepRefused) : Type 0 where
   pub layout : d.layout ≡ layout_of d.board
-  pub play : IsPlay d d.board.picks end
+  pub play : IsPlay d d.board.picks (stop_of end)
+  pub says : SaysEnd (board_lines d.lines) end

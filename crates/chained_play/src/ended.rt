@@ -1,6 +1,7 @@
 //! A play behind one demultiplexer that has ended.
 
 use crate::printing::ChainRows;
+use board_core::PlayEnd;
 use board_def::{Board, Layout};
 use board_report::{ReportRoom, hand_out};
 use irq_base::Reports;
@@ -14,10 +15,11 @@ use std::marker::Model;
 #[derive(Drop)]
 pub struct ChainPlay<'b, L: IrqLine> {
     pub(crate) demux: Demux<'b, L>,
-    pub(crate) end: Result<(), StepRefused>,
+    pub(crate) end: Result<PlayEnd, StepRefused>,
 }
 
 impl<'b, L: IrqLine> Model for ChainPlay<'b, L> {
+    ghost use Rattle.board_core.specs.Hung.{stop_of};
     ghost use Rattle.irq_chained.specs.Wanted.{PlayWants};
     ghost use Rattle.chained_play.specs.Played.{ChainPlaySeen, IsPlayedDemux};
 
@@ -26,7 +28,7 @@ impl<'b, L: IrqLine> Model for ChainPlay<'b, L> {
     ghost view = { λ p. record { demux = p.demux; end = p.end } };
 
     ghost invariant = { λ p. IsPlayedDemux p.demux p.end
-        × PlayWants L.may_want p.demux p.demux.board.picks p.end };
+        × PlayWants L.may_want p.demux p.demux.board.picks (stop_of p.end) };
 }
 
 impl<'b, L: IrqLine> EndedPlay for ChainPlay<'b, L> {
@@ -41,7 +43,7 @@ impl<'b, L: IrqLine> EndedPlay for ChainPlay<'b, L> {
 
     ghost hands_out = { λ p. HandsOutChain L.may_want p.demux };
 
-    fn end(&self) -> Result<(), StepRefused> {
+    fn end(&self) -> Result<PlayEnd, StepRefused> {
         self.end
     }
 

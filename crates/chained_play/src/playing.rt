@@ -59,6 +59,7 @@ pub fn chained_and_print<O: Sink, M: MakesDomainLine, H: Handler>(
     let Ok(mut demux) = Demux::new(alloc, board, layout, &maker) else {
         return Ok(unplayed(alloc));
     };
-    let end = demux.play(board.picks(), handlers);
+    let stop = demux.play(board.picks(), handlers);
+    let end = demux.end_after(stop);
     Ok(report(board, ChainPlay { demux, end }, room, out))
 }

@@ -5,7 +5,7 @@ use Rattle.irq_base.specs.declared.devices.DeviceDef.{DeviceDef}
 use Rattle.irq_base.specs.declared.numbers.DevNo.{DevNo}
 use Rattle.irq_model.specs.Kinds.{same_dev}
 use Rattle.irq_model.specs.Valid.{HasDistinctDevices}
-use Rattle.irq_steps.proofs.Same.{same_self, dev_from_same}
+use Rattle.irq_model.proofs.Same.{same_self, dev_from_same}
 use Rattle.device_table.specs.Rows.{at, put, table_by, lower, lowest_where, HasOwnKeys}
 use Rattle.device_table.proofs.Tables.{at_none}
 

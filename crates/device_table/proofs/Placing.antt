@@ -5,7 +5,7 @@ use Rattle.std.specs.Map.{keys_of}
 use Rattle.indexmap.specs.IndexMap.{set_value_at}
 use Rattle.irq_base.specs.declared.numbers.DevNo.{DevNo}
 use Rattle.irq_model.specs.Kinds.{same_dev}
-use Rattle.irq_steps.proofs.Same.{dev_from_same, same_both}
+use Rattle.irq_model.proofs.Same.{dev_from_same, same_both}
 use Rattle.device_table.specs.Rows.{put, is_row_of}
 
 module _ {R : Type 0} where

@@ -8,7 +8,7 @@ use Rattle.irq_model.specs.Kinds.{same_dev}
 use Rattle.irq_model.specs.Lines.{is_device}
 use Rattle.irq_model.specs.Places.{count_of}
 use Rattle.irq_model.specs.Valid.{HasDistinctDevices}
-use Rattle.irq_steps.proofs.Same.{same_both}
+use Rattle.irq_model.proofs.Same.{same_both}
 use Rattle.device_table.specs.Rows.{at, table_by}
 use Rattle.device_table.proofs.Tables.{at_none}
 

@@ -44,7 +44,7 @@ use Rattle.irq_laws.proofs.Requested.{due_passes}
 use Rattle.irq_laws.specs.Actors.{calls_at_work, calls_of, entries_of}
 use Rattle.log_read.specs.Versions.{has_some, is_new_call, may_have, needs_runs}
 use Rattle.log_text.specs.Words.{handled_words}
-use Rattle.board_versions.specs.OfVersion.{HasOldRows, has_old_row, is_told_kind}
+use Rattle.board_stated.specs.OfVersion.{HasOldRows, has_old_row, is_told_kind}
 
 -- ---- the step of an old call is an old one
 

@@ -18,7 +18,7 @@ use Rattle.irq_base.specs.declared.lines.LineDef.{LineDef}
 use Rattle.irq_base.specs.declared.numbers.LineNo.{LineNo}
 use Rattle.irq_model.specs.Kinds.{same_line}
 use Rattle.irq_model.specs.Legal.{IsLegal}
-use Rattle.irq_steps.proofs.Same.{line_from_same}
+use Rattle.irq_model.proofs.Same.{line_from_same}
 use Rattle.board_def.specs.Layout.{layout_of}
 use Rattle.irq_model.specs.Next.{next_past}
 use Rattle.irq_laws.proofs.OwnLaws.{due_is_own_past}
@@ -58,10 +58,10 @@ use Rattle.play_report.specs.Report.{moves_text}
 use Rattle.explore_picks.proofs.Allowed.{may_have_row}
 use Rattle.explore_picks.proofs.Bytes.{above_feed, digits_plain, not_hash, is_plain, picks_pass}
 use Rattle.explore_picks.proofs.Named.{kept}
-use Rattle.board_versions.specs.OfVersion.{HasOldRows, IsOfItsVersion}
+use Rattle.board_stated.specs.OfVersion.{HasOldRows, IsOfItsVersion}
 use Rattle.explore_picks.specs.Rows.{pick_text, picks_line, picks_row, picks_text, row_at}
 use Rattle.explore_picks.specs.Stated.{IsNameable}
-use Rattle.explore_play.specs.Made.{ArePicked}
+use Rattle.explore_picks.specs.Made.{ArePicked}
 
 -- ---- the rows of the text
 

@@ -1,8 +1,11 @@
 mod Rows
 mod Printable
-mod Playing
+mod MadePlays
 mod Bytes
 mod Stating
 mod Named
 pub mod Allowed
 pub mod Lawful
+pub mod PickedMoves
+pub mod Beginning
+pub mod Alone

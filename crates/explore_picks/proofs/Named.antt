@@ -15,7 +15,7 @@ use Rattle.irq_base.specs.declared.numbers.DriverNo.{DriverNo}
 use Rattle.irq_model.specs.Kinds.{same_dev}
 use Rattle.irq_model.specs.Lines.{has_device}
 use Rattle.irq_model.specs.Next.{next_of_thread}
-use Rattle.irq_steps.proofs.Same.{dev_from_same, driver_from_same}
+use Rattle.irq_model.proofs.Same.{dev_from_same, driver_from_same}
 use Rattle.play_laws.proofs.Listed.{mover_listed}
 use Rattle.play_laws.specs.Actors.{IsOneOf, count_up, threads_of, cpus_of, drivers_of, actors_of}
 use Rattle.board_def.specs.Rules.{IsBoard, IsNumber, find_device, has_driver}
@@ -27,8 +27,8 @@ use Rattle.board_play.proofs.Listed.{def_at}
 use Rattle.board_play.proofs.Moves.{MovesOn, moves_on}
 use Rattle.board_play.proofs.OfBoard.{def_of_row, device_found, valid_defs}
 use Rattle.board_play.proofs.Script.{current}
-use Rattle.explore_play.proofs.Making.{begins}
-use Rattle.explore_play.specs.Made.{ArePicked}
+use Rattle.explore_picks.proofs.PickedMoves.{begins}
+use Rattle.explore_picks.specs.Made.{ArePicked}
 use Rattle.explore_picks.specs.Stated.{IsNameable}
 
 -- the lines of a play that is made pick by pick

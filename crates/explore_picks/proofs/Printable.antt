@@ -10,7 +10,7 @@ use Rattle.board_play.proofs.Moves.{moves_on}
 use Rattle.board_play.proofs.Parts.{due_of}
 use Rattle.board_report.proofs.Printable.{printable, turned}
 use Rattle.play_report.specs.Printing.{HasRow}
-use Rattle.explore_play.specs.Made.{ArePicked}
+use Rattle.explore_picks.specs.Made.{ArePicked}
 use Rattle.explore_picks.specs.Small.{HasSmallMove}
 use Rattle.std.proofs.Common.{drop, slice_get}
 use Rattle.std.proofs.lemmas.Option.{same_Some}

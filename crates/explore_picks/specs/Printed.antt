@@ -14,12 +14,12 @@ use Rattle.board_core.specs.Runs.{runs_of}
 use Rattle.log_check.specs.Verdicts.{ChecksLog}
 use Rattle.log_check.specs.declared.verdict.Verdict.TheVariants as verdicts
 use Rattle.play_report.specs.Report.{moves_text}
-use Rattle.board_versions.specs.OfVersion.{IsOfItsVersion}
+use Rattle.board_stated.specs.OfVersion.{IsOfItsVersion}
 use Rattle.explore_picks.specs.Rows.{picks_text}
 use Rattle.explore_picks.specs.Stated.{AreStated}
 use Rattle.explore_picks.specs.declared.failing.ExploreFailed.{ExploreFailed}
 use Rattle.explore_picks.specs.declared.failing.ExploreFailed.TheVariants as fails
-use Rattle.explore_play.specs.Made.{ArePicked, IsHeardPlay}
+use Rattle.explore_picks.specs.Made.{ArePicked, IsHeardPlay}
 
 -- with these picks in place of the board's, whatever picks come after them, each play of the board
 -- begins with these moves

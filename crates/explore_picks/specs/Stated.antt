@@ -22,7 +22,8 @@ IsNameable (actors.Driver driver) = IsNumber driver.0
 pub record StatesPicks (line : List ℕ) (picks : List Actor) : Type 0 where
   pub bytes : has_bad_byte line ≡ false
   pub sound : (version : ℕ) → fault_of_words version (words_of line) ≡ None
-  pub adds : (whose : Writer) (b : BoardSeen) → with_statement whose (statement_of (words_of line)) b
+  pub adds : (whose : Writer) (b : BoardSeen)
+      → with_statement whose (statement_of (words_of line)) b
       ≡ record b { picks = b.picks ++ picks }
 
 -- each row of these picks does, without its `# `

@@ -1,4 +1,3 @@
 mod Asked
-mod Buffers
-mod NoForm
+mod Forms
 mod Outcomes

@@ -1,8 +1,8 @@
 -- What is done with a board that was read.
-use Rattle.std.proofs.Common.{◌≡◌, ◌⊎◌, inl, inr, ℕ, true, false, Option, Some, None, Result, Ok, Err, List, refl, sym, ap, subst, ◌∙◌}
+use Rattle.std.proofs.Common.{◌≡◌, ◌⊎◌, inl, inr, ℕ, true, false, Option, Some, None, Result, Ok, Err, List, [], refl, sym, ap, subst, ◌∙◌}
 use Rattle.board_def.specs.Rules.{IsBoard}
 use Rattle.board_def.specs.Seen.{BoardSeen}
-use Rattle.board_versions.proofs.OldTexts.{text_is_of_its_version}
+use Rattle.board_stated.proofs.OldTexts.{text_is_of_its_version}
 use Rattle.explore_picks.specs.declared.failing.ExploreFailed.{ExploreFailed}
 use Rattle.explore_picks.specs.declared.failing.ExploreFailed.TheVariants as fails
 use Rattle.explore_words.specs.Words.{may_ask}
@@ -12,10 +12,14 @@ use Rattle.explore_words.specs.declared.What.TheVariants as whats
 use Rattle.irq_base.specs.declared.devices.Run.{Run}
 use Rattle.irq_explore.specs.declared.exploring.Explored.{Explored}
 use Rattle.irq_explore.specs.declared.exploring.Explored.TheVariants as finds
+use Rattle.irq_explore.specs.Explored.{is_printed as is_whole, is_printing as is_saying, is_write_fault}
+use Rattle.irq_io.specs.Faults.{Counts}
 use Rattle.program_io.specs.Reading.{IsStated, ReadsBoard}
+use Rattle.program_io.specs.Streams.{KeepsOutput}
 use Rattle.explore_top.specs.Does.{Does, ExploresAs, ExploresInput, ExploresOwn, ExploresWhat, HeardBefore, IsReadToEnd}
-use Rattle.explore_top.specs.Ending.{ending_of, is_read_fault_end}
+use Rattle.explore_top.specs.Ending.{end_seen, ending_of, is_read_fault_end}
 use Rattle.explore_top.specs.declared.ending.Ending.{Ending}
+use Rattle.explore_top.specs.declared.ending.Ending.TheVariants as endings
 
 read_to_end : (told left : Option (List ℕ)) (b : BoardSeen) → ReadsBoard told left (Ok b) → IsReadToEnd told left
 read_to_end None left b read = tt
@@ -72,3 +76,22 @@ pub explored_unread : (asked : Asked) (heard : List Run → Type 0) (b : BoardSe
     → ExploresOwn asked heard b before now ending → is_read_fault_end ending ≡ false
 explored_unread asked heard b before now ending (inl (own, (end, is, done))) = ap is_read_fault_end is ∙ no_read_fault asked.states end
 explored_unread asked heard b before now ending (inr (another, is, unheard)) = ap is_read_fault_end is
+
+-- ---- what is left of the output
+
+module _ {same : Type 0} {kept : List ℕ} {before now : ℕ} (states : ℕ) where
+  by_exploring : (end : Result Explored ExploreFailed) → (is_whole end ≡ true → kept ≡ []) → Counts before now (is_write_fault end)
+      → (is_saying end ≡ false → same) → KeepsOutput (end_seen (ending_of states end)) same kept before now
+  by_exploring (Ok finds.Done) emptied counts silent = record { emptied = emptied; write_fault = counts; silent = silent }
+  by_exploring (Ok finds.Never) emptied counts silent = record { emptied = emptied; write_fault = counts; silent = silent }
+  by_exploring (Ok (finds.Cut line)) emptied counts silent = record { emptied = emptied; write_fault = counts; silent = silent }
+  by_exploring (Ok finds.NoPlay) emptied counts silent = record { emptied = emptied; write_fault = counts; silent = silent }
+  by_exploring (Err fails.NotThere) emptied counts silent = record { emptied = emptied; write_fault = counts; silent = silent }
+  by_exploring (Err fails.NoMemory) emptied counts silent = record { emptied = emptied; write_fault = counts; silent = silent }
+  by_exploring (Err (fails.Write failed)) emptied counts silent = record { emptied = emptied; write_fault = counts; silent = silent }
+
+  pub keeps_as_explored : (end : Result Explored ExploreFailed) (ending : Ending) → ending ≡ ending_of states end
+      → (is_whole end ≡ true → kept ≡ []) → Counts before now (is_write_fault end) → (is_saying end ≡ false → same)
+      → KeepsOutput (end_seen ending) same kept before now
+  keeps_as_explored end ending is emptied counts silent =
+      subst (λ (e : Ending). KeepsOutput (end_seen e) same kept before now) (sym is) (by_exploring end emptied counts silent)

@@ -4,7 +4,7 @@
 use Rattle.std.specs.Prelude.{◌≡◌, ◌⊎◌, ℕ, true, false, Option, Some, None, Result, Err, List, []}
 use Rattle.board_def.specs.Rules.{IsBoard}
 use Rattle.board_def.specs.Seen.{BoardSeen}
-use Rattle.board_versions.specs.OfVersion.{IsOfItsVersion}
+use Rattle.board_stated.specs.OfVersion.{IsOfItsVersion}
 use Rattle.explore_picks.specs.Printed.{HeardSome}
 use Rattle.explore_picks.specs.declared.failing.ExploreFailed.{ExploreFailed}
 use Rattle.explore_words.specs.Words.{may_ask}
@@ -89,3 +89,14 @@ Does asked heard told left before now endings.ReadFault = heard []
 Does asked heard told left before now endings.NoMemory = HeardBefore heard told
 Does asked heard told left before now ending =
     ExploresInput asked heard told left before now ending
+
+-- What is done of what is asked, which `IsAsked` tells. If nothing is asked, that is a fault of
+-- usage, unless memory was refused, and source and handlers are the `same`.
+pub record DoesAsked (IsAsked : Asked → Type 0) (heard : List Run → Type 0)
+    (same_source same_handlers : Type 0) (told left before now : Option (List ℕ)) (ending : Ending)
+    : Type 0 where
+  pub usage : ((asked : Asked) → IsAsked asked → ⊥)
+      → (ending ≡ endings.Usage) ⊎ (ending ≡ endings.NoMemory)
+  pub unread : ((asked : Asked) → IsAsked asked → ⊥) → same_source
+  pub unheard : ((asked : Asked) → IsAsked asked → ⊥) → same_handlers
+  pub does : (asked : Asked) → IsAsked asked → Does asked heard told left before now ending

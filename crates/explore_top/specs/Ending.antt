@@ -5,6 +5,7 @@ use Rattle.explore_picks.specs.declared.failing.ExploreFailed.TheVariants as fai
 use Rattle.irq_explore.specs.declared.exploring.Explored.{Explored}
 use Rattle.irq_explore.specs.declared.exploring.Explored.TheVariants as finds
 use Rattle.program_io.specs.ErrorRows.{fault_row}
+use Rattle.program_io.specs.Streams.{EndSeen}
 use Rattle.program_io.specs.declared.inputs.InputRefused.{InputRefused}
 use Rattle.program_io.specs.declared.inputs.InputRefused.TheVariants as refusals
 use Rattle.explore_top.specs.declared.ending.Ending.{Ending}
@@ -77,3 +78,14 @@ abbrev pub is_quiet : Ending → Bool
 is_quiet endings.Done = true
 is_quiet endings.Never = true
 is_quiet _ = false
+
+-- what an ending says of the streams
+abbrev pub end_seen : Ending → EndSeen
+end_seen ending = record {
+  printed = is_printed ending;
+  printing = is_printing ending;
+  is_quiet = is_quiet ending;
+  row = error_text ending;
+  read_failed = is_read_fault_end ending;
+  write_failed = is_write_fault_end ending;
+}

@@ -1,3 +1,2 @@
-pub mod Arguments
 pub mod Does
 pub mod Ending

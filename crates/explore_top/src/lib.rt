@@ -13,5 +13,6 @@ pub mod top;
 pub use commands::command;
 pub use ending::Ending;
 pub use error_rows::error_row;
-pub use running::{Ended, run};
+pub use program_io::Ended;
+pub use running::run;
 pub use top::{end_early, explore_main};

@@ -5,9 +5,9 @@ ghost use Rattle.explore_words.specs.Words.{Asks, AsksNothing, IsCount};
 ghost use Rattle.explore_words.specs.declared.Asked.{Asked};
 ghost use Rattle.irq_io.specs.Faults.{Counts};
 ghost use Rattle.program_io.specs.ErrorRows.{Tells};
+ghost use Rattle.program_io.specs.Streams.{KeepsOutput, KeepsStreams};
 ghost use Rattle.explore_top.specs.Does.{Does, ExploresAs, ExploresOwn, ExploresWhat};
-ghost use Rattle.explore_top.specs.Ending.{error_text, is_printed, is_printing, is_quiet};
-ghost use Rattle.explore_top.specs.Ending.{is_read_fault_end, is_write_fault_end};
+ghost use Rattle.explore_top.specs.Ending.{end_seen, error_text, is_quiet, is_read_fault_end};
 ghost use Rattle.irq_explore.specs.Explored.{is_printed as is_whole, is_printing as is_saying};
 ghost use Rattle.irq_explore.specs.Explored.{is_write_fault};
 
@@ -45,17 +45,8 @@ pub fn explore_main<S: Source, O: Sink, E: Sink, M: MakesDomainLine, H: Handler>
     ensures does { (asked : Asked) → Asks (map (λ w. w.now) words.now) asked
         → Does asked (λ runs. Heard H.hears runs handlers.old handlers.new) (S.left src.old)
         (S.left src.new) (O.written out.old) (O.written out.new) result }
-    ensures read_fault { Counts (S.faults src.old) (S.faults src.new) (is_read_fault_end result) }
-
-    ensures emptied { is_printed result ≡ true → O.kept out.new ≡ [] }
-    ensures write_fault { Counts (O.faults out.old) (O.faults out.new)
-        (is_write_fault_end result) }
-    ensures silent { is_printing result ≡ false → out.new ≡ out.old }
-
-    ensures tells { is_quiet result ≡ false
-        → Tells (error_text result) (E.written err.old) (E.written err.new) (E.kept err.new)
-        (E.faults err.old) (E.faults err.new) }
-    ensures quiet { is_quiet result ≡ true → err.new ≡ err.old }
+    ensures keeps { KeepsStreams (end_seen result) S.faults src.old src.new O.kept O.faults
+        out.old out.new E.written E.kept E.faults err.old err.new }
 {
     let ending = work(alloc, words, src, out, maker, handlers);
     if !is_quiet(ending) {
@@ -80,10 +71,8 @@ fn work<S: Source, O: Sink, M: MakesDomainLine, H: Handler>(
         → Does asked (λ runs. Heard H.hears runs handlers.old handlers.new) (S.left src.old)
         (S.left src.new) (O.written out.old) (O.written out.new) result }
     ensures read_fault { Counts (S.faults src.old) (S.faults src.new) (is_read_fault_end result) }
-    ensures emptied { is_printed result ≡ true → O.kept out.new ≡ [] }
-    ensures write_fault { Counts (O.faults out.old) (O.faults out.new)
-        (is_write_fault_end result) }
-    ensures silent { is_printing result ≡ false → out.new ≡ out.old }
+    ensures keeps { KeepsOutput (end_seen result) (out.new ≡ out.old) (O.kept out.new)
+        (O.faults out.old) (O.faults out.new) }
 {
     match read_words(words) {
         Some(asked) => act(alloc, asked, src, out, maker, handlers),
@@ -104,10 +93,8 @@ fn act<S: Source, O: Sink, M: MakesDomainLine, H: Handler>(
     ensures does { Does asked (λ runs. Heard H.hears runs handlers.old handlers.new)
         (S.left src.old) (S.left src.new) (O.written out.old) (O.written out.new) result }
     ensures read_fault { Counts (S.faults src.old) (S.faults src.new) (is_read_fault_end result) }
-    ensures emptied { is_printed result ≡ true → O.kept out.new ≡ [] }
-    ensures write_fault { Counts (O.faults out.old) (O.faults out.new)
-        (is_write_fault_end result) }
-    ensures silent { is_printing result ≡ false → out.new ≡ out.old }
+    ensures keeps { KeepsOutput (end_seen result) (out.new ≡ out.old) (O.kept out.new)
+        (O.faults out.old) (O.faults out.new) }
 {
     match read_input(alloc, src) {
         Ok(board) => {
@@ -130,10 +117,8 @@ fn explore_own<O: Sink, M: MakesDomainLine, H: Handler>(
     requires { IsCount asked.states }
     ensures does { ExploresOwn asked (λ runs. Heard H.hears runs handlers.old handlers.new)
         board.now (O.written out.old) (O.written out.new) result }
-    ensures emptied { is_printed result ≡ true → O.kept out.new ≡ [] }
-    ensures write_fault { Counts (O.faults out.old) (O.faults out.new)
-        (is_write_fault_end result) }
-    ensures silent { is_printing result ≡ false → out.new ≡ out.old }
+    ensures keeps { KeepsOutput (end_seen result) (out.new ≡ out.old) (O.kept out.new)
+        (O.faults out.old) (O.faults out.new) }
 {
     if may_ask(board, &asked.what) {
         explore(alloc, board, asked, out, maker, handlers)
@@ -154,10 +139,8 @@ fn explore<O: Sink, M: MakesDomainLine, H: Handler>(
     requires { IsCount asked.states }
     ensures does { ExploresAs asked (λ runs. Heard H.hears runs handlers.old handlers.new)
         board.now (O.written out.old) (O.written out.new) result }
-    ensures emptied { is_printed result ≡ true → O.kept out.new ≡ [] }
-    ensures write_fault { Counts (O.faults out.old) (O.faults out.new)
-        (is_write_fault_end result) }
-    ensures silent { is_printing result ≡ false → out.new ≡ out.old }
+    ensures keeps { KeepsOutput (end_seen result) (out.new ≡ out.old) (O.kept out.new)
+        (O.faults out.old) (O.faults out.new) }
 {
     let end = explore_what(alloc, board, asked.states, asked.what, out, maker, handlers);
     Ending::of(end, asked.states)

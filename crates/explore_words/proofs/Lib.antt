@@ -2,6 +2,7 @@ pub mod Counting
 pub mod Cutting
 pub mod Dashes
 pub mod Firsts
+pub mod Hung
 pub mod Joined
 pub mod One
 pub mod Spelled

@@ -1,7 +1,8 @@
 -- Words ask for one thing at most.
-use Rattle.std.proofs.Common.{◌≡◌, ℕ, inl, inr, Bool, true, false, cond, None, List, [], ◌∷◌, ◌++◌, codes, decimal}
+use Rattle.std.proofs.Common.{◌≡◌, ℕ, inl, inr, Bool, true, false, cond, Option, None, IfSome, List, [], ◌∷◌, ◌++◌, codes, decimal}
 use Rattle.std.proofs.Common.{get_or, drop, refl, sym, ap, subst, ◌∙◌, arith}
 use Rattle.std.specs.Str.{bytes_eq}
+use Rattle.irq_base.specs.declared.entries.Actor.{Actor}
 use Rattle.irq_base.specs.declared.entries.Entry.{Entry}
 use Rattle.irq_base.specs.declared.entries.Entry.TheVariants as by
 use Rattle.irq_base.specs.declared.numbers.LineNo.{LineNo}
@@ -11,6 +12,7 @@ use Rattle.line_wanted.specs.declared.left.Standing.TheVariants as standings
 use Rattle.line_wanted.specs.declared.wanted.Wanted.{Wanted}
 use Rattle.line_wanted.specs.declared.wanted.Wanted.TheVariants as wants
 use Rattle.log_read.specs.Left.{words_of}
+use Rattle.log_read.specs.Who.{HasSmallActor}
 use Rattle.log_text.proofs.RowLaws.{rows_tell}
 use Rattle.log_text.proofs.Splitting.{row_back as entry_back}
 use Rattle.log_text.specs.EntryWords.{entry_words}
@@ -23,6 +25,7 @@ use Rattle.explore_words.specs.declared.What.{What}
 use Rattle.explore_words.specs.declared.What.TheVariants as whats
 use Rattle.explore_words.proofs.Counting.{same_number}
 use Rattle.explore_words.proofs.Dashes.{dashed, no_bytes}
+use Rattle.explore_words.proofs.Hung.{hung_tells, rest_of}
 use Rattle.explore_words.proofs.Spelled.{rest_back, row_back}
 
 abbrev at : List (List ℕ) → ℕ → List ℕ
@@ -60,11 +63,15 @@ pending_same true false = refl
 pending_same false true = refl
 pending_same true true = refl
 
-abbrev left_by : Standing → ℕ → Bool → Bool → Left
-left_by standing unserved stored pending = record { standing = standing; unserved = unserved; stored = stored; pending = pending }
+abbrev left_by : Option Actor → Standing → ℕ → Bool → Bool → Left
+left_by hung standing unserved stored pending =
+    record { hung = hung; standing = standing; unserved = unserved; stored = stored; pending = pending }
 
-left_same : (a b : Left) → IsSmall a.unserved → IsSmall b.unserved → left_words a ≡ left_words b → a ≡ b
-left_same a b small low same =
+left_same : (a b : Left) → IsSmall a.unserved → IsSmall b.unserved → IfSome a.hung HasSmallActor → IfSome b.hung HasSmallActor
+    → left_words a ≡ left_words b → a ≡ b
+left_same a b small low x y said =
+    let both = hung_tells a.hung b.hung a.standing b.standing _ _ x y said in
+    let same : rest_of a ≡ rest_of b = both.1 in
     let standing : a.standing ≡ b.standing =
     sym (standing_same a.standing) ∙ (ap (λ ws. standing_at (at ws 0)) same ∙ standing_same b.standing) in
     let unserved : a.unserved ≡ b.unserved = same_number a.unserved b.unserved small low (ap (λ ws. at ws 1) same) in
@@ -72,9 +79,10 @@ left_same a b small low same =
     sym (stored_same a.stored a.pending) ∙ (ap (λ ws. stored_at (at ws 2)) same ∙ stored_same b.stored b.pending) in
     let pending : a.pending ≡ b.pending =
     sym (pending_same a.stored a.pending) ∙ (ap (λ ws. pending_at (at ws 2)) same ∙ pending_same b.stored b.pending) in
-    ap (λ s. left_by s a.unserved a.stored a.pending) standing
-    ∙ (ap (λ n. left_by b.standing n a.stored a.pending) unserved
-    ∙ (ap (λ s. left_by b.standing b.unserved s a.pending) stored ∙ ap (λ p. left_by b.standing b.unserved b.stored p) pending))
+    ap (λ h. left_by h a.standing a.unserved a.stored a.pending) both.0
+    ∙ (ap (λ s. left_by b.hung s a.unserved a.stored a.pending) standing
+    ∙ (ap (λ n. left_by b.hung b.standing n a.stored a.pending) unserved
+    ∙ (ap (λ s. left_by b.hung b.standing b.unserved s a.pending) stored ∙ ap (λ p. left_by b.hung b.standing b.unserved b.stored p) pending)))
 
 -- the first byte of the word that says who made an entry
 apart : (m n : ℕ) (bs cs : List ℕ) → (m ≡ n → ⊥) → m ∷ bs ≡ n ∷ cs → ⊥
@@ -109,7 +117,7 @@ module _ (bytes : List ℕ) where
       let same : decimal l.0 ∷ codes "rest" ∷ left_words x ≡ decimal m.0 ∷ codes "rest" ∷ left_words y = sym s.words ∙ t.words in
       let line : l.0 ≡ m.0 = same_number l.0 m.0 s.number t.number (ap (λ ws. at ws 0) same) in
       ap (λ n. row_of (line_no n) (wants.Rest x)) line
-      ∙ ap (λ z. row_of m (wants.Rest z)) (left_same x y s.small t.small (ap (λ (ws : List (List ℕ)). drop 2 ws) same))
+      ∙ ap (λ z. row_of m (wants.Rest z)) (left_same x y s.small t.small s.actor t.actor (ap (λ (ws : List (List ℕ)). drop 2 ws) same))
 
   row_and_rest : (l m : LineNo) (e : Entry) (y : Left) → Spells bytes l (wants.Row e) → Spells bytes m (wants.Rest y) → ⊥
   row_and_rest l m e y a b =

@@ -1,11 +1,13 @@
 -- A row has at most 320 bytes.
-use Rattle.std.proofs.Common.{◌≡◌, ℕ, ◌+◌, ◌<◌, ◌≤◌, Bool, true, false, List, [], ◌∷◌, length, decimal}
+use Rattle.std.proofs.Common.{◌≡◌, ℕ, ◌+◌, ◌<◌, ◌≤◌, Bool, true, false, Option, Some, None, IfSome, List, [], ◌∷◌, ◌++◌, length, decimal}
 use Rattle.std.specs.Prelude.{nat_lt}
 use Rattle.std.proofs.Common.{ap, arith}
 use Rattle.std.proofs.lemmas.Fmt.{length-decimal-le}
 use Rattle.std.proofs.lemmas.List.{length-append}
 use Rattle.irq_base.specs.declared.devices.Answer.{Answer}
 use Rattle.irq_base.specs.declared.devices.Answer.TheVariants as answers
+use Rattle.irq_base.specs.declared.entries.Actor.{Actor}
+use Rattle.irq_base.specs.declared.entries.Actor.TheVariants as actors
 use Rattle.irq_base.specs.declared.entries.Entry.{Entry}
 use Rattle.irq_base.specs.declared.entries.Entry.TheVariants as by
 use Rattle.irq_base.specs.declared.entries.CpuEntry.{CpuEntry}
@@ -35,16 +37,19 @@ use Rattle.irq_base.specs.declared.entries.UnlinkAnswer.TheVariants as unlinks
 use Rattle.irq_base.specs.declared.entries.AffinityAnswer.{AffinityAnswer}
 use Rattle.irq_base.specs.declared.entries.AffinityAnswer.TheVariants as affinities
 use Rattle.irq_base.specs.declared.numbers.LineNo.{LineNo}
+use Rattle.line_wanted.specs.declared.left.Left.{Left}
 use Rattle.line_wanted.specs.declared.left.Standing.{Standing}
 use Rattle.line_wanted.specs.declared.left.Standing.TheVariants as standings
 use Rattle.line_wanted.specs.declared.wanted.Wanted.{Wanted}
 use Rattle.line_wanted.specs.declared.wanted.Wanted.TheVariants as wants
-use Rattle.log_text.specs.EntryWords.{call_words, cpu_words, driver_words, entry_words, thread_words}
+use Rattle.log_read.specs.Who.{HasSmallActor}
+use Rattle.log_text.specs.EntryWords.{actor_word, call_words, cpu_words, driver_words, entry_words, thread_words}
 use Rattle.log_text.specs.Formed.{HasSmallCall, HasSmallCpu, HasSmallDriver, HasSmallThread, IsSmall, IsWritable}
 use Rattle.log_text.specs.Words.{way_word, take_word, answer_word, loop_word, mask_word, note_word, bit_word}
 use Rattle.log_text.specs.Words.{flags_word, enable_words, link_words, unlink_word, affinity_words, yes_word, edge_words}
 use Rattle.log_text.specs.Words.{handled_words}
-use Rattle.explore_words.specs.Rows.{HasRow, Spells, joined, standing_word, waits_word, wanted_words}
+use Rattle.explore_words.specs.Rows.{HasRow, Spells, hung_words, joined, standing_word, waits_word, wanted_words}
+use Rattle.explore_words.proofs.Hung.{rest_of}
 
 -- the bytes of words, each with a byte behind it
 abbrev size : List (List ℕ) → ℕ
@@ -216,13 +221,26 @@ waits_fits true false = omega arith
 waits_fits false true = omega arith
 waits_fits true true = omega arith
 
+actor_fits : (x : Actor) → HasSmallActor x → length (actor_word x) ≤ 11
+actor_fits (actors.Thread dev) small = let short = number_short dev.0 small in omega (arith, short)
+actor_fits (actors.Cpu cpu) small = let short = number_short cpu.0 small in omega (arith, short)
+actor_fits (actors.Driver driver) small = let short = number_short driver.0 small in omega (arith, short)
+
+hung_fits : (hung : Option Actor) (words : List (List ℕ)) → IfSome hung HasSmallActor → Fit 60 words → Fit 80 (hung_words hung ++ words)
+hung_fits None words small fit = omega (arith, fit)
+hung_fits (Some x) words small fit = let a = actor_fits x small in omega (arith, a, fit)
+
+rest_fits : (left : Left) → IsSmall left.unserved → Fit 60 (rest_of left)
+rest_fits left small =
+    let a = standing_fits left.standing in
+    let b = number_short left.unserved small in
+    let c = waits_fits left.stored left.pending in omega (arith, a, b, c)
+
 wanted_fits : (line : LineNo) (wanted : Wanted) → IsSmall line.0 → HasRow wanted → Fit 311 (wanted_words line wanted)
 wanted_fits line (wants.Row e) small w = let a = number_short line.0 small in let b = entry_fits e w in omega (arith, a, b)
 wanted_fits line (wants.Rest left) small w =
     let a = number_short line.0 small in
-    let b = standing_fits left.standing in
-    let c = number_short left.unserved w in
-    let d = waits_fits left.stored left.pending in omega (arith, a, b, c, d)
+    let b = hung_fits left.hung (rest_of left) w.1 (rest_fits left w.0) in omega (arith, a, b)
 
 joined_fits : (words : List (List ℕ)) → Fit 311 words → length (joined words) ≤ 320
 joined_fits [] fit = omega arith

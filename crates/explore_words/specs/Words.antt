@@ -1,5 +1,6 @@
 -- The words of the command line, and what they ask for.
-use Rattle.std.specs.Prelude.{◌≡◌, ◌⊎◌, ℕ, ◌≤◌, Bool, true, Option, MatchOption, List, [], ◌∷◌, codes, decimal}
+use Rattle.std.specs.Prelude.{◌≡◌, ◌⊎◌, ℕ, ◌≤◌, Bool, true, Option, MatchOption, List, [], ◌∷◌}
+use Rattle.std.specs.Prelude.{codes, decimal}
 use Rattle.log_text.specs.Formed.{IsSmall}
 use Rattle.irq_base.specs.declared.numbers.LineNo.{LineNo}
 use Rattle.line_wanted.specs.declared.wanted.Wanted.{Wanted}

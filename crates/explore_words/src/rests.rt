@@ -3,11 +3,12 @@ ghost use Rattle.std.specs.Prelude.{◌≡◌, ◌∷◌, [], MatchOption};
 ghost use Rattle.log_read.specs.Left.{is_space, words_of};
 ghost use Rattle.log_read.specs.Takes.{Any, Reads};
 ghost use Rattle.std.specs.List.{position};
-ghost use Rattle.explore_words.specs.Rows.{ReadsLeft, ReadsRest, standing_word, waits_word};
+ghost use Rattle.explore_words.specs.Rows.{ReadsHung, ReadsLeft, ReadsRest, standing_word};
+ghost use Rattle.explore_words.specs.Rows.{waits_word};
 
-use irq_base::LineNo;
+use irq_base::{Actor, LineNo};
 use line_wanted::{Left, Standing};
-use log_read::number_of;
+use log_read::{actor_named, number_of};
 
 /// How a line stands, by the word for it.
 fn read_standing(word: &[u8]) -> Option<Standing>
@@ -76,11 +77,25 @@ pub(crate) fn read_rest(row: &[u8]) -> Option<(LineNo, Left)>
     Some((LineNo(line), left))
 }
 
+/// Who is hung, by the words behind `rest`, and the words behind that. The word for how a line
+/// stands is none of an actor.
+fn read_hung(words: &[u8]) -> Option<(Option<Actor>, &[u8])>
+    ensures { ReadsHung words.now result }
+{
+    let (first, behind) = cut_word(words)?;
+    if first != b"hung".as_slice() {
+        return Some((None, words));
+    }
+    let (actor, behind) = cut_word(behind)?;
+    Some((Some(actor_named(actor)?), behind))
+}
+
 /// How a line is left, by the words behind `rest`.
 fn read_left(words: &[u8]) -> Option<Left>
     ensures { ReadsLeft words.now result }
 {
-    let (standing, behind) = cut_word(words)?;
+    let (hung, behind) = read_hung(words)?;
+    let (standing, behind) = cut_word(behind)?;
     let standing = read_standing(standing)?;
     let (unserved, waits) = cut_word(behind)?;
     let unserved = number_of(unserved)?;
@@ -88,6 +103,7 @@ fn read_left(words: &[u8]) -> Option<Left>
         return None;
     };
     Some(Left {
+        hung,
         standing,
         unserved: u64::from(unserved),
         stored,

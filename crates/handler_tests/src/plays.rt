@@ -3,6 +3,7 @@
 ghost use Rattle.std.specs.Prelude.{◌≡◌, ◌+◌, ◌-◌, ◌^◌, min};
 ghost use Rattle.handler_tests.specs.Counts.{count_of};
 
+use board_core::PlayEnd;
 use board_lines::MakesChainLine;
 use board_text::read_board;
 use callbacks::{ByKind, Handler};
@@ -81,10 +82,10 @@ fn adds_up(alloc: Global, text: &[u8]) -> Result<bool, NoMemory> {
     );
     let all = handlers.calls;
     Ok(match played.end {
-        Ok(()) => all == ALL,
+        Ok(PlayEnd::Settled) => all == ALL,
         Err(PlayFailed::NoMemory) => all == 0,
         Err(PlayFailed::Step(StepRefused::NoMemory)) => all < ALL,
-        Err(_) => false,
+        Ok(PlayEnd::Hung { .. }) | Err(_) => false,
     })
 }
 

@@ -15,7 +15,7 @@ use Rattle.irq_hotplug.specs.declared.berths.Berth.{Berth}
 use Rattle.irq_hotplug.specs.declared.events.Event.{Event}
 use Rattle.hotplug_plan.specs.Planned.{AreLinesOf, IsForHotplug, is_off, moves_of}
 use Rattle.hotplug_plan.proofs.Few.{few_berths, few_moves}
-use Rattle.hotplug_laws.proofs.Aiming.{IsLineOf, aims_after}
+use Rattle.hotplug_play.proofs.Aiming.{IsLineOf, aims_after}
 
 line_there : (b : BoardSeen) (x : Berth) → IsLineOf b x → has_line b.lines x.line ≡ true
 line_there b x is =

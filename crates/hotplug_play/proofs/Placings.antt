@@ -3,6 +3,7 @@ use Rattle.std.proofs.Common.{◌≡◌, ℕ, inl, List, [], OnErr, Result, Ok, 
 use Rattle.std.proofs.lemmas.List.{append-nil}
 use Rattle.play_report.specs.declared.failing.PlayFailed.{PlayFailed}
 use Rattle.play_report.specs.declared.failing.PlayFailed.TheVariants as fails
+use Rattle.board_core.specs.declared.ends.PlayEnd.{PlayEnd}
 use Rattle.board_def.specs.Seen.{BoardSeen}
 use Rattle.irq_hotplug.specs.Fleet.{FleetSeen, IsAfterSome, after_events, first_fleet, fleet_after}
 use Rattle.irq_hotplug.specs.Notices.{notices_of}
@@ -29,7 +30,7 @@ module _ (told : List Notice → Type 0) (b : BoardSeen) (vectors : ℕ) (es : L
   up_to_all all = record { taken = es; left = []; parts = sym (append-nil es); placings = all }
 
   -- all were told, however the play ended
-  pub all_told : (end : Result Unit PlayFailed) → told (placings_after b vectors es) → TellsPlacings told b vectors es end
+  pub all_told : (end : Result PlayEnd PlayFailed) → told (placings_after b vectors es) → TellsPlacings told b vectors es end
   all_told (Ok _) all = all
   all_told (Err (fails.Write failed)) all = all
   all_told (Err (fails.Step refused)) all = all

@@ -1,2 +1,5 @@
 pub mod Texts
 pub mod Played
+pub mod Rows
+pub mod Moments
+pub mod Aims

@@ -6,18 +6,21 @@ use Rattle.irq_base.specs.declared.numbers.LineNo.{LineNo}
 use Rattle.irq_base.specs.declared.reporting.LineReport.{LineReport}
 use Rattle.irq_line.specs.declared.answers.StepRefused.{StepRefused}
 use Rattle.irq_line.specs.declared.answers.StepRefused.TheVariants as refusals
+use Rattle.irq_base.specs.declared.entries.Actor.{Actor}
+use Rattle.board_core.specs.declared.ends.PlayEnd.{PlayEnd}
+use Rattle.board_core.specs.declared.ends.PlayEnd.TheVariants as ends
 use Rattle.board_def.specs.Rules.{IsBoard}
 use Rattle.board_def.specs.Seen.{BoardSeen}
 use Rattle.board_play.specs.Lines.{Move, part}
-use Rattle.irq_play.specs.Headline.{CutShort, FullLog, Headline}
+use Rattle.irq_play.specs.Headline.{CutShort, FullLog, Headline, HungPlay}
 use Rattle.irq_play.specs.Played.{runs_of_moves}
 use Rattle.notifiers.specs.Told.{Notice}
 use Rattle.irq_hotplug.specs.Fleet.{FleetSeen, fleet_after}
 use Rattle.irq_hotplug.specs.Notices.{notices_of}
 use Rattle.irq_hotplug.specs.declared.events.Event.{Event}
 use Rattle.hotplug_plan.specs.Planned.{IsForHotplug, planned}
-use Rattle.hotplug_laws.specs.Aims.{AimEach}
-use Rattle.hotplug_laws.specs.Moments.{KeepPlaces}
+use Rattle.hotplug_play.specs.Aims.{AimEach}
+use Rattle.hotplug_play.specs.Moments.{KeepPlaces}
 use Rattle.play_report.specs.Answers.{AnswersOfSome}
 use Rattle.play_report.specs.declared.failing.PlayFailed.{PlayFailed}
 use Rattle.play_report.specs.declared.failing.PlayFailed.TheVariants as fails
@@ -38,6 +41,15 @@ pub record HotplugHeadline (b : BoardSeen) (vectors : ℕ) (es : List Event) (mo
   -- there; in a play its moves come last, so none comes after them
   pub aims : AimEach b (fleet_after b vectors es) (λ line. part line moves)
 
+-- the planned board was played until nobody could move, and some actor is hung
+pub record HotplugHung (b : BoardSeen) (vectors : ℕ) (es : List Event) (moves : List Move)
+    (reports : List LineReport) (line : LineNo) (actor : Actor) : Type 0 where
+  pub fits : IsForHotplug b
+  pub hung : HungPlay (planned_after b vectors es) moves reports line actor
+  pub places : KeepPlaces b vectors es
+  -- no move of a line waits: each is made however many actors hang
+  pub aims : AimEach b (fleet_after b vectors es) (λ line. part line moves)
+
 -- the planned board was played until a line's history had the greatest length
 pub record HotplugFull (b : BoardSeen) (vectors : ℕ) (es : List Event) (moves : List Move)
     (reports : List LineReport) (line : LineNo) (len : ℕ) : Type 0 where
@@ -51,9 +63,12 @@ pub record HotplugCut (b : BoardSeen) (vectors : ℕ) (es : List Event) (moves :
   pub cut : CutShort (planned_after b vectors es) moves reports
 
 -- what the reports hand out, by how the play ended
-abbrev pub HotplugHandsOut : BoardSeen → ℕ → List Event → List Move → Result Unit StepRefused
+abbrev pub HotplugHandsOut : BoardSeen → ℕ → List Event → List Move → Result PlayEnd StepRefused
     → List LineReport → Type 0
-HotplugHandsOut b vectors es moves (Ok _) reports = HotplugHeadline b vectors es moves reports
+HotplugHandsOut b vectors es moves (Ok ends.Settled) reports =
+    HotplugHeadline b vectors es moves reports
+HotplugHandsOut b vectors es moves (Ok (ends.Hung line actor)) reports =
+    HotplugHung b vectors es moves reports line actor
 HotplugHandsOut b vectors es moves (Err (refusals.Full line len)) reports =
     HotplugFull b vectors es moves reports line len
 HotplugHandsOut b vectors es moves (Err refusals.NoMemory) reports =
@@ -63,7 +78,7 @@ HotplugHandsOut b vectors es moves (Err refusals.NoMemory) reports =
 -- processor's vectors. What was said of the lines is printed between the layout and the play.
 -- `heard` says of runs that handlers were called for these.
 abbrev pub PlaysPlan : BoardSeen → ℕ → List Event → (List Run → Type 0) → List LineReport
-    → Option (List ℕ) → Option (List ℕ) → Result Unit PlayFailed → Type 0
+    → Option (List ℕ) → Option (List ℕ) → Result PlayEnd PlayFailed → Type 0
 PlaysPlan b vectors es heard = AnswersOfSome (hotplug_text b (fleet_after b vectors es).said)
     (HotplugHandsOut b vectors es) (runs_of_moves (planned_after b vectors es)) heard
 
@@ -83,7 +98,7 @@ pub record TellsUpTo (told : List Notice → Type 0) (b : BoardSeen) (vectors : 
 -- play, those up to some event, or none. `told` says of placings that notifiers were told of
 -- these, in this order, and of no other.
 abbrev pub TellsPlacings : (List Notice → Type 0) → BoardSeen → ℕ → List Event
-    → Result Unit PlayFailed → Type 0
+    → Result PlayEnd PlayFailed → Type 0
 TellsPlacings told b vectors es (Err fails.NoMemory) = TellsUpTo told b vectors es ⊎ told []
 TellsPlacings told b vectors es end = told (placings_after b vectors es)
 
@@ -91,7 +106,7 @@ TellsPlacings told b vectors es end = told (placings_after b vectors es)
 -- called, and of which placings notifiers were told
 pub record HotplugsBoard (b : BoardSeen) (vectors : ℕ) (es : List Event)
     (heard : List Run → Type 0) (told : List Notice → Type 0) (reports : List LineReport)
-    (before now : Option (List ℕ)) (end : Result Unit PlayFailed) : Type 0 where
+    (before now : Option (List ℕ)) (end : Result PlayEnd PlayFailed) : Type 0 where
   pub plays : PlaysPlan b vectors es heard reports before now end
   pub placings : TellsPlacings told b vectors es end
 

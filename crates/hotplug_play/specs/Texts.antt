@@ -7,7 +7,7 @@ use Rattle.board_play.specs.Lines.{Move}
 use Rattle.log_text.specs.LayoutRows.{layout_rows}
 use Rattle.play_report.specs.Report.{moves_text}
 use Rattle.irq_hotplug.specs.declared.rows.FleetRow.{FleetRow}
-use Rattle.hotplug_rows.specs.Texts.{row_text}
+use Rattle.hotplug_play.specs.Rows.{row_text}
 
 -- all that was said, in order
 abbrev pub fleet_text : List FleetRow → List ℕ

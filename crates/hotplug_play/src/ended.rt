@@ -2,6 +2,7 @@
 
 use crate::planning::Plan;
 use crate::printing::print_fleet;
+use board_core::PlayEnd;
 use board_def::{Board, Layout};
 use board_report::ReportRoom;
 use irq_base::Reports;
@@ -31,7 +32,7 @@ impl<'p, L: IrqLine> EndedPlay for PlugPlay<'p, L> {
 
     ghost hands_out = { λ p. HandsOutSystem L.may_want p.play.system };
 
-    fn end(&self) -> Result<(), StepRefused> {
+    fn end(&self) -> Result<PlayEnd, StepRefused> {
         self.play.end()
     }
 

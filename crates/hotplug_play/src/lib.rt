@@ -3,13 +3,21 @@
 //! played and printed; where the lines are placed, and what becomes of the processors, is printed
 //! between the layout and the play.
 //!
-//! What is promised stands in `specs/Played.antt`; what is printed in `specs/Texts.antt`. Events
-//! come before the play: nothing is said of an interrupt that comes while a processor goes down.
+//! What is promised stands in `specs/Played.antt`; what is printed in `specs/Texts.antt`, and in
+//! `specs/Rows.antt` the rows that say where lines are placed and what becomes of processors, each
+//! of which begins with `#`, so that no reader of a log takes it for an entry. Events come before
+//! the play: nothing is said of an interrupt that comes while a processor goes down.
+//!
+//! What holds of a board's lines over all events is in `laws.rt`, over the definitions alone.
 #![tactic(auto)]
 
 mod ended;
+mod fleet_rows;
+pub mod laws;
 mod planning;
 mod playing;
 mod printing;
 
+pub use fleet_rows::fleet_row;
+pub use laws::{keep_places, moves_aim};
 pub use playing::{NotForHotplug, hotplug_and_print};

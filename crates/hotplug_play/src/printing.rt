@@ -3,7 +3,7 @@ ghost use Rattle.irq_io.specs.Faults.{Counts};
 ghost use Rattle.irq_io.specs.Whole.{WritesAll, writing_failed};
 ghost use Rattle.hotplug_play.specs.Texts.{fleet_text};
 
-use hotplug_rows::fleet_row;
+use crate::fleet_row;
 use irq_hotplug::FleetRow;
 use irq_io::{Sink, WriteFailed, write_all};
 use text_row::TextRow;

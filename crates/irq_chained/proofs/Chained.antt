@@ -26,7 +26,7 @@ use Rattle.board_ready.specs.Sets.{has}
 use Rattle.board_ready.proofs.Lowest.{first_none, first_some}
 use Rattle.board_core.specs.Firsts.{is_take_due}
 use Rattle.board_core.specs.Places.{line_at}
-use Rattle.play_orders.specs.Orders.{IsMade, moves_in, onto}
+use Rattle.board_play.specs.Orders.{IsMade, moves_in, onto}
 use Rattle.irq_chained.specs.Chain.{IsChainLegal, chain_next, chain_order, child, children, choice_by, cpu_0}
 use Rattle.irq_chained.specs.Chain.{first_left, first_step, has_take_due, in_chain, is_left, is_taken, is_taken_on}
 use Rattle.irq_chained.specs.Chain.{lines_in, of_cpu_0, open_status, or_choice, or_exit, or_step, status_of, stepper_of}

@@ -1,5 +1,5 @@
 -- Which entries are no takes, and what is due in a flow.
-use Rattle.std.proofs.Common.{◌≡◌, Bool, true, false, cond, is_some, Option, Some}
+use Rattle.std.proofs.Common.{◌≡◌, Bool, true, false, cond, Option, Some}
 use Rattle.std.proofs.Common.{None, List, [], ◌∷◌, refl, sym, subst}
 use Rattle.irq_base.specs.Who.{actor_of}
 use Rattle.irq_base.specs.declared.entries.Actor.{Actor}
@@ -14,26 +14,15 @@ use Rattle.irq_model.specs.Rounds.{flow, is_cpu}
 use Rattle.irq_laws.proofs.Chosen.{the_same}
 use Rattle.irq_laws.proofs.ImpliesFlow.{CpuRow, calls, returns, begins, ends, takes, resent, cpu_row}
 use Rattle.irq_laws.proofs.Lists.{both_ways}
-use Rattle.play_laws.proofs.Moves.{flow_goes_on}
 use Rattle.board_play.specs.Lines.{BoardLine, Move}
 use Rattle.board_play.specs.Order.{due_on, flow_line, move_on}
-use Rattle.board_play.proofs.OfBoard.{HasCalmRuns}
 use Rattle.irq_chained.specs.Turned.{IsOther}
 
 pub other_is_no_take : (e : Entry) (a : Actor) → actor_of e ≡ a → IsOther a → is_take e ≡ false
 other_is_no_take (by.Cpu cpu e) a is other = absurd (subst (λ (x : Actor). IsOther x) (sym is) other)
 other_is_no_take e a is other = refl
 
--- in a flow of the processor an entry is due, since no run waits
-pub in_flow_moves : (x : BoardLine) (c : CpuNo) → HasCalmRuns x.def → is_cpu c (flow x.def x.past) ≡ true
-    → (e : Entry) × (due_on (Some x) (actors.Cpu c) ≡ Some (x.def.line, e))
-in_flow_moves x c runs on = by_next (next_past x.def x.past (actors.Cpu c)) (flow_goes_on x.def x.past runs.runs runs.waits c on)
-  where
-    by_next : (o : Option Entry) → is_some o ≡ true → (e : Entry) × (move_on x.def.line o ≡ Some (x.def.line, e))
-    by_next None some = cc
-    by_next (Some e) some = (e, refl)
-
--- and it is no take
+-- what is due in a flow of the processor is no take
 row_is_no_take : (d : LineDef) (c : CpuNo) (past : List Entry) (e : Entry) → is_cpu c (flow d past) ≡ true → CpuRow d c past e → is_take e ≡ false
 row_is_no_take d c past e on (calls call due is) = subst (λ (f : Entry). is_take f ≡ false) is refl
 row_is_no_take d c past e on (returns dev f w none is) = subst (λ (f : Entry). is_take f ≡ false) is refl

@@ -19,7 +19,7 @@ use Rattle.board_play.proofs.Members.{found, past_at}
 use Rattle.board_play.proofs.Moving.{lines_more}
 use Rattle.board_ready.specs.Sets.{has}
 use Rattle.board_core.specs.Firsts.{is_take_due}
-use Rattle.play_orders.specs.Orders.{IsMade, moves_in}
+use Rattle.board_play.specs.Orders.{IsMade, moves_in}
 use Rattle.irq_chained.specs.Chain.{IsChainLegal, chain_next, chain_order, children, choice_by, cpu_0, first_left}
 use Rattle.irq_chained.specs.Chain.{child, in_chain, lines_in, of_cpu_0, open_status, or_choice, or_exit, status_of}
 use Rattle.irq_chained.specs.Chain.{stepper_of, told, with_left}

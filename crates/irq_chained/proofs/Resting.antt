@@ -29,9 +29,9 @@ use Rattle.irq_model.specs.Next.{next_past}
 use Rattle.irq_model.specs.Places.{last_of}
 use Rattle.irq_model.specs.Rounds.{closes, cpu_of_handle, flow, is_cpu}
 use Rattle.irq_model.specs.Signal.{lowest_from, lowest_in, mask_in_force, target}
-use Rattle.irq_steps.proofs.RoundSteps.{flow_quiet}
-use Rattle.irq_steps.proofs.Same.{cpu_from_same}
-use Rattle.irq_steps.proofs.SignalSteps.{is_affinity, own_mask}
+use Rattle.irq_model.proofs.RoundSteps.{flow_quiet}
+use Rattle.irq_model.proofs.Same.{cpu_from_same}
+use Rattle.irq_model.proofs.SignalSteps.{is_affinity, own_mask}
 use Rattle.irq_laws.proofs.Chosen.{the_same}
 use Rattle.irq_laws.proofs.ImpliesDriver.{affinity_due}
 use Rattle.irq_laws.proofs.ImpliesFlow.{take_due}

@@ -1,19 +1,21 @@
 -- Turns of a demultiplexer, and what comes next in an open chain, of what is seen of it.
 use Rattle.std.proofs.Common.{reverse, Result}
-use Rattle.std.proofs.Common.{◌≡◌, ℕ, ◌<◌, ◌≤◌, IsSome, IsTrue, Option, Some}
+use Rattle.std.proofs.Common.{◌≡◌, ℕ, ◌<◌, ◌≤◌, true, false, is_some, IfSome, IsSome, IsTrue, Option, Some}
 use Rattle.std.proofs.Common.{None, List, length, slice_get, sym, subst}
 use Rattle.irq_base.specs.Cell.{Cell, after_high}
 use Rattle.irq_base.specs.declared.entries.Actor.{Actor}
 use Rattle.irq_base.specs.declared.entries.Actor.TheVariants as actors
 use Rattle.irq_base.specs.declared.numbers.LineNo.{LineNo}
+use Rattle.irq_laws.proofs.Chosen.{the_same}
 use Rattle.irq_line.specs.declared.answers.StepRefused.{StepRefused}
 use Rattle.board_def.specs.Rules.{IsBoard}
 use Rattle.board_play.specs.Kept.{AreKept}
-use Rattle.board_play.specs.Lines.{find_line}
-use Rattle.board_play.specs.Order.{due_on, flow_line}
+use Rattle.board_play.specs.Lines.{BoardLine, find_line}
+use Rattle.board_play.specs.Order.{due_move, due_on, flow_line}
 use Rattle.board_ready.specs.First.{first_of}
 use Rattle.board_core.specs.Firsts.{is_take_due, number_of}
 use Rattle.board_core.specs.Seen.{SystemSeen, board_lines}
+use Rattle.board_core.specs.Stands.{IsCurrentOn}
 use Rattle.board_core.specs.Turned.{StepsBy}
 use Rattle.board_core.specs.Turns.{Turns}
 use Rattle.board_core.specs.declared.turns.Turn.{Turn}
@@ -29,7 +31,7 @@ use Rattle.irq_chained.specs.declared.marks.Mark.{Mark}
 use Rattle.irq_chained.specs.declared.marks.Walk.{Walk}
 use Rattle.irq_chained.proofs.Resting.{few_seen}
 use Rattle.irq_chained.proofs.Stepping.{steps_of}
-use Rattle.irq_chained.proofs.Turning.{says, other_turn, flow_turn, take_turn, exit_next, left_due, take_line, take_next}
+use Rattle.irq_chained.proofs.Turning.{says, other_turn, flow_rests, flow_turn, take_turn, exit_next, left_due, take_line, take_next}
 
 module _ {s : SystemSeen} (t : SystemSeen) {ms : List Mark} {walk : Option Walk} {parent now : Cell} (d : IsDemux s ms walk parent)
     (shows : now ≡ after_high (is_asked (board_lines t.lines)) parent) {view : DemuxSeen} (v : seen_of s ms parent ≡ view)
@@ -55,12 +57,13 @@ module _ {s : SystemSeen} (t : SystemSeen) {ms : List Mark} {walk : Option Walk}
 
   pub flow_turned : (line : LineNo) (turn : Result Turn StepRefused) → IsSome (open_status (reverse view.log))
       → number_of (flow_line (board_lines view.lines) cpu_0) ≡ Some line
+      → is_some (due_move s.board (board_lines s.lines) (actors.Cpu cpu_0)) ≡ true
       → StepsBy s (due_on (find_line (board_lines s.lines) line) (actors.Cpu cpu_0)) turn t
       → Turned walk (actors.Cpu cpu_0) turn
-  flow_turned line turn opens number by =
+  flow_turned line turn opens number some by =
       turned walk (actors.Cpu cpu_0) turn (flow_turn t d shows its_board its_lines line turn
       (subst (λ (x : DemuxSeen). IsSome (open_status (reverse x.log))) (sym v) opens)
-      (subst (λ (x : DemuxSeen). number_of (flow_line (board_lines x.lines) cpu_0) ≡ Some line) (sym v) number) by)
+      (subst (λ (x : DemuxSeen). number_of (flow_line (board_lines x.lines) cpu_0) ≡ Some line) (sym v) number) some by)
 
   pub take_turned : (place : ℕ) (w after : Walk) (line : LineNo) (turn : Result Turn StepRefused)
       → IsWalkOf (board_lines view.lines) (reverse view.log) (Some w)
@@ -76,6 +79,35 @@ module _ {s : SystemSeen} (t : SystemSeen) {ms : List Mark} {walk : Option Walk}
       (subst (λ (x : DemuxSeen). IsTrue (is_take_due cpu_0 (slice_get (board_lines x.lines) place))) (sym v) due)
       (subst (λ (x : DemuxSeen). next_of x (actors.Cpu cpu_0)
       ≡ child (due_on (slice_get (board_lines x.lines) place) (actors.Cpu cpu_0))) (sym v) next) number taken by)
+
+-- ---- where processor 0 has a flow
+
+-- the line that it is told is that of its flow
+its_number : (o : Option BoardLine) (line : LineNo) → number_of o ≡ Some line → IfSome o (λ x. x.def.line ≡ line)
+its_number None line is = tt
+its_number (Some x) line is = the_same x.def.line line is
+
+no_number : (o : Option BoardLine) (line : LineNo) → o ≡ None → IfSome o (λ x. x.def.line ≡ line)
+no_number None line is = tt
+no_number (Some x) line is = absurd cc
+
+module _ {s : SystemSeen} {ms : List Mark} {walk : Option Walk} {parent : Cell} (d : IsDemux s ms walk parent) {view : DemuxSeen}
+    (v : seen_of s ms parent ≡ view) (line : LineNo) where
+  pub flow_current : number_of (flow_line (board_lines view.lines) cpu_0) ≡ Some line
+      → IsCurrentOn s line (actors.Cpu cpu_0)
+  flow_current number = its_number (flow_line (board_lines s.lines) cpu_0) line
+      (subst (λ (x : DemuxSeen). number_of (flow_line (board_lines x.lines) cpu_0) ≡ Some line) (sym v) number)
+
+  pub free_current : flow_line (board_lines view.lines) cpu_0 ≡ None → IsCurrentOn s line (actors.Cpu cpu_0)
+  free_current none = no_number (flow_line (board_lines s.lines) cpu_0) line
+      (subst (λ (x : DemuxSeen). flow_line (board_lines x.lines) cpu_0 ≡ None) (sym v) none)
+
+  -- if it spins there it has no next step
+  pub flow_rested : IsSome (open_status (reverse view.log)) → number_of (flow_line (board_lines view.lines) cpu_0) ≡ Some line
+      → is_some (due_move s.board (board_lines s.lines) (actors.Cpu cpu_0)) ≡ false → next_of view (actors.Cpu cpu_0) ≡ None
+  flow_rested opens number rests = subst (λ (x : DemuxSeen). next_of x (actors.Cpu cpu_0) ≡ None) v
+      (flow_rests d (subst (λ (x : DemuxSeen). IsSome (open_status (reverse x.log))) (sym v) opens) line
+      (subst (λ (x : DemuxSeen). number_of (flow_line (board_lines x.lines) cpu_0) ≡ Some line) (sym v) number) rests)
 
 -- ---- what comes next in an open chain without a flow
 

@@ -13,7 +13,7 @@ use Rattle.irq_base.specs.declared.numbers.LineNo.{LineNo}
 use Rattle.irq_line.specs.declared.answers.StepRefused.{StepRefused}
 use Rattle.irq_line.specs.declared.answers.StepRefused.TheVariants as refusals
 use Rattle.irq_model.specs.Kinds.{is_take, same_line}
-use Rattle.irq_steps.proofs.Same.{line_from_same, same_self_line}
+use Rattle.irq_model.proofs.Same.{line_from_same, same_self_line}
 use Rattle.irq_laws.proofs.Chosen.{the_same}
 use Rattle.irq_laws.proofs.Lists.{both_ways}
 use Rattle.board_def.specs.Seen.{BoardSeen}

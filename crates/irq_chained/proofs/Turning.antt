@@ -21,11 +21,10 @@ use Rattle.irq_laws.proofs.Chosen.{the_same}
 use Rattle.board_def.specs.Rules.{IsBoard}
 use Rattle.board_play.specs.Kept.{AreKept}
 use Rattle.board_play.specs.Lines.{BoardLine, Move, find_line}
-use Rattle.board_play.specs.Order.{due_line, due_on, flow_line, line_for, move_on, or_line}
+use Rattle.board_play.specs.Order.{due_line, due_move, due_on, flow_line, line_for, move_on, or_line}
 use Rattle.board_play.proofs.KeptAlways.{apart_kept}
 use Rattle.board_play.proofs.Members.{find_there}
 use Rattle.board_play.proofs.Moves.{line_stands}
-use Rattle.board_play.proofs.Standstill.{calm_line}
 use Rattle.board_ready.specs.First.{first_of}
 use Rattle.board_ready.specs.Sets.{has}
 use Rattle.board_ready.proofs.Lowest.{first_some}
@@ -54,7 +53,7 @@ use Rattle.irq_chained.proofs.Chained.{due_own, take_is_due}
 use Rattle.irq_chained.proofs.Further.{some_of_0, somebody}
 use Rattle.irq_chained.proofs.Lowest.{other_next}
 use Rattle.irq_chained.proofs.StatusBits.{left_place}
-use Rattle.irq_chained.proofs.NoTakes.{other_is_no_take, in_flow_moves, in_flow_is_no_take, flow_line_on}
+use Rattle.irq_chained.proofs.NoTakes.{other_is_no_take, in_flow_is_no_take, flow_line_on}
 use Rattle.irq_chained.proofs.Stepping.{WalkGoes, child_turn, lines_are, mark_goes, mark_kept, parent_level, steps_of, walk_stays, walk_takes}
 
 pub level_cell : {s : SystemSeen} {ms : List Mark} {walk : Option Walk} {parent : Cell} → IsDemux s ms walk parent → is_edge_cell parent ≡ false
@@ -106,9 +105,10 @@ module _ {s : SystemSeen} (t : SystemSeen) {ms : List Mark} {walk : Option Walk}
 
   pub flow_turn : IsBoard s.board → AreKept s.board (board_lines s.lines) → (line : LineNo) (turn : Result Turn StepRefused)
       → IsSome (open_status g) → number_of (flow_line (board_lines s.lines) cpu_0) ≡ Some line
+      → is_some (due_move s.board (board_lines s.lines) (actors.Cpu cpu_0)) ≡ true
       → StepsBy s (due_on (find_line (board_lines s.lines) line) (actors.Cpu cpu_0)) turn t
       → IsDemux t ms walk now × TurnsBy seen (next_of seen (actors.Cpu cpu_0)) (turn_of turn) (seen_of t ms now)
-  flow_turn isb kept line turn opens number by = by_line (flow_line (board_lines s.lines) cpu_0) refl number
+  flow_turn isb kept line turn opens number some by = by_line (flow_line (board_lines s.lines) cpu_0) refl number
     where
       lines : List BoardLine
       lines = board_lines s.lines
@@ -118,7 +118,8 @@ module _ {s : SystemSeen} (t : SystemSeen) {ms : List Mark} {walk : Option Walk}
       by_line None is number = cc
       by_line (Some x) is number =
           let st = some_of (open_status g) opens in
-          let stands = line_stands s.board lines (actors.Cpu cpu_0) x (ap (λ (o : Option BoardLine). or_line o (due_line lines cpu_0)) is) in
+          let its : line_for s.board lines (actors.Cpu cpu_0) ≡ Some x = ap (λ (o : Option BoardLine). or_line o (due_line lines cpu_0)) is in
+          let stands = line_stands s.board lines (actors.Cpu cpu_0) x its in
           let found : find_line lines line ≡ Some x = ap (λ (l : LineNo). find_line lines l)
           (sym (the_same x.def.line line number)) ∙ find_there lines (apart_kept s.board isb lines kept)
           stands.place x stands.at in
@@ -126,7 +127,7 @@ module _ {s : SystemSeen} (t : SystemSeen) {ms : List Mark} {walk : Option Walk}
           ap (λ (o : Option ℕ). of_cpu_0 g (lines_in s.board g) o) st.1
           ∙ (ap (λ (ls : List BoardLine). in_chain g ls st.0 (flow_line ls cpu_0)) (lines_are d)
           ∙ (ap (λ (o : Option BoardLine). in_chain g lines st.0 o) is ∙ sym (ap (λ (o : Option BoardLine). child (due_on o (actors.Cpu cpu_0))) found))) in
-          let due = in_flow_moves x cpu_0 (calm_line s.board isb lines kept stands.place x stands.at) (flow_line_on lines cpu_0 x is) in
+          let due = some_of (due_on (Some x) (actors.Cpu cpu_0)) (ap (λ (o : Option BoardLine). is_some (due_on o (actors.Cpu cpu_0))) (sym its) ∙ some) in
           child_turn t walk (actors.Cpu cpu_0) (find_line lines line) d next shows turn
           (λ refused. some_step seen isb _
           (next ∙ (ap (λ (o : Option BoardLine). child (due_on o (actors.Cpu cpu_0))) found
@@ -201,6 +202,30 @@ not_zero n some = by_test (n == 0) refl
 module _ {s : SystemSeen} {ms : List Mark} {walk : Option Walk} {parent : Cell} (d : IsDemux s ms walk parent) where
   abbrev so_far : List ChainEntry
   so_far = steps_of s ms
+
+  -- ---- a flow in which processor 0 spins
+
+  pub flow_rests : IsSome (open_status so_far) → (line : LineNo) → number_of (flow_line (board_lines s.lines) cpu_0) ≡ Some line
+      → is_some (due_move s.board (board_lines s.lines) (actors.Cpu cpu_0)) ≡ false
+      → chain_next s.board so_far (actors.Cpu cpu_0) ≡ None
+  flow_rests opens line number rests = by_line (flow_line lines cpu_0) refl number
+    where
+      lines : List BoardLine
+      lines = board_lines s.lines
+
+      none_due : (o : Option Move) → is_some o ≡ false → child o ≡ None
+      none_due None none = refl
+      none_due (Some m) none = absurd cc
+
+      by_line : (o : Option BoardLine) → flow_line lines cpu_0 ≡ o → number_of o ≡ Some line → chain_next s.board so_far (actors.Cpu cpu_0) ≡ None
+      by_line None is number = cc
+      by_line (Some x) is number =
+          let st = some_of (open_status so_far) opens in
+          let its : line_for s.board lines (actors.Cpu cpu_0) ≡ Some x = ap (λ (o : Option BoardLine). or_line o (due_line lines cpu_0)) is in
+          ap (λ (o : Option ℕ). of_cpu_0 so_far (lines_in s.board so_far) o) st.1
+          ∙ (ap (λ (ls : List BoardLine). in_chain so_far ls st.0 (flow_line ls cpu_0)) (lines_are d)
+          ∙ (ap (λ (o : Option BoardLine). in_chain so_far lines st.0 o) is
+          ∙ none_due (due_on (Some x) (actors.Cpu cpu_0)) (ap (λ (o : Option BoardLine). is_some (due_on o (actors.Cpu cpu_0))) (sym its) ∙ rests)))
 
   -- ---- a mark for which memory was refused
 

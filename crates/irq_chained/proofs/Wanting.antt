@@ -1,5 +1,5 @@
 -- For which step of a demultiplexer memory was refused.
-use Rattle.std.proofs.Common.{◌≡◌, ℕ, ◌<◌, IsSome, IsTrue, is_some, Option, Some, None, List, [], ◌∷◌, length, reverse}
+use Rattle.std.proofs.Common.{◌≡◌, ℕ, ◌<◌, true, IsSome, IsTrue, is_some, Option, Some, None, List, [], ◌∷◌, length, reverse}
 use Rattle.std.proofs.Common.{slice_get, drop, get_or, Result, Ok, Err}
 use Rattle.std.proofs.Common.{refl, sym, ap, ◌∙◌, subst, ◌+◌}
 use Rattle.std.proofs.lemmas.List.{length-reverse}
@@ -14,11 +14,10 @@ use Rattle.irq_laws.proofs.Chosen.{the_same}
 use Rattle.board_def.specs.Rules.{IsBoard}
 use Rattle.board_play.specs.Kept.{AreKept}
 use Rattle.board_play.specs.Lines.{BoardLine, Move, find_line}
-use Rattle.board_play.specs.Order.{actors_of, due_line, due_on, flow_line, line_for, or_line}
+use Rattle.board_play.specs.Order.{actors_of, due_line, due_move, due_on, flow_line, line_for, or_line}
 use Rattle.board_play.proofs.KeptAlways.{apart_kept}
 use Rattle.board_play.proofs.Members.{find_there}
 use Rattle.board_play.proofs.Moves.{line_stands}
-use Rattle.board_play.proofs.Standstill.{calm_line}
 use Rattle.board_core.specs.Firsts.{is_take_due, number_of}
 use Rattle.board_core.specs.Seen.{SystemSeen, board_lines}
 use Rattle.board_core.specs.Turns.{CanMove, Turns}
@@ -38,7 +37,6 @@ use Rattle.irq_chained.specs.declared.marks.Marked.TheVariants as marks
 use Rattle.irq_chained.specs.declared.marks.Walk.{Walk}
 use Rattle.irq_chained.proofs.Chained.{take_is_due}
 use Rattle.irq_chained.proofs.Further.{some_choice}
-use Rattle.irq_chained.proofs.NoTakes.{flow_line_on, in_flow_moves}
 use Rattle.irq_chained.proofs.Playing.{Turned, answered, at_pick, choice_of, lowest_next, with_step}
 use Rattle.irq_chained.proofs.Stepping.{lines_are, steps_of}
 use Rattle.irq_chained.proofs.Turning.{some_of}
@@ -136,8 +134,9 @@ module _ (may_want : Option Entry → Type 0) where
       -- on the child that has its flow
       pub flow_wants : (line : LineNo) (turn : Result Turn StepRefused) (answer : Result ChainTurn StepRefused) → answer ≡ turn_of turn
           → IsSome (open_status (reverse view.log)) → number_of (flow_line (board_lines view.lines) cpu_0) ≡ Some line
+          → is_some (due_move s.board (board_lines s.lines) (actors.Cpu cpu_0)) ≡ true
           → WantsOn may_want s (find_line (board_lines s.lines) line) (actors.Cpu cpu_0) turn → Wants may_want view (actors.Cpu cpu_0) answer
-      flow_wants line turn answer same opens number wants =
+      flow_wants line turn answer same opens number some wants =
           by_line (flow_line lines cpu_0) refl (subst (λ (x : DemuxSeen). number_of (flow_line (board_lines x.lines) cpu_0) ≡ Some line) (sym v) number)
         where
           lines : List BoardLine
@@ -147,7 +146,8 @@ module _ (may_want : Option Entry → Type 0) where
           by_line None is number = cc
           by_line (Some x) is number =
               let st = some_of (open_status g) (subst (λ (y : DemuxSeen). IsSome (open_status (reverse y.log))) (sym v) opens) in
-              let stands = line_stands s.board lines (actors.Cpu cpu_0) x (ap (λ (o : Option BoardLine). or_line o (due_line lines cpu_0)) is) in
+              let on : line_for s.board lines (actors.Cpu cpu_0) ≡ Some x = ap (λ (o : Option BoardLine). or_line o (due_line lines cpu_0)) is in
+              let stands = line_stands s.board lines (actors.Cpu cpu_0) x on in
               let found : find_line lines line ≡ Some x = ap (λ (l : LineNo). find_line lines l)
               (sym (the_same x.def.line line number)) ∙ find_there lines (apart_kept s.board its_board lines its_lines) stands.place x stands.at in
               let next : chain_next s.board g (actors.Cpu cpu_0) ≡ child (due_on (Some x) (actors.Cpu cpu_0)) =
@@ -158,8 +158,7 @@ module _ (may_want : Option Entry → Type 0) where
               ap (λ (o : Option ℕ). line_in_chain g (lines_in s.board g) o) st.1
               ∙ (ap (λ (ls : List BoardLine). or_line (flow_line ls cpu_0) (first_left g ls st.0)) (lines_are d)
               ∙ ap (λ (o : Option BoardLine). or_line o (first_left g lines st.0)) is) in
-              let due = in_flow_moves x cpu_0 (calm_line s.board its_board lines its_lines stands.place x stands.at) (flow_line_on lines cpu_0 x is) in
-              cpu_0_wants (Some x) next (ap (λ (o : Option Move). is_some o) due.1)
+              cpu_0_wants (Some x) next (ap (λ (o : Option BoardLine). is_some (due_on o (actors.Cpu cpu_0))) (sym on) ∙ some)
               its turn answer same (subst (λ (o : Option BoardLine). WantsOn may_want s o (actors.Cpu cpu_0) turn) found wants)
 
       -- on the child that is taken

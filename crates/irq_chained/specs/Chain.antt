@@ -16,7 +16,7 @@ use Rattle.board_ready.specs.First.{first_of}
 use Rattle.board_ready.specs.Sets.{has}
 use Rattle.board_core.specs.Firsts.{is_take_due}
 use Rattle.board_core.specs.Places.{line_at}
-use Rattle.play_orders.specs.Orders.{Order, onto}
+use Rattle.board_play.specs.Orders.{Order, onto}
 use Rattle.irq_chained.specs.declared.chain.ChainEntry.{ChainEntry}
 use Rattle.irq_chained.specs.declared.chain.ChainEntry.TheVariants as steps
 

@@ -11,7 +11,7 @@ use Rattle.board_play.specs.Order.{actors_of, drivers_of}
 use Rattle.board_play.specs.Play.{Done, Full}
 use Rattle.board_core.specs.declared.turns.Turn.{Turn}
 use Rattle.board_core.specs.declared.turns.Turn.TheVariants as moves
-use Rattle.play_orders.specs.Orders.{IsMade, IsPlayed}
+use Rattle.board_play.specs.Orders.{IsMade, IsPlayed}
 use Rattle.irq_chained.specs.Chain.{chain_next, chain_order, children, first_step, lines_in, told}
 use Rattle.irq_chained.specs.Seen.{DemuxSeen}
 use Rattle.irq_chained.specs.declared.chain.ChainEntry.{ChainEntry}

@@ -12,7 +12,7 @@ use Rattle.board_play.specs.Lines.{BoardLine}
 use Rattle.board_play.specs.Order.{flow_line, line_for, or_line}
 use Rattle.board_core.specs.Turns.{CanMove}
 use Rattle.board_core.specs.Wanted.{HasSpare, WantedMemory}
-use Rattle.play_orders.specs.Orders.{IsMade}
+use Rattle.board_play.specs.Orders.{IsMade}
 use Rattle.irq_chained.specs.Chain.{chain_next, chain_order, children, cpu_0, first_left}
 use Rattle.irq_chained.specs.Chain.{lines_in, open_status}
 use Rattle.irq_chained.specs.Seen.{DemuxSeen}

@@ -9,6 +9,7 @@ ghost use Rattle.board_def.specs.Rules.{IsBoard};
 ghost use Rattle.board_play.specs.Kept.{AreKept};
 ghost use Rattle.board_play.specs.Order.{due_on, flow_line};
 ghost use Rattle.board_core.specs.Firsts.{is_take_due, number_of};
+ghost use Rattle.board_core.specs.Hung.{SaysEnd, stop_of};
 ghost use Rattle.board_core.specs.Making.{MakesAll};
 ghost use Rattle.board_core.specs.Seen.{board_lines};
 ghost use Rattle.irq_chained.specs.Chain.{IsChainLegal, child, cpu_0, lines_in, open_status};
@@ -27,7 +28,7 @@ use crate::marks::{Mark, Marked, Walk};
 use crate::parent::ParentInput;
 use crate::status::{CPU_0, first_left, number_at, read_status, show, walk_after};
 use crate::walking::ChainWalk;
-use board_core::{System, Turn};
+use board_core::{PlayEnd, System, Turn};
 use board_def::{Board, Layout};
 use callbacks::Handler;
 use irq_base::{Actor, LineNo, NoMemory};
@@ -116,6 +117,14 @@ impl<'b, L: IrqLine> Demux<'b, L> {
             self.system.moves(),
             self.system.log_len(),
         )
+    }
+
+    /// How a play ended that stopped so: where nobody can move, whether somebody hangs.
+    pub fn end_after(&self, stop: Result<(), StepRefused>) -> Result<PlayEnd, StepRefused>
+        ensures stop { stop_of result ≡ stop }
+        ensures says { SaysEnd (board_lines self.now.lines) result }
+    {
+        self.system.end_after(stop)
     }
 
     /// The system of the children, as they stand, without the demultiplexer.
@@ -211,7 +220,7 @@ impl<'b, L: IrqLine> Demux<'b, L> {
         }
     }
 
-    /// A further step of the flow that processor 0 has on this line.
+    /// A further step of the flow that processor 0 has on this line, unless it spins there.
     fn go_on<H: Handler>(
         &mut self,
         line: LineNo,
@@ -224,6 +233,9 @@ impl<'b, L: IrqLine> Demux<'b, L> {
         ensures memory { Wants L.may_want self.old (actors.Cpu cpu_0) result }
     {
         self.is_kept();
+        if !self.system.can_cpu_move(CPU_0) {
+            return Ok(ChainTurn::NotYet);
+        }
         let turn = self.system.step_on(line, Actor::Cpu(CPU_0), handlers);
         show(&mut self.parent, &self.system);
         chain_turn_of(turn)
@@ -257,6 +269,7 @@ impl<'b, L: IrqLine> Demux<'b, L> {
         handlers: &mut H,
     ) -> Result<ChainTurn, StepRefused>
         requires walk { IsWalkOf (board_lines self.old.lines) (reverse self.old.log) (Some walk) }
+        requires no_flow { flow_line (board_lines self.old.lines) cpu_0 ≡ None }
         requires place { place < 32 }
         requires due { IsTrue (is_take_due cpu_0
             (slice_get (board_lines self.old.lines) place)) }

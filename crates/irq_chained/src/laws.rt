@@ -5,7 +5,7 @@ ghost use Rattle.board_def.specs.Rules.{IsBoard};
 ghost use Rattle.board_def.specs.Seen.{BoardSeen};
 ghost use Rattle.board_play.specs.Kept.{AreKept};
 ghost use Rattle.board_play.specs.Order.{due_move};
-ghost use Rattle.play_orders.specs.Orders.{IsMade};
+ghost use Rattle.board_play.specs.Orders.{IsMade};
 ghost use Rattle.irq_chained.specs.Chain.{IsChainLegal, chain_next, chain_order, lines_in};
 ghost use Rattle.irq_chained.specs.Fits.{is_for_chain};
 ghost use Rattle.irq_chained.specs.Promise.{HasOneFlow, KeepsSignals};
@@ -34,7 +34,8 @@ pub fn one_flow()
 {}
 
 /// No standstill: an actor that has no step of the chain can't move on its line either. So where
-/// nobody has one, all is settled and delivered, as on any board.
+/// nobody has one all is as on any board: settled and delivered, or somebody hangs, as processor 0
+/// in a chain that stays open.
 #[tactic(auto, using(crate::proofs::Resting::rests))]
 pub fn chain_rests()
     ensures law { (b : BoardSeen) → IsBoard b → is_for_chain b ≡ true → (g : List ChainEntry)

@@ -52,6 +52,5 @@ pub limited : (h : HierarchySeen) (virq : ℕ) (def : LineDef) → HasChips h vi
 limited h virq def has = record {
   valid = valid_with def has.valid;
   runs = runs_with def has.runs;
-  waits = has.waits;
   chips = has.chips;
 }

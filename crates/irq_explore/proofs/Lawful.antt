@@ -42,7 +42,7 @@ use Rattle.log_text.specs.Formed.{HasSmallNumbers, IsSmall, IsWritable}
 use Rattle.log_text.specs.Rows.{entry_text, history_text}
 use Rattle.explore_picks.proofs.Allowed.{may_have_row}
 use Rattle.explore_picks.proofs.Lawful.{no_hash, of_all, row_first}
-use Rattle.board_versions.specs.OfVersion.{HasOldRows, IsOfItsVersion}
+use Rattle.board_stated.specs.OfVersion.{HasOldRows, IsOfItsVersion}
 use Rattle.irq_explore.specs.Answered.{Answered, AnsweredLine, AnsweredRefused, IsLawful}
 use Rattle.irq_explore.specs.Printing.{HasSmallAnswer, IsPrintableAnswer}
 

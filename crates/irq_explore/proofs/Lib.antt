@@ -2,7 +2,9 @@ pub mod Lawful
 pub mod OfLine
 pub mod Placed
 pub mod Played
-pub mod Rows
+pub mod ByIndex
 pub mod Said
 pub mod Taken
 pub mod Rowed
+pub mod Writing
+pub mod Leaving

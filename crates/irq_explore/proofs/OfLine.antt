@@ -17,7 +17,7 @@ use Rattle.line_survey.specs.declared.answer.Answer.{Answer}
 use Rattle.line_wanted.specs.declared.wanted.Wanted.{Wanted}
 use Rattle.irq_explore.specs.Answered.{AnsweredAt, AnsweredLine}
 use Rattle.irq_explore.specs.Printing.{IsPrintableAnswer}
-use Rattle.irq_explore.proofs.Rows.{at_index}
+use Rattle.irq_explore.proofs.ByIndex.{at_index}
 use Rattle.irq_explore.proofs.Lawful.{printable_said}
 
 module _ (states : ℕ) (b : BoardSeen) (place virq : ℕ) (path : List (ℕ × ℕ)) (placed : slice_get (layout_of b) place ≡ Some (placements.Mapped virq path)) where

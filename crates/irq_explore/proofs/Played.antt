@@ -6,7 +6,7 @@ use Rattle.board_def.specs.Seen.{BoardSeen}
 use Rattle.explore_picks.specs.Printed.{PlaysTo, PrintsPlayTo}
 use Rattle.explore_picks.specs.declared.failing.ExploreFailed.{ExploreFailed}
 use Rattle.explore_picks.specs.declared.failing.ExploreFailed.TheVariants as fails
-use Rattle.explore_play.specs.Made.{IsAlone}
+use Rattle.explore_picks.specs.Made.{IsAlone}
 use Rattle.irq_base.specs.declared.devices.Run.{Run}
 use Rattle.irq_base.specs.declared.entries.Entry.{Entry}
 use Rattle.irq_base.specs.declared.numbers.LineNo.{LineNo}

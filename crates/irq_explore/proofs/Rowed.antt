@@ -8,7 +8,7 @@ use Rattle.line_survey.specs.declared.survey.EntryRow.{EntryRow}
 use Rattle.line_survey.specs.declared.survey.Survey.{Survey}
 use Rattle.line_wanted.specs.declared.wanted.Wanted.TheVariants as wants
 use Rattle.log_text.specs.EntryWords.{IsPrintable}
-use Rattle.survey_rows.specs.Texts.{HasRow}
+use Rattle.irq_explore.specs.SurveyTexts.{HasRow}
 use Rattle.irq_explore.proofs.Lawful.{legal_of, legal_printable}
 
 has_row : (def : LineDef) (r : EntryRow) → IsLeast def (wants.Row r.entry) r.len → HasRow r

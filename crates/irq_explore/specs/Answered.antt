@@ -1,5 +1,6 @@
 -- The answer to what is wanted of a board's line.
-use Rattle.std.specs.Prelude.{◌≡◌, ℕ, Some, List, [], ◌++◌, codes, decimal, false, slice_get}
+use Rattle.std.specs.Prelude.{◌≡◌, ℕ, Some, None, List, [], ◌++◌, codes, decimal, false}
+use Rattle.std.specs.Prelude.{slice_get}
 use Rattle.board_def.specs.Layout.{layout_of}
 use Rattle.board_def.specs.LineOf.{line_of_row}
 use Rattle.board_def.specs.Seen.{BoardSeen}
@@ -20,8 +21,13 @@ use Rattle.log_text.specs.Rows.{history_text}
 
 -- as a line is left to which nothing has happened
 abbrev pub untouched : Left
-untouched =
-    record { standing = standings.Stopped; unserved = 0; stored = false; pending = false }
+untouched = record {
+  hung = None;
+  standing = standings.Stopped;
+  unserved = 0;
+  stored = false;
+  pending = false;
+}
 
 -- of a line that the layout refuses: it has the empty history alone, at rest from the beginning
 abbrev pub AnsweredRefused : Wanted → Answer → Type 0

@@ -1,7 +1,7 @@
 -- What the exploring of a board says, by how it ended.
 use Rattle.std.specs.Prelude.{◌≡◌, ℕ, Bool, true, false, Option, Some, None, List, Result, Ok, Err}
 use Rattle.board_def.specs.Seen.{BoardSeen}
-use Rattle.board_versions.specs.OfVersion.{IsOfItsVersion}
+use Rattle.board_stated.specs.OfVersion.{IsOfItsVersion}
 use Rattle.explore_picks.specs.declared.failing.ExploreFailed.{ExploreFailed}
 use Rattle.explore_picks.specs.declared.failing.ExploreFailed.TheVariants as fails
 use Rattle.irq_base.specs.declared.numbers.LineNo.{LineNo}

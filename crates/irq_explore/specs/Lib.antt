@@ -5,3 +5,4 @@ pub mod Present
 pub mod Printing
 pub mod Surveyed
 pub mod Surveying
+pub mod SurveyTexts

@@ -1,5 +1,6 @@
 -- What a row names, and whether a board has it.
 use Rattle.std.specs.Prelude.{nat_lt, Bool, true, ◌&&◌, Option, Some, None}
+use Rattle.std.specs.Option.{option_map_or}
 use Rattle.board_def.specs.Rules.{find_device, has_driver, has_line, is_on_line}
 use Rattle.board_def.specs.Seen.{BoardSeen}
 use Rattle.irq_base.specs.Who.{actor_of}
@@ -60,7 +61,7 @@ has_actor b line (actors.Thread dev) = is_on_line line (find_device b.devices de
 -- the board has who and what the row names, the devices on that line
 abbrev pub has_named : BoardSeen → LineNo → Wanted → Bool
 has_named b line (wants.Row e) = has_actor b line (actor_of e) && has_dev b line (dev_named e)
-has_named b line (wants.Rest left) = true
+has_named b line (wants.Rest left) = option_map_or (has_actor b line) left.hung true
 
 -- the board has the line, and who and what the row names
 abbrev pub has_all : BoardSeen → LineNo → Wanted → Bool

@@ -12,7 +12,7 @@ use Rattle.line_survey.specs.Seen.{LineSearchSeen}
 use Rattle.line_survey.specs.Surveyed.{IsSurvey}
 use Rattle.line_survey.specs.declared.survey.Survey.{Survey}
 use Rattle.log_text.specs.LayoutRows.{layout_rows}
-use Rattle.survey_rows.specs.Texts.{HasRow, survey_text}
+use Rattle.irq_explore.specs.SurveyTexts.{HasRow, survey_text}
 use Rattle.line_survey.specs.Searched.{IsSearchOf}
 use Rattle.irq_explore.specs.declared.surveying.LineSurvey.{LineSurvey}
 

@@ -14,6 +14,7 @@ use std::alloc::Global;
 
 /// As a line is left to which nothing has happened.
 const UNTOUCHED: Left = Left {
+    hung: None,
     standing: Standing::Stopped,
     unserved: 0,
     stored: false,

@@ -97,6 +97,9 @@ pub(crate) fn has_named(board: &Board, line: LineNo, wanted: Wanted) -> bool
         Wanted::Row(entry) => {
             has_actor(board, line, entry.actor()) && has_dev(board, line, dev_named(entry))
         }
-        Wanted::Rest(_) => true,
+        Wanted::Rest(left) => match left.hung {
+            Some(actor) => has_actor(board, line, actor),
+            None => true,
+        },
     }
 }

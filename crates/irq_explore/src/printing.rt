@@ -10,8 +10,8 @@ ghost use Rattle.log_text.specs.Rows.{history_text};
 use board_report::hand_on;
 use irq_base::{Entry, LineNo};
 use irq_io::{Sink, WriteFailed, write_all};
-use kept_rows::KeptRows;
 use line_survey::Answer;
+use log_text::KeptRows;
 use text_row::TextRow;
 
 /// Prints the rows of the line's entries, the oldest first.

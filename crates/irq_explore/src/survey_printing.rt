@@ -6,11 +6,11 @@ ghost use Rattle.irq_explore.specs.Surveyed.{HasRows, line_text, surveys_text};
 ghost use Rattle.irq_io.specs.Faults.{Counts};
 ghost use Rattle.irq_io.specs.Whole.{KeepsNone, WritesAll, writing_failed};
 
+use crate::print_survey;
 use crate::surveying::LineSurvey;
 use board_def::{Board, Layout};
 use board_report::{hand_on, print_layout};
 use irq_io::{Sink, WriteFailed};
-use survey_rows::print_survey;
 use text_row::TextRow;
 
 /// Prints the survey.

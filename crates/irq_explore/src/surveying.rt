@@ -5,7 +5,7 @@ ghost use Rattle.explore_words.specs.Words.{IsCount};
 ghost use Rattle.irq_explore.specs.Surveyed.{AreSurveys, HasRows, IsSurveyOf};
 ghost use Rattle.irq_explore.specs.Surveying.{AddsSurvey, is_surveyed};
 ghost use Rattle.irq_model.specs.Valid.{IsValid};
-ghost use Rattle.irq_model.specs.ValidRuns.{HasValidRuns, NeverWaits};
+ghost use Rattle.irq_model.specs.ValidRuns.{HasValidRuns};
 
 use board_def::{Board, Layout};
 use domain_rules::Placement;
@@ -26,7 +26,6 @@ pub struct LineSurvey {
 fn survey_line(alloc: Global, def: &LineDef, states: u32) -> Result<LineSurvey, NoMemory>
     requires valid { IsValid def.now }
     requires runs { HasValidRuns def.now }
-    requires waits { NeverWaits def.now }
     requires states { IsCount states }
     ensures survey { IfOk result (IsSurveyOf states def.now) }
     ensures rows { IfOk result HasRows }
@@ -64,7 +63,6 @@ fn survey_next(
 ) -> Result<(), NoMemory>
     requires valid { IsValid def.now }
     requires runs { HasValidRuns def.now }
-    requires waits { NeverWaits def.now }
     requires states { IsCount states }
     ensures { OnOk result (AddsSurvey states def.now (is_surveyed asked def.now placement)
         surveys.old.items surveys.new.items) }

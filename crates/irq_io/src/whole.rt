@@ -75,6 +75,23 @@ pub fn write_all<O: Sink>(sink: &mut O, bytes: &[u8]) -> Result<(), WriteFailed>
     ensures content { WritesAll (O.written sink.old) (O.written sink.new) bytes.now result }
     ensures cause { Counts (O.faults sink.old) (O.faults sink.new) (writing_failed result) }
 {
+    if bytes.is_empty() {
+        return Ok(());
+    }
+    // mostly one write takes all
+    match sink.write(bytes) {
+        WriteAnswer::Took(count) if count < bytes.len() => write_on(sink, &bytes[count..]),
+        WriteAnswer::Took(_) => Ok(()),
+        WriteAnswer::Failed => Err(WriteFailed),
+    }
+}
+
+/// The same, in as many writes as it takes.
+#[inline(never)]
+fn write_on<O: Sink>(sink: &mut O, bytes: &[u8]) -> Result<(), WriteFailed>
+    ensures content { WritesAll (O.written sink.old) (O.written sink.new) bytes.now result }
+    ensures cause { Counts (O.faults sink.old) (O.faults sink.new) (writing_failed result) }
+{
     let mut done = 0;
     while done < bytes.len() {
         match sink.write(&bytes[done..]) {

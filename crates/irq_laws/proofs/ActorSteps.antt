@@ -32,8 +32,8 @@ use Rattle.irq_model.specs.Runs.{entries_of_run}
 use Rattle.irq_model.specs.RunLaws.{is_in_run}
 use Rattle.irq_model.specs.Next.{next_past}
 use Rattle.irq_model.specs.Legal.{IsDue}
-use Rattle.irq_steps.proofs.Same.{dev_from_same, cpu_from_same, driver_from_same}
-use Rattle.irq_steps.proofs.RoundSteps.{flow_quiet}
+use Rattle.irq_model.proofs.Same.{dev_from_same, cpu_from_same, driver_from_same}
+use Rattle.irq_model.proofs.RoundSteps.{flow_quiet}
 use Rattle.irq_laws.specs.Kept.{KeepsRuns}
 use Rattle.irq_laws.specs.Actors.{calls_of, calls_at_work, entries_of, entries_at_work, due_of_actor}
 use Rattle.irq_laws.proofs.Lists.{both_ways}

@@ -28,7 +28,7 @@ use Rattle.irq_model.specs.Next.{freed_of, request_of, unlink_answer, next_past}
 use Rattle.irq_model.specs.Valid.{IsValid}
 use Rattle.irq_base.specs.declared.entries.Actor.{Actor}
 use Rattle.irq_base.specs.declared.entries.Actor.TheVariants as actors
-use Rattle.irq_steps.proofs.Same.{dev_from_same}
+use Rattle.irq_model.proofs.Same.{dev_from_same}
 use Rattle.irq_laws.specs.Blocks.{block_of, stands_in_way, is_freed_at_work}
 use Rattle.irq_laws.specs.Kept.{freeing}
 use Rattle.irq_laws.proofs.FreesKept.{same_free}

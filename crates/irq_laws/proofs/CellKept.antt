@@ -43,8 +43,8 @@ use Rattle.irq_model.specs.Spurious.{note_of}
 use Rattle.irq_model.specs.Next.{is_off_now}
 use Rattle.irq_model.specs.Legal.{IsDue, IsLegal, IsLegalPast}
 use Rattle.irq_model.specs.Valid.{IsValid}
-use Rattle.irq_steps.proofs.RoundSteps.{flow_quiet}
-use Rattle.irq_steps.proofs.MaskSteps.{masked_more, no_take_masks, masked_by_opening}
+use Rattle.irq_model.proofs.RoundSteps.{flow_quiet}
+use Rattle.irq_model.proofs.MaskSteps.{masked_more, no_take_masks, masked_by_opening}
 use Rattle.irq_laws.specs.Kept.{KeepsEdges, Kept}
 use Rattle.irq_laws.specs.Driven.{cell_with, cell_of, accepted, taken_on_eoi_edge, taken_on_eoi_level, taken, masked_if}
 use Rattle.irq_laws.specs.Driven.{unmasked_if, retriggered_if, ended, asked, served, levelled, called_on, driven, cell_after, IsDrivenCell}

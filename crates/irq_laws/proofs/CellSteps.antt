@@ -7,8 +7,8 @@ use Rattle.irq_model.specs.Kinds.{is_take}
 use Rattle.irq_model.specs.Lines.{is_edge_line, serves}
 use Rattle.irq_model.specs.Masks.{is_masked}
 use Rattle.irq_model.specs.Edges.{is_edge, is_sent_edge, is_alive, is_sent, is_stored}
-use Rattle.irq_steps.proofs.Somewhere.{some_ext, some_none}
-use Rattle.irq_steps.proofs.EdgeSteps.{sent_more, stored_more, goes_sent, goes_stored, none_sent, none_stored, sent_quiet, stored_quiet}
+use Rattle.irq_model.proofs.Somewhere.{some_ext, some_none}
+use Rattle.irq_model.proofs.EdgeSteps.{sent_more, stored_more, goes_sent, goes_stored, none_sent, none_stored, sent_quiet, stored_quiet}
 use Rattle.irq_laws.specs.Driven.{cell_with}
 
 -- ---- each operation, a mark each

@@ -39,9 +39,9 @@ use Rattle.irq_model.specs.Owed.{comes_to, IsCovered, IsCoveredPast}
 use Rattle.irq_model.specs.Next.{resend_of, enable_answer, opened_by_request}
 use Rattle.irq_model.specs.Legal.{IsDue, IsLegal, IsLegalPast}
 use Rattle.irq_model.specs.Valid.{IsValid}
-use Rattle.irq_steps.proofs.EdgeSteps.{goes_sent, goes_stored, sent_more, stored_more}
-use Rattle.irq_steps.proofs.MaskSteps.{masked_by_opening}
-use Rattle.irq_steps.proofs.WaitSteps.{pending_by_clearing}
+use Rattle.irq_model.proofs.EdgeSteps.{goes_sent, goes_stored, sent_more, stored_more}
+use Rattle.irq_model.proofs.MaskSteps.{masked_by_opening}
+use Rattle.irq_model.proofs.WaitSteps.{pending_by_clearing}
 use Rattle.irq_laws.specs.Kept.{Kept}
 use Rattle.irq_laws.proofs.Lists.{both_ways}
 use Rattle.irq_laws.proofs.Requested.{of_linked}

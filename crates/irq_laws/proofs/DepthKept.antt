@@ -27,10 +27,10 @@ use Rattle.irq_model.specs.Links.{linked, requested, is_linked, is_none_linked, 
 use Rattle.irq_model.specs.Links.{is_deepening, is_lowering, depth, is_started, has_spurious_mark}
 use Rattle.irq_model.specs.Next.{enable_answer, opened_by_request, resend_of, is_only}
 use Rattle.irq_model.specs.Legal.{IsDue}
-use Rattle.irq_steps.proofs.LinkSteps.{linked_request, linked_unlink}
-use Rattle.irq_steps.proofs.ListSteps.{linked_refused, linked_not_there, count_filter, requested_once}
-use Rattle.irq_steps.proofs.DepthSteps.{raised, lowered, raised_reset, raised_more}
-use Rattle.irq_steps.proofs.Same.{same_both}
+use Rattle.irq_model.proofs.LinkSteps.{linked_request, linked_unlink}
+use Rattle.irq_model.proofs.ListSteps.{linked_refused, linked_not_there, count_filter, requested_once}
+use Rattle.irq_model.proofs.DepthSteps.{raised, lowered, raised_reset, raised_more}
+use Rattle.irq_model.proofs.Same.{same_both}
 use Rattle.irq_laws.specs.Actors.{by_someone}
 use Rattle.irq_laws.specs.Kept.{KeepsDepth}
 use Rattle.irq_laws.proofs.Lists.{both_ways}

@@ -21,9 +21,9 @@ use Rattle.irq_model.specs.Next.{is_off_now}
 use Rattle.irq_model.specs.Legal.{IsDue}
 use Rattle.irq_model.specs.Valid.{IsValid}
 use Rattle.irq_model.specs.Reason.{EdgeFlowMaskIsPending, EoiEdgeIsOpen, EdgePendingHasFlow, DroppedIsPending}
-use Rattle.irq_steps.proofs.RoundSteps.{flow_quiet}
-use Rattle.irq_steps.proofs.MaskSteps.{masked_more, no_take_masks}
-use Rattle.irq_steps.proofs.WaitSteps.{pending_by_clearing}
+use Rattle.irq_model.proofs.RoundSteps.{flow_quiet}
+use Rattle.irq_model.proofs.MaskSteps.{masked_more, no_take_masks}
+use Rattle.irq_model.proofs.WaitSteps.{pending_by_clearing}
 use Rattle.irq_laws.specs.Kept.{KeepsDepth, KeepsEdges}
 use Rattle.irq_laws.proofs.Lists.{both_ways}
 use Rattle.irq_laws.proofs.RunsKept.{handle_idle}

@@ -27,7 +27,7 @@ use Rattle.irq_model.specs.Next.{next_of_free, next_of_call, next_past, unlink_a
 use Rattle.irq_model.specs.Threads.{is_woken, is_running}
 use Rattle.irq_model.specs.Reason.{is_called, is_being_freed, is_cleared}
 use Rattle.irq_model.specs.Legal.{IsDue}
-use Rattle.irq_steps.proofs.Same.{same_self, same_self_actor, dev_from_same, actor_from_same}
+use Rattle.irq_model.proofs.Same.{same_self, same_self_actor, dev_from_same, actor_from_same}
 use Rattle.irq_laws.specs.Actors.{calls_of, entries_of, due_of_actor}
 use Rattle.irq_laws.specs.Kept.{KeepsRuns, KeepsFrees, freeing, freed_on, unlinks_of}
 use Rattle.irq_laws.proofs.Chosen.{chosen, from_else, the_same}

@@ -11,7 +11,7 @@ use Rattle.irq_model.specs.Rounds.{flow, has_flow, is_cpu}
 use Rattle.irq_model.specs.Threads.{is_woken, is_running}
 use Rattle.irq_model.specs.Next.{next_past}
 use Rattle.irq_model.specs.Waits.{IsAtRest}
-use Rattle.irq_steps.proofs.Same.{same_self_cpu}
+use Rattle.irq_model.proofs.Same.{same_self_cpu}
 use Rattle.irq_laws.proofs.Lists.{both_ways}
 
 abbrev pub CpusRest : LineDef → List Entry → Type 0

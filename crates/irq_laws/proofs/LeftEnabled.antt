@@ -53,10 +53,10 @@ use Rattle.irq_model.specs.Next.{enable_answer, opened_by_request, resend_of, is
 use Rattle.irq_model.specs.Legal.{IsDue, IsLegal, IsLegalPast}
 use Rattle.irq_model.specs.Valid.{IsValid}
 use Rattle.irq_model.specs.Waits.{IsAtRest}
-use Rattle.irq_steps.proofs.LinkSteps.{linked_unlink}
-use Rattle.irq_steps.proofs.ListSteps.{linked_refused, linked_not_there}
-use Rattle.irq_steps.proofs.DepthSteps.{raised, lowered, raised_reset, raised_more}
-use Rattle.irq_steps.proofs.Same.{same_both, same_self, same_self_driver}
+use Rattle.irq_model.proofs.LinkSteps.{linked_unlink}
+use Rattle.irq_model.proofs.ListSteps.{linked_refused, linked_not_there}
+use Rattle.irq_model.proofs.DepthSteps.{raised, lowered, raised_reset, raised_more}
+use Rattle.irq_model.proofs.Same.{same_both, same_self, same_self_driver}
 use Rattle.irq_laws.specs.Actors.{entries_of, due_of_actor, by_someone}
 use Rattle.irq_laws.specs.Kept.{Kept, KeepsRuns}
 use Rattle.irq_laws.proofs.Chosen.{the_same}

@@ -31,8 +31,8 @@ use Rattle.irq_model.specs.Next.{is_off_now}
 use Rattle.irq_model.specs.Legal.{IsDue}
 use Rattle.irq_model.specs.Valid.{IsValid}
 use Rattle.irq_model.specs.Reason.{LevelMaskIsHeld, EoiLevelMaskIsOneshot}
-use Rattle.irq_steps.proofs.RoundSteps.{flow_quiet}
-use Rattle.irq_steps.proofs.Same.{dev_from_same}
+use Rattle.irq_model.proofs.RoundSteps.{flow_quiet}
+use Rattle.irq_model.proofs.Same.{dev_from_same}
 use Rattle.irq_laws.specs.Actors.{by_someone}
 use Rattle.irq_laws.specs.Kept.{Kept, KeepsDepth, KeepsLevels, LinkedIsWanted}
 use Rattle.irq_laws.proofs.Lists.{any_imply, both_ways}

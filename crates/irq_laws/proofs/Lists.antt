@@ -5,7 +5,7 @@ use Rattle.std.proofs.lemmas.Bool.{or_left, or_right}
 use Rattle.irq_base.specs.declared.numbers.DevNo.{DevNo}
 use Rattle.irq_base.specs.declared.numbers.DriverNo.{DriverNo}
 use Rattle.irq_model.specs.Kinds.{same_dev, same_driver}
-use Rattle.irq_steps.proofs.Same.{same_self, same_self_driver}
+use Rattle.irq_model.proofs.Same.{same_self, same_self_driver}
 use Rattle.irq_model.specs.Places.{some_place, count_of}
 
 pub both_ways : {P : Type 0} (b : Bool) → b ≡ true → b ≡ false → P

@@ -23,8 +23,8 @@ use Rattle.irq_model.specs.Masks.{take_masks, is_masked}
 use Rattle.irq_model.specs.Rounds.{has_flow}
 use Rattle.irq_model.specs.Next.{is_off_now}
 use Rattle.irq_model.specs.Legal.{IsDue}
-use Rattle.irq_steps.proofs.RoundSteps.{flow_quiet}
-use Rattle.irq_steps.proofs.MaskSteps.{masked_more, masked_by_opening}
+use Rattle.irq_model.proofs.RoundSteps.{flow_quiet}
+use Rattle.irq_model.proofs.MaskSteps.{masked_more, masked_by_opening}
 use Rattle.irq_laws.specs.Kept.{KeepsDepth}
 use Rattle.irq_laws.proofs.Lists.{both_ways}
 use Rattle.irq_laws.proofs.DepthKept.{StaysEnabled}

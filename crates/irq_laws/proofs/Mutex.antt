@@ -16,8 +16,8 @@ use Rattle.irq_model.specs.Kinds.{same_dev, same_actor, is_by, is_call, is_hard_
 use Rattle.irq_model.specs.Kinds.{unlinks_by, unlinks_one, unlinks_this, unlinks_dev}
 use Rattle.irq_model.specs.Due.{is_being_freed_at, holds_mutex}
 use Rattle.irq_model.specs.Reason.{is_cleared_at, is_cleared}
-use Rattle.irq_steps.proofs.Same.{same_self, same_self_actor, actor_from_same}
-use Rattle.irq_steps.proofs.Somewhere.{some_ext}
+use Rattle.irq_model.proofs.Same.{same_self, same_self_actor, actor_from_same}
+use Rattle.irq_model.proofs.Somewhere.{some_ext}
 use Rattle.irq_laws.specs.Kept.{freeing, freed_on, unlinks_of}
 use Rattle.irq_laws.proofs.Chosen.{the_same}
 use Rattle.irq_laws.proofs.Lists.{place_imply}

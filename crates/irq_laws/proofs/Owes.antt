@@ -32,7 +32,7 @@ use Rattle.irq_model.specs.Due.{due_of, entries_of_call}
 use Rattle.irq_model.specs.Runs.{due_in_run, entries_of_run, makes_calls, answer_of_run_now, is_recognised, met_by, told_of}
 use Rattle.irq_model.specs.RunLaws.{is_disabling, is_enabling, always_wakes, leaves_to_thread, is_in_run, EnablesWhatItDisables}
 use Rattle.irq_model.specs.Legal.{IsDue, IsLegalPast}
-use Rattle.irq_steps.proofs.Same.{same_self, same_self_cpu, dev_from_same}
+use Rattle.irq_model.proofs.Same.{same_self, same_self_cpu, dev_from_same}
 use Rattle.irq_laws.proofs.Progress.{same_call, due_at}
 use Rattle.irq_laws.specs.Kept.{KeepsRuns}
 use Rattle.irq_laws.proofs.Chosen.{the_same}

@@ -12,7 +12,7 @@ use Rattle.irq_model.specs.Places.{some_place}
 use Rattle.irq_model.specs.Kinds.{is_device_edge, arms_with_edge, is_begin, unlinks_dev, unlinks_this, links_dev}
 use Rattle.irq_model.specs.Links.{is_linked, is_started}
 use Rattle.irq_model.specs.Owed.{comes_to}
-use Rattle.irq_steps.proofs.Somewhere.{some_none}
+use Rattle.irq_model.proofs.Somewhere.{some_none}
 use Rattle.irq_laws.proofs.Lists.{place_imply, both_ways}
 
 -- an ask came to d, and d was neither unlinked nor called since

@@ -15,7 +15,7 @@ use Rattle.irq_model.specs.Rounds.{is_cpu}
 use Rattle.irq_model.specs.Signal.{target}
 use Rattle.irq_model.specs.Next.{next_past, next}
 use Rattle.irq_model.specs.Legal.{IsDue}
-use Rattle.irq_steps.proofs.Same.{cpu_from_same}
+use Rattle.irq_model.proofs.Same.{cpu_from_same}
 use Rattle.irq_laws.proofs.ImpliesFlow.{CpuRow, calls, returns, begins, ends, takes, resent, cpu_row, take_due}
 use Rattle.irq_laws.proofs.ImpliesThread.{ThreadRow, thread_row}
 use Rattle.irq_laws.proofs.ImpliesThread.{begins as begins_run, calls as calls_in_run, returns as returns_of_run, finishes, done}

@@ -12,7 +12,7 @@ use Rattle.irq_base.specs.declared.entries.Actor.{Actor}
 use Rattle.irq_base.specs.declared.entries.Entry.{Entry}
 use Rattle.irq_model.specs.Kinds.{is_by}
 use Rattle.irq_model.specs.Due.{begins_not_there, entries_of_call, due_of}
-use Rattle.irq_steps.proofs.DueSteps.{each_makes_some, by_first}
+use Rattle.irq_model.proofs.DueSteps.{each_makes_some, by_first}
 use Rattle.irq_laws.specs.Actors.{calls_of, entries_of, due_of_actor}
 use Rattle.irq_laws.proofs.ActorSteps.{Turn, goes, stays, begins, ends}
 use Rattle.irq_laws.proofs.Chosen.{the_same}

@@ -21,7 +21,7 @@ use Rattle.irq_model.specs.Threads.{is_some_unfinished}
 use Rattle.irq_model.specs.Reason.{is_being_freed, HasReason, OneIsCalled, OneIsFreed}
 use Rattle.irq_model.specs.Legal.{IsLegal, IsLegalPast}
 use Rattle.irq_model.specs.Valid.{IsValid}
-use Rattle.irq_steps.proofs.Same.{same_self}
+use Rattle.irq_model.proofs.Same.{same_self}
 use Rattle.irq_laws.specs.Actors.{by_someone}
 use Rattle.irq_laws.specs.Kept.{Kept, freeing, freed_on}
 use Rattle.irq_laws.proofs.Chosen.{the_same}

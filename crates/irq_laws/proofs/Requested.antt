@@ -15,7 +15,7 @@ use Rattle.irq_base.specs.declared.entries.LinkAnswer.TheVariants as links
 use Rattle.irq_model.specs.Kinds.{same_dev, same_driver, links_dev, unlinks_dev}
 use Rattle.irq_model.specs.Links.{is_linked, requested, linked}
 use Rattle.irq_model.specs.Due.{calls_by, entries_of_call, due_of}
-use Rattle.irq_steps.proofs.Same.{dev_from_same}
+use Rattle.irq_model.proofs.Same.{dev_from_same}
 use Rattle.irq_laws.proofs.Chosen.{chosen}
 use Rattle.irq_laws.proofs.Lists.{any_imply, any_filter, stands_cases}
 use Rattle.irq_laws.proofs.Progress.{same_call}

@@ -34,7 +34,7 @@ use Rattle.irq_model.specs.Next.{flags_differ, is_mismatch, same_flag}
 use Rattle.irq_model.specs.Reason.{is_called, is_being_freed, is_finishing}
 use Rattle.irq_model.specs.Legal.{IsDue}
 use Rattle.irq_model.specs.Valid.{IsValid, names_one_of}
-use Rattle.irq_steps.proofs.Same.{dev_from_same}
+use Rattle.irq_model.proofs.Same.{dev_from_same}
 use Rattle.irq_laws.specs.Actors.{by_someone}
 use Rattle.irq_laws.specs.Kept.{Kept, KeepsRest}
 use Rattle.irq_laws.proofs.Lists.{both_ways}

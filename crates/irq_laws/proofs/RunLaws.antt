@@ -29,7 +29,7 @@ use Rattle.irq_model.specs.Reason.{is_called, is_being_freed}
 use Rattle.irq_model.specs.Legal.{IsDue, IsLegal}
 use Rattle.irq_model.specs.Laws.{NoOverlap, IsSilentAfterFree, IsSynchronised, KeepsOneshot, is_run_of}
 use Rattle.irq_model.specs.Valid.{IsValid}
-use Rattle.irq_steps.proofs.Same.{dev_from_same}
+use Rattle.irq_model.proofs.Same.{dev_from_same}
 use Rattle.irq_laws.specs.Kept.{Kept}
 use Rattle.irq_laws.proofs.Lists.{any_imply, none_counted, both_ways}
 use Rattle.irq_laws.proofs.FreesKept.{begun_is_linked, nothing_called}

@@ -14,8 +14,8 @@ use Rattle.irq_model.specs.Links.{is_disabled, is_none_linked}
 use Rattle.irq_model.specs.Next.{take_answer}
 use Rattle.irq_model.specs.Reason.{is_called}
 use Rattle.irq_model.specs.Legal.{IsDue}
-use Rattle.irq_steps.proofs.Same.{same_self, dev_from_same}
-use Rattle.irq_steps.proofs.RoundSteps.{flow_quiet}
+use Rattle.irq_model.proofs.Same.{same_self, dev_from_same}
+use Rattle.irq_model.proofs.RoundSteps.{flow_quiet}
 use Rattle.irq_laws.specs.Kept.{KeepsRuns}
 use Rattle.irq_laws.proofs.Chosen.{the_same}
 use Rattle.irq_laws.proofs.Lists.{both_ways, differs_dev}

@@ -42,7 +42,7 @@ use Rattle.irq_model.specs.Runs.{entries_of_run}
 use Rattle.irq_model.specs.RunLaws.{calls_of_run, is_in_run, FollowsRunScripts}
 use Rattle.irq_model.specs.Scripts.{MakesSteps, MakesAll, MakesAllOf, MakesSome, AreMadeBy, step_in, steps_in, FollowsScripts}
 use Rattle.irq_model.specs.Legal.{IsDue, IsLegal, IsLegalPast}
-use Rattle.irq_steps.proofs.Same.{dev_from_same, same_self_cpu, actor_from_same}
+use Rattle.irq_model.proofs.Same.{dev_from_same, same_self_cpu, actor_from_same}
 use Rattle.irq_laws.specs.Actors.{by_someone, calls_of, calls_at_work, entries_of, entries_at_work, due_of_actor}
 use Rattle.irq_laws.specs.Kept.{KeepsRuns}
 use Rattle.irq_laws.proofs.RunsKept.{runs_more, no_runs}

@@ -12,7 +12,7 @@ use Rattle.irq_model.specs.Places.{stands}
 use Rattle.irq_model.specs.Kinds.{same_driver}
 use Rattle.irq_model.specs.Due.{calls_by, entries_of_call, due_of}
 use Rattle.irq_model.specs.Valid.{requests_dev, frees_dev, IsFreedBetween}
-use Rattle.irq_steps.proofs.Same.{driver_from_same, same_self_driver}
+use Rattle.irq_model.proofs.Same.{driver_from_same, same_self_driver}
 use Rattle.irq_laws.specs.Kept.{complete}
 use Rattle.irq_laws.proofs.Chosen.{chosen, the_same}
 use Rattle.irq_laws.proofs.Lists.{both_ways, stands_cases}

@@ -32,8 +32,8 @@ use Rattle.irq_model.specs.Next.{take_answer, next_of_cpu}
 use Rattle.irq_model.specs.Laws.{IsHandledNext, IsServedWhenIdle}
 use Rattle.irq_model.specs.Legal.{IsDue, IsLegal, IsLegalPast}
 use Rattle.irq_model.specs.Valid.{IsValid}
-use Rattle.irq_steps.proofs.EdgeSteps.{none_stored}
-use Rattle.irq_steps.proofs.Same.{same_self_cpu}
+use Rattle.irq_model.proofs.EdgeSteps.{none_stored}
+use Rattle.irq_model.proofs.Same.{same_self_cpu}
 use Rattle.irq_laws.specs.Kept.{Kept}
 use Rattle.irq_laws.proofs.Lists.{both_ways}
 use Rattle.irq_laws.proofs.Owing.{owes}

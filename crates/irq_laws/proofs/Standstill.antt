@@ -1,4 +1,5 @@
--- No standstill: where no actor has a step, whoever isn't done waits for himself, or for one that does.
+-- No standstill: where nobody has a step by whose entries a wait ends, whoever isn't done and has no step
+-- waits for himself, or for one that does.
 use Rattle.std.proofs.Common.{◌≡◌, ◌⊎◌, inl, inr, ℕ, zero, suc, ◌==◌, Bool, true, false, not, ◌||◌, ◌&&◌, cond, IsSome, Option, Some, None, is_some}
 use Rattle.std.proofs.Common.{List, [], ◌∷◌, option_map, reverse, refl, sym, ap, ap₂, ◌∙◌, subst, arith, eqb-true}
 use Rattle.std.specs.List.{list_any, AllByRecursion}
@@ -37,8 +38,8 @@ use Rattle.irq_model.specs.Valid.{IsValid}
 use Rattle.irq_model.specs.ValidRuns.{HasValidRuns, may_stand}
 use Rattle.irq_model.specs.Waits.{Want, flow_ends, threads_rest, thread_rests, mutex_free, nothing_wanted, wanted_by, wanted_of}
 use Rattle.irq_model.specs.Waits.{wanted_at_work, wanted, maker_of, mutex_holder, StandsIn, WaitsFor, IsHungPast}
-use Rattle.irq_model.specs.Waits.{IsHeldUpPast, is_unfinished_actor, NoStandstillPast}
-use Rattle.irq_steps.proofs.Same.{same_self_cpu, dev_from_same, cpu_from_same, actor_from_same}
+use Rattle.irq_model.specs.Waits.{IsCaughtPast, NobodyEndsWaits, is_unfinished_actor, NoStandstillPast}
+use Rattle.irq_model.proofs.Same.{same_self_cpu, dev_from_same, cpu_from_same, actor_from_same}
 use Rattle.irq_laws.specs.Actors.{due_of_actor}
 use Rattle.irq_laws.specs.Kept.{Kept, freeing, freed_on}
 use Rattle.irq_laws.proofs.Chosen.{the_same}
@@ -136,7 +137,7 @@ is_shared (calls.Affinity mask) = false
 is_shared (calls.Moment at) = false
 is_shared c = true
 
-step_blocked : (def : LineDef) (past : List Entry) (c : Call) (n : ℕ) → is_shared c ≡ true → next_step def past (c, n) ≡ None → IsBlocked def past c n
+pub step_blocked : (def : LineDef) (past : List Entry) (c : Call) (n : ℕ) → is_shared c ≡ true → next_step def past (c, n) ≡ None → IsBlocked def past c n
 step_blocked def past (calls.Free d) n is h = free_blocked def past d n (n == 0) (n == 1) refl refl h
 step_blocked def past calls.Disable n is h = disable_blocked def past n (n == 0) (n == 1) refl refl h
 step_blocked def past calls.Sync n is h = sync_blocked def past n (n == 0) refl h
@@ -148,11 +149,12 @@ step_blocked def past (calls.Affinity mask) n is h = cc
 step_blocked def past (calls.Moment at) n is h = cc
 step_blocked def past c n is h = cc
 
-not_made : (a : Actor) (o : Option CallEntry) → option_map (made_by a) o ≡ None → o ≡ None
+pub not_made : (a : Actor) (o : Option CallEntry) → option_map (made_by a) o ≡ None → o ≡ None
 not_made a None h = refl
 not_made a (Some call) h = cc
 
-driver_blocked : (def : LineDef) (past : List Entry) (r : DriverNo) (c : Call) (n : ℕ) → next_of_driver def r past (Some (c, n)) ≡ None → IsBlocked def past c n
+pub driver_blocked : (def : LineDef) (past : List Entry) (r : DriverNo) (c : Call) (n : ℕ) → next_of_driver def r past (Some (c, n)) ≡ None
+    → IsBlocked def past c n
 driver_blocked def past r (calls.Ask d) n h = cc
 driver_blocked def past r (calls.Request d flags) n h = by_mutex refl (unless_none (holds_mutex past) _ h)
 driver_blocked def past r (calls.Affinity mask) n h = cc
@@ -203,7 +205,7 @@ run_stands def past part d c n runs h = by_test (makes_calls def part d past) re
     by_test false is = let x = ap (λ (b : Bool). cond b (due_of (run_script def d part) (entries_of_run part d past)) None) (sym is) ∙ h in cc
 
 -- what stands in a run is no driver's call alone
-stands_shared : (kind : Kind) (part : Part) (d : DevNo) (c : Call) → may_stand kind part d c ≡ true → is_shared c ≡ true
+pub stands_shared : (kind : Kind) (part : Part) (d : DevNo) (c : Call) → may_stand kind part d c ≡ true → is_shared c ≡ true
 stands_shared kind part d (calls.Ask x) h = cc
 stands_shared kind part d (calls.Request x flags) h = cc
 stands_shared kind part d (calls.Affinity mask) h = cc
@@ -212,7 +214,7 @@ stands_shared kind part d c h = refl
 
 -- ---- an actor that has no step
 
-data Stuck (def : LineDef) (past : List Entry) (a : Actor) : Type 0 where
+pub data Stuck (def : LineDef) (past : List Entry) (a : Actor) : Type 0 where
   on_flow : wanted def a past ≡ flow_ends → has_flow def past ≡ true → Stuck def past a
   on_threads : wanted def a past ≡ threads_rest → (active_count def past == 0) ≡ false → Stuck def past a
   on_thread : (d : DevNo) (m : ℕ) → wanted def a past ≡ thread_rests d → due_of_actor def a past ≡ Some (calls.Free d, suc m)
@@ -238,11 +240,11 @@ row_none true w true true false false a b c d is = cc
 row_none true w true true true h a b c d is = cc
 row_none true w true false f h a b c d is = cc
 
-wants_in_run : (def : LineDef) (past : List Entry) (d : DevNo) → is_running past d ≡ true → has_returned past d ≡ false
+pub wants_in_run : (def : LineDef) (past : List Entry) (d : DevNo) → is_running past d ≡ true → has_returned past d ≡ false
     → wanted def (actors.Thread d) past ≡ wanted_of (due_in_run def parts.Thread d past)
 wants_in_run def past d r t = ap₂ (λ (x y : Bool). cond (not x) nothing_wanted (cond y flow_ends (wanted_of (due_in_run def parts.Thread d past)))) r t
 
-wants_flow : (def : LineDef) (past : List Entry) (d : DevNo) → is_running past d ≡ true → has_returned past d ≡ true
+pub wants_flow : (def : LineDef) (past : List Entry) (d : DevNo) → is_running past d ≡ true → has_returned past d ≡ true
     → wanted def (actors.Thread d) past ≡ flow_ends
 wants_flow def past d r t = ap₂ (λ (x y : Bool). cond (not x) nothing_wanted (cond y flow_ends (wanted_of (due_in_run def parts.Thread d past)))) r t
 
@@ -254,7 +256,7 @@ thread_in_run def past d runs r t (Some (c, n)) is h =
     (step_blocked def past c n (stands_shared (kind_of def d) parts.Thread d c (run_stands def past parts.Thread d c n runs is))
     (not_made (actors.Thread d) (next_step def past (c, n)) h))
 
-thread_stuck : (def : LineDef) (past : List Entry) (d : DevNo) → HasValidRuns def → Kept def past
+pub thread_stuck : (def : LineDef) (past : List Entry) (d : DevNo) → HasValidRuns def → Kept def past
     → (is_woken past d || is_running past d) ≡ true → next_past def past (actors.Thread d) ≡ None → Stuck def past (actors.Thread d)
 thread_stuck def past d runs k at_work still = by_row
     (row_none (is_running past d) (is_woken past d) (has_returned past d) (is_oneshot past) (has_finished past d) (has_flow def past) _ _ _ _ none)
@@ -276,7 +278,7 @@ thread_stuck def past d runs k at_work still = by_row
     by_row (inr (inl h)) = thread_in_run def past d runs h.0 h.1 (due_in_run def parts.Thread d past) refl h.2
     by_row (inr (inr h)) = on_flow (wants_flow def past d h.0 h.1) h.2
 
-driver_stuck : (def : LineDef) (past : List Entry) (r : DriverNo) (o : Option (Call × ℕ)) → due_call def r past ≡ o → is_some o ≡ true
+pub driver_stuck : (def : LineDef) (past : List Entry) (r : DriverNo) (o : Option (Call × ℕ)) → due_call def r past ≡ o → is_some o ≡ true
     → next_past def past (actors.Driver r) ≡ None → Stuck def past (actors.Driver r)
 driver_stuck def past r None is some still = cc
 driver_stuck def past r (Some (c, n)) is some still =
@@ -284,7 +286,7 @@ driver_stuck def past r (Some (c, n)) is some still =
     (driver_blocked def past r c n (ap (λ (o : Option (Call × ℕ)). next_of_driver def r past o) (sym is) ∙ still))
 
 -- a processor in a flow: its handler's due call, and that it isn't due
-record HandlerStuck (def : LineDef) (past : List Entry) (c : CpuNo) : Type 0 where
+pub record HandlerStuck (def : LineDef) (past : List Entry) (c : CpuNo) : Type 0 where
   pub dev : DevNo
   pub call : Call
   pub count : ℕ
@@ -308,7 +310,7 @@ handler_in_run def past c d runs f w (Some (x, n)) is h =
       blocked = step_blocked def past x n (stands_shared (kind_of def d) parts.Primary d x may) (not_made (actors.Cpu c) (next_step def past (x, n)) h);
     }
 
-handler_stuck : (def : LineDef) (past : List Entry) (c : CpuNo) → HasValidRuns def → is_cpu c (flow def past) ≡ true
+pub handler_stuck : (def : LineDef) (past : List Entry) (c : CpuNo) → HasValidRuns def → is_cpu c (flow def past) ≡ true
     → next_past def past (actors.Cpu c) ≡ None → HandlerStuck def past c
 handler_stuck def past c runs f still = by_work (at_work past) refl
   where
@@ -457,7 +459,7 @@ threads_past calls.DisableHard n h = by_test (n == 0) h
     by_test false h = cc
 threads_past c n h = cc
 
-mutex_not : (kind : Kind) (d : DevNo) (c : Call) (n : ℕ) → may_stand kind parts.Primary d c ≡ true → wanted_by (c, n) ≡ mutex_free → ⊥
+pub mutex_not : (kind : Kind) (d : DevNo) (c : Call) (n : ℕ) → may_stand kind parts.Primary d c ≡ true → wanted_by (c, n) ≡ mutex_free → ⊥
 mutex_not kind d calls.Disable n may h = by_tests (n == 0) (n == 1) h
   where
     by_tests : (z o : Bool) → cond z nothing_wanted (cond o flow_ends threads_rest) ≡ mutex_free → ⊥
@@ -478,7 +480,7 @@ mutex_not kind d (calls.Free x) n may h = cc
 mutex_not kind d (calls.Request x flags) n may h = cc
 mutex_not kind d c n may h = cc
 
-free_wants : (x : DevNo) (n : ℕ) → (wanted_by (calls.Free x, suc n) ≡ threads_rest → ⊥) × (wanted_by (calls.Free x, suc n) ≡ mutex_free → ⊥)
+pub free_wants : (x : DevNo) (n : ℕ) → (wanted_by (calls.Free x, suc n) ≡ threads_rest → ⊥) × (wanted_by (calls.Free x, suc n) ≡ mutex_free → ⊥)
 free_wants x n = (λ h. threads (suc n == 0) (suc n == 1) h, λ h. mutex (suc n == 0) (suc n == 1) (not_zero n) h)
   where
     not_zero : (n : ℕ) → (suc n == 0) ≡ false
@@ -496,11 +498,11 @@ free_wants x n = (λ h. threads (suc n == 0) (suc n == 1) h, λ h. mutex (suc n 
 
 -- ---- who waits for whom
 
-some_cpu : (o : Option CpuNo) → is_some o ≡ true → (c : CpuNo) × (o ≡ Some c)
+pub some_cpu : (o : Option CpuNo) → is_some o ≡ true → (c : CpuNo) × (o ≡ Some c)
 some_cpu None h = cc
 some_cpu (Some c) h = (c, refl)
 
-some_dev : (p : DevNo → Bool) (xs : List DeviceDef) → list_any (λ x. p x.dev) xs ≡ true → (d : DevNo) × (p d ≡ true)
+pub some_dev : (p : DevNo → Bool) (xs : List DeviceDef) → list_any (λ x. p x.dev) xs ≡ true → (d : DevNo) × (p d ≡ true)
 some_dev p [] h = cc
 some_dev p (x ∷ xs) h = by_case (or_cases (p x.dev) (list_any (λ y. p y.dev) xs) h) (some_dev p xs)
   where
@@ -509,7 +511,7 @@ some_dev p (x ∷ xs) h = by_case (or_cases (p x.dev) (list_any (λ y. p y.dev) 
     by_case (inl here) deeper = (x.dev, here)
     by_case (inr there) deeper = deeper there
 
-some_active : (def : LineDef) (past : List Entry) → (active_count def past == 0) ≡ false → (d : DevNo) × ((is_woken past d || is_running past d) ≡ true)
+pub some_active : (def : LineDef) (past : List Entry) → (active_count def past == 0) ≡ false → (d : DevNo) × ((is_woken past d || is_running past d) ≡ true)
 some_active def past h =
     some_dev (λ d. is_woken past d || is_running past d) def.devices
     (when_not _ (sym (none_counted (λ (x : DeviceDef). is_woken past x.dev) (λ (x : DeviceDef). is_running past x.dev) def.devices) ∙ h))
@@ -521,76 +523,103 @@ some_active def past h =
 free_dev : (d x : DevNo) → calls.Free d ≡ calls.Free x → d ≡ x
 free_dev d x h = cc
 
-module _ (def : LineDef) (past : List Entry) (valid : IsValid def) (runs : HasValidRuns def) (legal : IsLegalPast def past)
-    (still : (a : Actor) → next_past def past a ≡ None) where
-  abbrev Waits : Actor → Type 0
-  Waits a = IsHungPast def past a ⊎ IsHeldUpPast def past a
+-- a handler that has no step waits for the end of the flow, which is its own
+pub handler_wants_flow : (def : LineDef) (past : List Entry) → HasValidRuns def → IsLegalPast def past → (c : CpuNo) → is_cpu c (flow def past) ≡ true
+    → next_past def past (actors.Cpu c) ≡ None → wanted def (actors.Cpu c) past ≡ flow_ends
+handler_wants_flow def past runs legal c is still = by_block (handler_stuck def past c runs is still)
+  where
+    blocked : (s : HandlerStuck def past c) → IsBlocked def past s.call s.count → wanted def (actors.Cpu c) past ≡ flow_ends
+    blocked s (by_flow w f) = s.wants ∙ w
+    blocked s (by_threads w t) = both_ways (past_clear s.call s.count) (threads_past s.call s.count w) (unclear def past legal c s.call s.count s.is_due)
+    blocked s (by_thread d m w free one t) =
+        let n : false ≡ true = subst (λ (x : Call). may_stand (kind_of def s.dev) parts.Primary s.dev x ≡ true) free s.stands in cc
+    blocked s (by_mutex w h) = absurd (mutex_not (kind_of def s.dev) s.dev s.call s.count s.stands w)
 
-  waits : (a b : Actor) (w : Want) → wanted def a past ≡ w → StandsIn def past w b → WaitsFor def past a b
-  waits a b w is s = (still a, subst (λ (x : Want). StandsIn def past x b) (sym is) s)
+    by_block : HandlerStuck def past c → wanted def (actors.Cpu c) past ≡ flow_ends
+    by_block s = blocked s s.blocked
+
+pub flow_hung : (def : LineDef) (past : List Entry) → HasValidRuns def → IsLegalPast def past → (c : CpuNo) → flow def past ≡ Some c
+    → next_past def past (actors.Cpu c) ≡ None → IsHungPast def past (actors.Cpu c)
+flow_hung def past runs legal c is still = (
+  0,
+  (
+    still,
+    subst (λ (x : Want). StandsIn def past x (actors.Cpu c))
+        (sym (handler_wants_flow def past runs legal c (ap (is_cpu c) is ∙ same_self_cpu c) still)) is,
+  ),
+)
+
+-- whose the flow is
+pub is_its_cpu : (c : CpuNo) (o : Option CpuNo) → is_cpu c o ≡ true → o ≡ Some c
+is_its_cpu c None h = cc
+is_its_cpu c (Some x) h = ap Some (sym (cpu_from_same c x h))
+
+-- who waits for one that is hung or held up is held up
+pub waits_for_caught : (def : LineDef) (past : List Entry) (a b : Actor) → WaitsFor def past a b → IsCaughtPast def past b → IsCaughtPast def past a
+waits_for_caught def past a b w (inl hung) = inr (0, b, w, hung)
+waits_for_caught def past a b w (inr (n, c, through, hung)) = inr (suc n, c, (b, w, through), hung)
+
+module _ (def : LineDef) (past : List Entry) (valid : IsValid def) (runs : HasValidRuns def) (legal : IsLegalPast def past)
+    (ends : NobodyEndsWaits def past) where
+  abbrev Rests : Actor → Type 0
+  Rests a = next_past def past a ≡ None
+
+  abbrev Waits : Actor → Type 0
+  Waits a = IsCaughtPast def past a
+
+  waits : (a b : Actor) (w : Want) → Rests a → wanted def a past ≡ w → StandsIn def past w b → WaitsFor def past a b
+  waits a b w rests is s = (rests, subst (λ (x : Want). StandsIn def past x b) (sym is) s)
 
   up : (a b : Actor) → WaitsFor def past a b → Waits b → Waits a
-  up a b w (inl hung) = inr (0, b, w, hung)
-  up a b w (inr (n, c, through, hung)) = inr (suc n, c, (b, w, through), hung)
+  up = waits_for_caught def past
 
-  -- a handler waits for its own flow
-  flow_hung : (c : CpuNo) → flow def past ≡ Some c → IsHungPast def past (actors.Cpu c)
-  flow_hung c is = by_block (handler_stuck def past c runs (ap (is_cpu c) is ∙ same_self_cpu c) (still (actors.Cpu c)))
-    where
-      blocked : (s : HandlerStuck def past c) → IsBlocked def past s.call s.count → IsHungPast def past (actors.Cpu c)
-      blocked s (by_flow w f) = (0, waits (actors.Cpu c) (actors.Cpu c) flow_ends (s.wants ∙ w) is)
-      blocked s (by_threads w t) = both_ways (past_clear s.call s.count) (threads_past s.call s.count w) (unclear def past legal c s.call s.count s.is_due)
-      blocked s (by_thread d m w free one t) =
-          let n : false ≡ true = subst (λ (x : Call). may_stand (kind_of def s.dev) parts.Primary s.dev x ≡ true) free s.stands in cc
-      blocked s (by_mutex w h) = absurd (mutex_not (kind_of def s.dev) s.dev s.call s.count s.stands w)
-
-      by_block : HandlerStuck def past c → IsHungPast def past (actors.Cpu c)
-      by_block s = blocked s s.blocked
-
-  wants_flow_waits : (a : Actor) → wanted def a past ≡ flow_ends → has_flow def past ≡ true → Waits a
-  wants_flow_waits a w f =
+  wants_flow_waits : (a : Actor) → Rests a → wanted def a past ≡ flow_ends → has_flow def past ≡ true → Waits a
+  wants_flow_waits a rests w f =
       let c = some_cpu (flow def past) f in
-      up a (actors.Cpu c.0) (waits a (actors.Cpu c.0) flow_ends w c.1) (inl (flow_hung c.0 c.1))
+      up a (actors.Cpu c.0) (waits a (actors.Cpu c.0) flow_ends rests w c.1)
+      (inl (flow_hung def past runs legal c.0 c.1 (ends.flow_cpu c.0 c.1)))
 
   -- a thread waits for its own run
   thread_hung : (d : DevNo) → (is_woken past d || is_running past d) ≡ true → wanted def (actors.Thread d) past ≡ threads_rest → Waits (actors.Thread d)
-  thread_hung d t w = inl (0, waits (actors.Thread d) (actors.Thread d) threads_rest w t)
+  thread_hung d t w = inl (0, waits (actors.Thread d) (actors.Thread d) threads_rest (ends.threads d) w t)
+
+  -- the maker of the free has no step
+  maker_rests : (a : Actor) (x : DevNo) → freeing past ≡ Some (a, x) → Rests a
+  maker_rests a x f = ends.holder a (holds_it a x past f)
 
   -- the maker of the free, if it waits for a thread
   waits_for_thread : (a : Actor) (x : DevNo) → freeing past ≡ Some (a, x) → WaitsFor def past a (actors.Thread x)
       → Stuck def past (actors.Thread x) → (is_woken past x || is_running past x) ≡ true → Waits a
-  waits_for_thread a x f w (on_flow v g) t = up a (actors.Thread x) w (wants_flow_waits (actors.Thread x) v g)
+  waits_for_thread a x f w (on_flow v g) t = up a (actors.Thread x) w (wants_flow_waits (actors.Thread x) (ends.threads x) v g)
   waits_for_thread a x f w (on_threads v n) t = up a (actors.Thread x) w (thread_hung x t v)
   waits_for_thread a x f w (on_thread y m v due u) t =
       let same = (same_free past a (actors.Thread x) x y f ((kept def past valid legal).frees.within (actors.Thread x) y m due)).0 in
       inl (0, subst (λ (b : Actor). WaitsFor def past a b) (sym same) w)
   waits_for_thread a x f w (on_mutex v h) t =
-      inl (suc zero, (actors.Thread x, w, waits (actors.Thread x) a mutex_free v (holds_it a x past f)))
+      inl (suc zero, (actors.Thread x, w, waits (actors.Thread x) a mutex_free (ends.threads x) v (holds_it a x past f)))
 
   maker_blocked : (a : Actor) (x : DevNo) (n : ℕ) → freeing past ≡ Some (a, x) → wanted def a past ≡ wanted_by (calls.Free x, suc n)
       → IsBlocked def past (calls.Free x) (suc n) → Waits a
-  maker_blocked a x n f wants (by_flow w g) = wants_flow_waits a (wants ∙ w) g
+  maker_blocked a x n f wants (by_flow w g) = wants_flow_waits a (maker_rests a x f) (wants ∙ w) g
   maker_blocked a x n f wants (by_threads w t) = absurd ((free_wants x n).0 w)
   maker_blocked a x n f wants (by_mutex w h) = absurd ((free_wants x n).1 w)
   maker_blocked a x n f wants (by_thread d m w free one t) =
       let same : d ≡ x = sym (free_dev x d free) in
       let at_work : (is_woken past x || is_running past x) ≡ true = subst (λ (y : DevNo). (is_woken past y || is_running past y) ≡ true) same t in
-      waits_for_thread a x f (waits a (actors.Thread x) (thread_rests x) (wants ∙ w ∙ ap thread_rests same) (refl, at_work))
-      (thread_stuck def past x runs (kept def past valid legal) at_work (still (actors.Thread x))) at_work
+      waits_for_thread a x f
+      (waits a (actors.Thread x) (thread_rests x) (maker_rests a x f) (wants ∙ w ∙ ap thread_rests same) (refl, at_work))
+      (thread_stuck def past x runs (kept def past valid legal) at_work (ends.threads x)) at_work
 
   maker_waits : (a : Actor) (x : DevNo) → freeing past ≡ Some (a, x) → Waits a
   maker_waits (actors.Cpu c) x f =
       let n = within_free def past legal (actors.Cpu c) x f in
       let w = handler_works def c (calls.Free x, suc n.0) past n.1 in
-      inl (flow_hung c (is_that c (flow def past) w.of_flow))
-    where
-      is_that : (c : CpuNo) (o : Option CpuNo) → is_cpu c o ≡ true → o ≡ Some c
-      is_that c None h = cc
-      is_that c (Some x) h = ap Some (sym (cpu_from_same c x h))
+      inl (flow_hung def past runs legal c (is_its_cpu c (flow def past) w.of_flow) (maker_rests (actors.Cpu c) x f))
   maker_waits (actors.Driver r) x f =
       let n = within_free def past legal (actors.Driver r) x f in
       maker_blocked (actors.Driver r) x n.0 f (ap wanted_of n.1)
-      (driver_blocked def past r (calls.Free x) (suc n.0) (ap (λ (o : Option (Call × ℕ)). next_of_driver def r past o) (sym n.1) ∙ still (actors.Driver r)))
+      (driver_blocked def past r (calls.Free x) (suc n.0)
+      (ap (λ (o : Option (Call × ℕ)). next_of_driver def r past o) (sym n.1) ∙ maker_rests (actors.Driver r) x f))
   maker_waits (actors.Thread d) x f =
       let n = within_free def past legal (actors.Thread d) x f in
       let w = thread_works def d (calls.Free x, suc n.0) past n.1 in
@@ -602,52 +631,48 @@ module _ (def : LineDef) (past : List Entry) (valid : IsValid def) (runs : HasVa
       none : is_running past d ≡ true → next_of_thread def d past ≡ None
       none running =
           let there = there_named def past (kept def past valid legal) d (running_there def past (kept def past valid legal) d running) in
-          ap (λ (b : Bool). cond b (next_of_thread def d past) None) (sym there) ∙ still (actors.Thread d)
+          ap (λ (b : Bool). cond b (next_of_thread def d past) None) (sym there) ∙ ends.threads d
 
       in_thread : is_running past d ≡ true → has_returned past d ≡ false
           → next_of_thread def d past ≡ call_or_return def d past (due_in_run def parts.Thread d past)
       in_thread r t = rw (r, t) refl
 
-  wants_mutex_waits : (a : Actor) → wanted def a past ≡ mutex_free → holds_mutex past ≡ true → Waits a
-  wants_mutex_waits a w held =
+  wants_mutex_waits : (a : Actor) → Rests a → wanted def a past ≡ mutex_free → holds_mutex past ≡ true → Waits a
+  wants_mutex_waits a rests w held =
       let o = holder past held in
       let f = (kept def past valid legal).frees.one_maker o.maker o.dev o.stands_there in
-      up a o.maker (waits a o.maker mutex_free w (holds_it o.maker o.dev past f)) (maker_waits o.maker o.dev f)
+      up a o.maker (waits a o.maker mutex_free rests w (holds_it o.maker o.dev past f)) (maker_waits o.maker o.dev f)
 
   within_waits : (a : Actor) (d : DevNo) (m : ℕ) → due_of_actor def a past ≡ Some (calls.Free d, suc m) → Waits a
   within_waits a d m due = maker_waits a d ((kept def past valid legal).frees.within a d m due)
 
   thread_waits : (d : DevNo) → (is_woken past d || is_running past d) ≡ true → Waits (actors.Thread d)
-  thread_waits d t = by_stuck (thread_stuck def past d runs (kept def past valid legal) t (still (actors.Thread d)))
+  thread_waits d t = by_stuck (thread_stuck def past d runs (kept def past valid legal) t (ends.threads d))
     where
       by_stuck : Stuck def past (actors.Thread d) → Waits (actors.Thread d)
-      by_stuck (on_flow w f) = wants_flow_waits (actors.Thread d) w f
+      by_stuck (on_flow w f) = wants_flow_waits (actors.Thread d) (ends.threads d) w f
       by_stuck (on_threads w n) = thread_hung d t w
       by_stuck (on_thread x m w due u) = within_waits (actors.Thread d) x m due
-      by_stuck (on_mutex w h) = wants_mutex_waits (actors.Thread d) w h
+      by_stuck (on_mutex w h) = wants_mutex_waits (actors.Thread d) (ends.threads d) w h
 
-  driver_waits : (r : DriverNo) → is_some (due_call def r past) ≡ true → Waits (actors.Driver r)
-  driver_waits r some = by_stuck (driver_stuck def past r (due_call def r past) refl some (still (actors.Driver r)))
+  driver_waits : (r : DriverNo) → is_some (due_call def r past) ≡ true → Rests (actors.Driver r) → Waits (actors.Driver r)
+  driver_waits r some rests = by_stuck (driver_stuck def past r (due_call def r past) refl some rests)
     where
       by_stuck : Stuck def past (actors.Driver r) → Waits (actors.Driver r)
-      by_stuck (on_flow w f) = wants_flow_waits (actors.Driver r) w f
+      by_stuck (on_flow w f) = wants_flow_waits (actors.Driver r) rests w f
       by_stuck (on_threads w n) =
           let d = some_active def past n in
-          up (actors.Driver r) (actors.Thread d.0) (waits (actors.Driver r) (actors.Thread d.0) threads_rest w d.1) (thread_waits d.0 d.1)
+          up (actors.Driver r) (actors.Thread d.0) (waits (actors.Driver r) (actors.Thread d.0) threads_rest rests w d.1) (thread_waits d.0 d.1)
       by_stuck (on_thread x m w due u) = within_waits (actors.Driver r) x m due
-      by_stuck (on_mutex w h) = wants_mutex_waits (actors.Driver r) w h
+      by_stuck (on_mutex w h) = wants_mutex_waits (actors.Driver r) rests w h
 
-  unfinished_waits : (a : Actor) → is_unfinished_actor def past a ≡ true → Waits a
-  unfinished_waits (actors.Driver r) h = driver_waits r h
-  unfinished_waits (actors.Thread d) h = thread_waits d h
-  unfinished_waits (actors.Cpu c) h = inl (flow_hung c (is_that c (flow def past) h))
-    where
-      is_that : (c : CpuNo) (o : Option CpuNo) → is_cpu c o ≡ true → o ≡ Some c
-      is_that c None h = cc
-      is_that c (Some x) h = ap Some (sym (cpu_from_same c x h))
+  unfinished_waits : (a : Actor) → is_unfinished_actor def past a ≡ true → Rests a → Waits a
+  unfinished_waits (actors.Driver r) h rests = driver_waits r h rests
+  unfinished_waits (actors.Thread d) h rests = thread_waits d h
+  unfinished_waits (actors.Cpu c) h rests = inl (flow_hung def past runs legal c (is_its_cpu c (flow def past) h) rests)
 
 pub no_standstill : (def : LineDef) (past : List Entry) → IsValid def → HasValidRuns def → IsLegalPast def past → NoStandstillPast def past
-no_standstill def past valid runs legal still a h = unfinished_waits def past valid runs legal still a h
+no_standstill def past valid runs legal ends a h rests = unfinished_waits def past valid runs legal ends a h rests
 
 -- ---- a handler whose step waits for nobody
 

@@ -16,7 +16,7 @@ use Rattle.irq_model.specs.Edges.{is_edge, is_sent, is_stored}
 use Rattle.irq_model.specs.Signal.{signals}
 use Rattle.irq_model.specs.Laws.{TakesAreCounted}
 use Rattle.irq_model.specs.Legal.{IsDue, IsLegal, IsLegalPast}
-use Rattle.irq_steps.proofs.EdgeSteps.{goes_sent, goes_stored, sent_more, stored_more}
+use Rattle.irq_model.proofs.EdgeSteps.{goes_sent, goes_stored, sent_more, stored_more}
 use Rattle.irq_laws.proofs.ImpliesFlow.{take_due}
 
 -- a mark as a number

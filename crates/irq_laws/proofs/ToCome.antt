@@ -19,7 +19,7 @@ use Rattle.irq_model.specs.Due.{entries_of_call, due_of}
 use Rattle.irq_model.specs.Next.{next_step, next_past}
 use Rattle.irq_model.specs.RunLaws.{is_disabling, is_enabling}
 use Rattle.irq_model.specs.Legal.{IsDue}
-use Rattle.irq_steps.proofs.Same.{actor_from_same}
+use Rattle.irq_model.proofs.Same.{actor_from_same}
 use Rattle.irq_laws.specs.Actors.{calls_of, entries_of, due_of_actor}
 use Rattle.irq_laws.proofs.Progress.{makes_one, same_count, same_call, due_at, standing}
 use Rattle.irq_laws.proofs.ImpliesFlow.{made_step}

@@ -10,7 +10,7 @@ use Rattle.irq_model.specs.Places.{stands, since}
 use Rattle.irq_model.specs.Kinds.{same_dev, links_dev, wakes, is_cleared_finish}
 use Rattle.irq_model.specs.Links.{linking_flags}
 use Rattle.irq_model.specs.Threads.{is_unfinished, is_some_unfinished, is_other_unfinished}
-use Rattle.irq_steps.proofs.Same.{same_both}
+use Rattle.irq_model.proofs.Same.{same_both}
 use Rattle.irq_laws.proofs.Lists.{any_ext}
 
 moved : (o s t b : Bool) → s ≡ t → (o && (not s && b)) ≡ (not t && (o && b))

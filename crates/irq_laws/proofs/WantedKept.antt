@@ -25,11 +25,11 @@ use Rattle.irq_model.specs.Due.{calls_by, entries_by, due_call}
 use Rattle.irq_model.specs.Next.{next_step, unlink_answer}
 use Rattle.irq_model.specs.Legal.{IsDue}
 use Rattle.irq_model.specs.Valid.{IsValid, requests_dev, frees_dev}
-use Rattle.irq_steps.proofs.Same.{same_self, same_self_driver, dev_from_same, driver_from_same}
+use Rattle.irq_model.proofs.Same.{same_self, same_self_driver, dev_from_same, driver_from_same}
 use Rattle.irq_laws.specs.Actors.{by_someone}
 use Rattle.irq_laws.specs.Kept.{KeepsFrees, Wanted, LinkedIsWanted, complete, complete_by, freeing}
 use Rattle.irq_laws.proofs.Lists.{both_ways}
-use Rattle.irq_steps.proofs.DueSteps.{entries_more}
+use Rattle.irq_model.proofs.DueSteps.{entries_more}
 use Rattle.irq_laws.proofs.Scripted.{Completes, completes, unrequested, place_of}
 use Rattle.irq_laws.proofs.FreesKept.{FreeStep, unlinks_it, clears_it, frees_it, free_row}
 use Rattle.irq_laws.proofs.ImpliesDriver.{ask_due, request_due, affinity_due, moment_due, call_due}

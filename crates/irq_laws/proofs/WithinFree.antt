@@ -16,7 +16,7 @@ use Rattle.irq_model.specs.Kinds.{made_by, is_by, same_actor}
 use Rattle.irq_model.specs.Due.{begins_not_there, entries_of_call}
 use Rattle.irq_model.specs.Next.{next_of_free}
 use Rattle.irq_model.specs.Legal.{IsDue, IsLegalPast}
-use Rattle.irq_steps.proofs.Same.{same_self_actor}
+use Rattle.irq_model.proofs.Same.{same_self_actor}
 use Rattle.irq_laws.specs.Actors.{due_of_actor}
 use Rattle.irq_laws.specs.Kept.{KeepsRuns, freeing, freed_on}
 use Rattle.irq_laws.proofs.Chosen.{the_same}

@@ -103,7 +103,8 @@ pub fn has_target()
         → IsSome (target def past) }
 {}
 
-/// No standstill: where no actor may add an entry, whoever isn't done waits for himself, or for one
+/// No standstill: where nobody ends a wait (no thread has a step, nor the flow's processor, nor who
+/// holds the request mutex), an actor without a step that isn't done waits for himself, or for one
 /// that does, at once or through others. The scripts of runs are as a board may have them.
 #[tactic(auto, using(crate::proofs::Standstill::no_standstill))]
 pub fn no_standstill()

@@ -1,8 +1,10 @@
 -- What is asked of a line after each step, so that nobody goes over all its actors.
-use Rattle.std.specs.Prelude.{◌≡◌, ◌≤◌, ◌↔◌, Bool, false, IsTrue, IsSome, Option, Some, None}
+use Rattle.std.specs.Prelude.{◌≡◌, ◌≤◌, ◌↔◌, Bool, false, IsTrue, IsSome, is_none, Option, Some}
+use Rattle.std.specs.Prelude.{None}
 use Rattle.std.specs.Prelude.{List, reverse}
 use Rattle.irq_base.specs.declared.numbers.CpuNo.{CpuNo}
 use Rattle.irq_base.specs.declared.numbers.DevNo.{DevNo}
+use Rattle.irq_base.specs.declared.entries.Actor.{Actor}
 use Rattle.irq_base.specs.declared.entries.Actor.TheVariants as actors
 use Rattle.irq_base.specs.declared.entries.Entry.{Entry}
 use Rattle.irq_base.specs.declared.lines.LineDef.{LineDef}
@@ -11,8 +13,9 @@ use Rattle.irq_base.specs.declared.waiting.WaitFor.{WaitFor}
 use Rattle.irq_base.specs.declared.waiting.WaitFor.TheVariants as waits
 use Rattle.irq_model.specs.Due.{holds_mutex}
 use Rattle.irq_model.specs.Kinds.{is_take}
-use Rattle.irq_model.specs.Next.{next}
+use Rattle.irq_model.specs.Next.{next, next_past}
 use Rattle.irq_model.specs.Rounds.{flow, has_flow}
+use Rattle.irq_model.specs.Waits.{IsLowestHungPast}
 use Rattle.irq_laws.specs.Blocks.{are_threads_at_work, is_freed_at_work}
 use Rattle.irq_line.specs.Seen.{LineSeen}
 
@@ -27,6 +30,19 @@ IsPresented line cpu = IsTrue (is_some_take (next line.def line.entries (actors.
 -- the processor of the flow in progress
 abbrev pub flow_of : LineSeen → Option CpuNo
 flow_of line = flow line.def (reverse line.entries)
+
+-- a processor of the flow in progress that has no entry due: its handler waits for its own flow,
+-- with interrupts off
+abbrev pub spins_at : LineDef → List Entry → Option CpuNo → Bool
+spins_at def past None = false
+spins_at def past (Some c) = is_none (next_past def past (actors.Cpu c))
+
+abbrev pub spins : LineSeen → Bool
+spins line = spins_at line.def (reverse line.entries) (flow_of line)
+
+-- the lowest actor that is hung on the line
+abbrev pub IsLowestHung : LineSeen → Option Actor → Type 0
+IsLowestHung line hung = IsLowestHungPast line.def (reverse line.entries) hung
 
 -- takes are due of this processor, and of no other
 abbrev pub IsTaker : LineSeen → Option CpuNo → Type 0

@@ -3,7 +3,7 @@ use Rattle.irq_base.specs.declared.entries.Entry.{Entry}
 use Rattle.irq_base.specs.declared.lines.LineDef.{LineDef}
 use Rattle.irq_model.specs.Legal.{IsLegal}
 use Rattle.irq_model.specs.Valid.{IsValid}
-use Rattle.irq_model.specs.ValidRuns.{HasValidRuns, NeverWaits}
+use Rattle.irq_model.specs.ValidRuns.{HasValidRuns}
 
 -- What is seen of a line: its definition, its entries, the oldest first, and how many more fit
 -- without memory.
@@ -16,7 +16,6 @@ pub record LineSeen : Type 0 where
 pub record IsSound (line : LineSeen) : Type 0 where
   pub valid : IsValid line.def
   pub runs : HasValidRuns line.def
-  pub waits : NeverWaits line.def
   -- each entry was the one that was due of its actor
   pub legal : IsLegal line.def line.entries
   pub log : length line.entries ≤ line.def.log

@@ -6,6 +6,7 @@ ghost use Rattle.irq_line.specs.Answers.{Answers};
 ghost use Rattle.irq_line.specs.Hearing.{Lacks, runs_by};
 ghost use Rattle.irq_line.specs.Memory.{WantsMemory};
 ghost use Rattle.irq_line.specs.Queries.{IsPresented, IsTaker, IsLowestThread, flow_of, blocks_of};
+ghost use Rattle.irq_line.specs.Queries.{IsLowestHung, spins};
 ghost use Rattle.irq_line.specs.Seen.{LineSeen, IsSound};
 
 use crate::answers::{StepRefused, Stepped};
@@ -83,6 +84,11 @@ pub trait IrqLine: Drop {
     fn in_flow(&self) -> Option<CpuNo>
         ensures { result ≡ flow_of (seen self.now) };
 
+    /// Whether the processor of the flow in progress has no entry due: a handler of it waits for
+    /// the end of its own flow, so it spins for ever, and takes nothing on any line.
+    fn spins(&self) -> bool
+        ensures { result ≡ spins (seen self.now) };
+
     /// The one processor that has a take due, if there is one.
     fn taker(&self) -> Option<CpuNo>
         ensures { IsTaker (seen self.now) result };
@@ -94,4 +100,9 @@ pub trait IrqLine: Drop {
     /// What drivers' calls wait for, as it stands.
     fn blocks(&self) -> Blocks
         ensures { result ≡ blocks_of (seen self.now) };
+
+    /// The lowest actor that is hung, if there is one: it waits for itself, at once or through
+    /// others. Threads come before processors before drivers. It may go over all devices.
+    fn lowest_hung(&self) -> Option<Actor>
+        ensures { IsLowestHung (seen self.now) result };
 }

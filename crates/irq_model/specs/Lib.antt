@@ -26,3 +26,4 @@ pub mod Waits
 pub mod RunLaws
 pub mod RunBounds
 pub mod ValidRuns
+pub mod Laid

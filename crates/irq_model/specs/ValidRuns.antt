@@ -67,7 +67,7 @@ may_wait calls.Sync = true
 may_wait (calls.Free dev) = true
 may_wait _ = false
 
--- no run makes such a call: then nobody hangs
+-- no run makes such a call: then nobody hangs (play_laws)
 abbrev pub NeverWaits : LineDef → Type 0
 NeverWaits def = All (λ c. may_wait c.2 ≡ false) def.runs
 

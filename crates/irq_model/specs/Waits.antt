@@ -2,7 +2,8 @@
 -- `kthread_stop` in `__free_irq`, `desc->request_mutex`: `kernel/irq/manage.c`). What stands in the
 -- way ends by an entry of the other alone, so a circle of waits is for ever.
 use Rattle.std.specs.Prelude.{◌≡◌, ◌⊎◌, ℕ, zero, suc, ◌==◌, Bool, true, false, not, ◌||◌, ◌&&◌}
-use Rattle.std.specs.Prelude.{if◌then◌else◌, Option, Some, None, is_some, List, [], ◌∷◌, reverse}
+use Rattle.std.specs.Prelude.{if◌then◌else◌, Option, Some, None, is_some, nat_lt, List, [], ◌∷◌}
+use Rattle.std.specs.Prelude.{reverse}
 use Rattle.std.specs.List.{list_any}
 use Rattle.irq_base.specs.declared.numbers.CpuNo.{CpuNo}
 use Rattle.irq_base.specs.declared.numbers.DevNo.{DevNo}
@@ -108,6 +109,27 @@ abbrev pub IsHeldUpPast : LineDef → List Entry → Actor → Type 0
 IsHeldUpPast def past a =
     (n : ℕ) × (b : Actor) × WaitsThrough def past n a b × IsHungPast def past b
 
+-- hung or held up: it never makes another step on the line
+abbrev pub IsCaughtPast : LineDef → List Entry → Actor → Type 0
+IsCaughtPast def past a = IsHungPast def past a ⊎ IsHeldUpPast def past a
+
+-- the first comes before the second in the order of actors: threads, processors, drivers, each by
+-- number
+abbrev pub is_before : Actor → Actor → Bool
+is_before (actors.Thread d) (actors.Thread e) = nat_lt d.0 e.0
+is_before (actors.Thread d) _ = true
+is_before (actors.Cpu c) (actors.Thread d) = false
+is_before (actors.Cpu c) (actors.Cpu e) = nat_lt c.0 e.0
+is_before (actors.Cpu c) (actors.Driver r) = true
+is_before (actors.Driver r) (actors.Driver q) = nat_lt r.0 q.0
+is_before (actors.Driver r) _ = false
+
+-- the lowest actor that is hung; none if none is
+abbrev pub IsLowestHungPast : LineDef → List Entry → Option Actor → Type 0
+IsLowestHungPast def past None = (a : Actor) → IsHungPast def past a → ⊥
+IsLowestHungPast def past (Some a) =
+    IsHungPast def past a × ((b : Actor) → IsHungPast def past b → is_before b a ≡ false)
+
 -- what an actor has begun, or has left to do, isn't done
 abbrev pub is_unfinished_actor : LineDef → List Entry → Actor → Bool
 is_unfinished_actor def past (actors.Driver r) = is_some (due_call def r past)
@@ -120,8 +142,16 @@ pub record IsAtRest (def : LineDef) (h : List Entry) : Type 0 where
   pub still : (a : Actor) → next def h a ≡ None
   pub done : (a : Actor) → is_unfinished_actor def (reverse h) a ≡ false
 
--- no standstill: where no actor has a step, whoever isn't done is hung or held up
+-- of those by whose entries alone what stands in the way on the line ends, none has a step: no
+-- thread, not the flow's processor, and not who frees a device
+pub record NobodyEndsWaits (def : LineDef) (past : List Entry) : Type 0 where
+  pub threads : (d : DevNo) → next_past def past (actors.Thread d) ≡ None
+  pub flow_cpu : (c : CpuNo) → flow def past ≡ Some c → next_past def past (actors.Cpu c) ≡ None
+  pub holder : (b : Actor) → mutex_holder past ≡ Some b → next_past def past b ≡ None
+
+-- no standstill: there, whoever isn't done and has no step is hung or held up. So where no actor
+-- has a step, whoever isn't done is
 abbrev pub NoStandstillPast : LineDef → List Entry → Type 0
-NoStandstillPast def past = ((a : Actor) → next_past def past a ≡ None)
-    → (a : Actor) → is_unfinished_actor def past a ≡ true
-    → IsHungPast def past a ⊎ IsHeldUpPast def past a
+NoStandstillPast def past = NobodyEndsWaits def past
+    → (a : Actor) → is_unfinished_actor def past a ≡ true → next_past def past a ≡ None
+    → IsCaughtPast def past a

@@ -1,13 +1,17 @@
 -- A system whose play has ended, and what its reports hand out.
 use Rattle.std.proofs.Common.{◌≡◌, ◌≤◌, ℕ, All, Option, Some, Result, Ok, Err, List, length, reverse, sym, ap, ◌∙◌, subst}
+use Rattle.irq_base.specs.declared.entries.Actor.{Actor}
 use Rattle.irq_base.specs.declared.entries.Entry.{Entry}
 use Rattle.irq_base.specs.declared.numbers.LineNo.{LineNo}
 use Rattle.irq_base.specs.declared.reporting.LineReport.{LineReport}
 use Rattle.irq_line.specs.declared.answers.StepRefused.{StepRefused}
 use Rattle.irq_line.specs.declared.answers.StepRefused.TheVariants as refusals
+use Rattle.board_core.specs.Hung.{stop_of}
 use Rattle.board_core.specs.Seen.{SystemSeen, board_lines}
 use Rattle.board_core.specs.Turns.{HasLength}
 use Rattle.board_core.specs.Wanted.{HasSpare, PlayWants}
+use Rattle.board_core.specs.declared.ends.PlayEnd.{PlayEnd}
+use Rattle.board_core.specs.declared.ends.PlayEnd.TheVariants as ends
 use Rattle.board_def.specs.LineOf.{line_of_row}
 use Rattle.board_def.specs.Rules.{IsBoard}
 use Rattle.board_play.specs.Kept.{AreKept}
@@ -18,34 +22,51 @@ use Rattle.board_play.proofs.Members.{find_there, past_at}
 use Rattle.board_play.proofs.Moves.{choice_is, moves_on}
 use Rattle.board_play.proofs.Rest.{done_rests}
 use Rattle.board_report.specs.Headline as report
-use Rattle.board_report.specs.Headline.{KeepsLaws, LineHeadline}
+use Rattle.board_report.specs.Headline.{EachMapped, Histories, KeepsLaws, LineHeadline}
+use Rattle.board_report.specs.Hung.{HungBoard, IsCaughtElsewhere, IsFirstHung, LineBesideHung}
 use Rattle.board_report.specs.Moving.{AreAtRest, HasNoRoom}
 use Rattle.board_report.specs.Reporting.{IsHandedRoom, KeepRoom, entries_in}
 use Rattle.board_report.proofs.FullAt.{no_room}
-use Rattle.irq_play.specs.Headline.{CutShort, FullLog, HandsOut, Headline, RefusedStep}
+use Rattle.irq_play.specs.Headline.{CutShort, FullLog, HandsOut, Headline, HungPlay, RefusedStep}
 use Rattle.irq_play.specs.Played.{HandsOutSystem, IsPlayed}
-use Rattle.irq_play.proofs.Parts.{its_part, mapped_parts, refused_parts, told_parts}
+use Rattle.irq_play.proofs.Parts.{all_parts, its_part, mapped_parts, refused_parts, told_parts}
 use Rattle.irq_play.proofs.Printable.{moves_have_rows}
 use Rattle.play_report.proofs.Answered.{with_step}
 use Rattle.play_report.proofs.Handed.{Reported}
 use Rattle.play_report.specs.Printing.{HasRow}
 
 -- each move of a play that came to its end has a row
-pub rows_done : (s : SystemSeen) → IsPlayed s (Ok tt) → All HasRow s.log
-rows_done s p = moves_have_rows s.board s.board.picks s.log p.play.0 p.play.1
+pub rows_done : (s : SystemSeen) (e : PlayEnd) → IsPlayed s (Ok e) → All HasRow s.log
+rows_done s e p = moves_have_rows s.board s.board.picks s.log p.play.0 p.play.1
 
 module _ (s : SystemSeen) (board : IsBoard s.board) where
-  -- when it was played to its end
-  at_rest : IsPlayed s (Ok tt) → AreAtRest s.board (board_lines s.lines)
-  at_rest p a at = ap (λ (ls : List BoardLine). due_move s.board ls a) p.lines ∙ done_rests s.board s.board.picks (reverse s.log) p.play a at
+  -- when nobody can move
+  at_rest : (e : PlayEnd) → IsPlayed s (Ok e) → AreAtRest s.board (board_lines s.lines)
+  at_rest e p a at = ap (λ (ls : List BoardLine). due_move s.board ls a) p.lines ∙ done_rests s.board s.board.picks (reverse s.log) p.play a at
 
-  done : IsPlayed s (Ok tt) → (reports : List LineReport) → report.Headline s.board (entries_in (board_lines s.lines)) reports → Headline s.board s.log reports
+  -- and nobody hangs
+  done : IsPlayed s (Ok ends.Settled) → (reports : List LineReport) → report.Headline s.board (entries_in (board_lines s.lines)) reports
+      → Headline s.board s.log reports
   done p reports h = record {
     play = p.play;
     handed_out = told_parts s.board board s.log p.play.0 p.play.1 (board_lines s.lines) p.lines _ h.handed_out;
     mapped = mapped_parts s.board board s.log p.play.0 p.play.1 (board_lines s.lines) p.lines (λ row es. LineHeadline (line_of_row s.board row) es) h.mapped;
     refused = refused_parts s.board board s.log p.play.0 p.play.1 (board_lines s.lines) p.lines h.refused;
   }
+
+  -- and this actor is hung
+  hung : (line : LineNo) (actor : Actor) → IsPlayed s (Ok (ends.Hung line actor)) → (reports : List LineReport)
+      → HungBoard s.board (entries_in (board_lines s.lines)) reports line actor → HungPlay s.board s.log reports line actor
+  hung line actor p reports h =
+      let parts = all_parts s.board board s.log p.play.0 p.play.1 (board_lines s.lines) p.lines in
+      record {
+        play = p.play;
+        hung = subst (λ (hs : Histories). IsFirstHung s.board hs line actor) parts h.hung;
+        handed_out = told_parts s.board board s.log p.play.0 p.play.1 (board_lines s.lines) p.lines _ h.handed_out;
+        mapped = subst (λ (hs : Histories). EachMapped s.board (λ row. LineBesideHung (line_of_row s.board row) (hs row.line)
+            (IsCaughtElsewhere s.board hs row.line))) parts h.mapped;
+        refused = refused_parts s.board board s.log p.play.0 p.play.1 (board_lines s.lines) p.lines h.refused;
+      }
 
   -- when a log was full
   no_room_full : (line : LineNo) (len : ℕ) → IsPlayed s (Err (refusals.Full line len)) → HasNoRoom s.board (board_lines s.lines) line len
@@ -94,9 +115,10 @@ module _ (s : SystemSeen) (board : IsBoard s.board) where
     refused = refused_parts s.board board s.log p.play.0 p.play.1 (board_lines s.lines) p.lines h.refused;
   }
 
-  handed : (ended : Result Unit StepRefused) → IsPlayed s ended → (reports : List LineReport) → Reported s.board (board_lines s.lines) reports
+  handed : (ended : Result PlayEnd StepRefused) → IsPlayed s ended → (reports : List LineReport) → Reported s.board (board_lines s.lines) reports
       → HandsOut s.board s.log ended reports
-  handed (Ok _) p reports told = done p reports (told.done (at_rest p))
+  handed (Ok ends.Settled) p reports told = done p reports (told.done (at_rest ends.Settled p) p.says)
+  handed (Ok (ends.Hung line actor)) p reports told = hung line actor p reports (told.hung line actor (at_rest (ends.Hung line actor) p) p.says)
   handed (Err (refusals.Full line len)) p reports told = full line len p reports (told.full line len (no_room_full line len p))
   handed (Err refusals.NoMemory) p reports told = cut p reports told.so_far
 
@@ -122,9 +144,10 @@ module _ (s : SystemSeen) (board : IsBoard s.board) where
           subst (λ (n : ℕ). 1 ≤ n) (keep k i x report at_x at (its ∙ sym same)) room
 
   -- what the reports of its lines hand out
-  pub handed_out : (may_want : Option Entry → Type 0) (ended : Result Unit StepRefused) → IsPlayed s ended → PlayWants may_want s s.board.picks ended
+  pub handed_out : (may_want : Option Entry → Type 0) (ended : Result PlayEnd StepRefused) → IsPlayed s ended
+      → PlayWants may_want s s.board.picks (stop_of ended)
       → (reports : List LineReport) → Reported s.board (board_lines s.lines) reports → KeepRoom s.lines reports
       → HandsOutSystem may_want s ended reports
   handed_out may_want ended p wants reports told keep =
       with_step (HandsOut s.board s.log) (RefusedStep may_want s.board s.log) ended reports (handed ended p reports told)
-      (λ is. step_done may_want reports keep (subst (λ (e : Result Unit StepRefused). PlayWants may_want s s.board.picks e) is wants))
+      (λ is. step_done may_want reports keep (subst (λ (e : Result PlayEnd StepRefused). PlayWants may_want s s.board.picks (stop_of e)) is wants))

@@ -10,7 +10,7 @@ use Rattle.board_play.specs.Lines.{BoardLine, Move, part, defs_of, lines_of, fin
 use Rattle.board_play.specs.Play.{IsChosen}
 use Rattle.board_play.proofs.Members.{found, past_at}
 use Rattle.board_report.specs.Headline as report
-use Rattle.board_report.specs.Headline.{EachMapped, EachRefused, LineHistory}
+use Rattle.board_report.specs.Headline.{EachMapped, EachRefused, Histories, LineHistory}
 use Rattle.board_report.specs.Reporting.{entries_in, entries_of}
 use Rattle.irq_play.specs.Headline.{history_of, histories_of}
 use Rattle.irq_play.proofs.Others.{others_have_none}
@@ -34,6 +34,10 @@ module _ (b : BoardSeen) (board : IsBoard b) (g : List Move) (left : List Actor)
   its_part line =
       ap (λ (ls : List BoardLine). entries_in ls line) are
       ∙ found_part line (find_line (lines_of b (reverse g)) line) refl
+
+  -- all of them
+  pub all_parts : ◌≡◌ {A = Histories} (λ line. entries_in lines line) (λ line. part line g)
+  all_parts = λ i line. its_part line i
 
   -- so what holds of the one holds of the other
   pub mapped_parts : (P : LineRow → List Entry → Type 0) → EachMapped b (λ row. P row (entries_in lines row.line))

@@ -9,6 +9,8 @@ use Rattle.irq_base.specs.declared.entries.Entry.{Entry}
 use Rattle.irq_base.specs.declared.numbers.LineNo.{LineNo}
 use Rattle.irq_base.specs.declared.reporting.LineReport.{LineReport}
 use Rattle.board_core.specs.Wanted.{WantsNext}
+use Rattle.board_core.specs.declared.ends.PlayEnd.{PlayEnd}
+use Rattle.board_core.specs.declared.ends.PlayEnd.TheVariants as ends
 use Rattle.board_def.specs.LineOf.{line_of_row}
 use Rattle.board_def.specs.Seen.{BoardSeen}
 use Rattle.board_def.specs.declared.rows.LineRow.{LineRow}
@@ -16,6 +18,7 @@ use Rattle.board_play.specs.Lines.{Move, lines_of, part}
 use Rattle.board_play.specs.Play.{Done, Full, IsChosen, Plays, choice}
 use Rattle.board_report.specs.Headline.{EachMapped, EachRefused, IsAmple, KeepsLaws, LineHeadline}
 use Rattle.board_report.specs.Headline.{LineHistory, told_by}
+use Rattle.board_report.specs.Hung.{IsFirstHung, LineBesideHung, IsCaughtElsewhere}
 use Rattle.board_report.specs.Reporting.{IsHandedRoom}
 use Rattle.irq_line.specs.declared.answers.StepRefused.{StepRefused}
 use Rattle.irq_line.specs.declared.answers.StepRefused.TheVariants as refusals
@@ -36,6 +39,18 @@ pub record Headline (b : BoardSeen) (g : List Move) (reports : List LineReport) 
   pub handed_out : map told_by reports ≡ histories_of b g
   pub mapped : EachMapped b (λ row. LineHeadline (line_of_row b row) (part row.line g))
   -- a refused line has no entry
+  pub refused : EachRefused b (λ row. part row.line g ≡ [])
+
+-- The board was played, with these moves, until nobody could move, and some actor is hung: this
+-- line is the first with one, and the actor its lowest.
+pub record HungPlay (b : BoardSeen) (g : List Move) (reports : List LineReport) (line : LineNo)
+    (actor : Actor) : Type 0 where
+  -- these moves, and no others, are the play of the board by the stated order with its picks
+  pub play : Plays b b.picks (reverse g) Done
+  pub hung : IsFirstHung b (λ l. part l g) line actor
+  pub handed_out : map told_by reports ≡ histories_of b g
+  pub mapped : EachMapped b (λ row. LineBesideHung (line_of_row b row) (part row.line g)
+      (IsCaughtElsewhere b (λ l. part l g) row.line))
   pub refused : EachRefused b (λ row. part row.line g ≡ [])
 
 -- the board was played until an entry was due on a line whose history has the greatest length,
@@ -61,9 +76,10 @@ pub record CutShort (b : BoardSeen) (g : List Move) (reports : List LineReport) 
   pub mapped : EachMapped b (λ row. KeepsLaws (line_of_row b row) (part row.line g))
   pub refused : EachRefused b (λ row. part row.line g ≡ [])
 
--- what the reports hand out, by how the play ended: one of these three
-abbrev pub HandsOut : BoardSeen → List Move → Result Unit StepRefused → List LineReport → Type 0
-HandsOut b g (Ok _) reports = Headline b g reports
+-- what the reports hand out, by how the play ended: one of these four
+abbrev pub HandsOut : BoardSeen → List Move → Result PlayEnd StepRefused → List LineReport → Type 0
+HandsOut b g (Ok ends.Settled) reports = Headline b g reports
+HandsOut b g (Ok (ends.Hung line actor)) reports = HungPlay b g reports line actor
 HandsOut b g (Err (refusals.Full line len)) reports = FullLog b g reports line len
 HandsOut b g (Err refusals.NoMemory) reports = CutShort b g reports
 

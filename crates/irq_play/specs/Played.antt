@@ -6,9 +6,11 @@ use Rattle.irq_base.specs.declared.reporting.LineReport.{LineReport}
 use Rattle.irq_line.specs.declared.answers.StepRefused.{StepRefused}
 use Rattle.board_def.specs.Layout.{layout_of}
 use Rattle.board_def.specs.Seen.{BoardSeen}
+use Rattle.board_core.specs.Hung.{SaysEnd, stop_of}
 use Rattle.board_core.specs.Playing.{IsFresh, IsPlay}
 use Rattle.board_core.specs.Runs.{runs_of}
 use Rattle.board_core.specs.Seen.{SystemSeen, board_lines}
+use Rattle.board_core.specs.declared.ends.PlayEnd.{PlayEnd}
 use Rattle.board_play.specs.Lines.{Move, lines_of}
 use Rattle.board_report.specs.Reporting.{HasRoom}
 use Rattle.board_report.specs.declared.reporting.ReportRoom.{ReportRoom}
@@ -24,14 +26,14 @@ runs_of_moves b moves = runs_of b (reverse moves)
 -- What the play answers and prints, by how it ended, and for which runs handlers were called;
 -- `heard` says of runs that it is these. Nothing is printed unless the play came to its end.
 abbrev pub PlaysBoard : BoardSeen → Bool → (List Run → Type 0) → List LineReport → Option (List ℕ)
-    → Option (List ℕ) → Result Unit PlayFailed → Type 0
+    → Option (List ℕ) → Result PlayEnd PlayFailed → Type 0
 PlaysBoard b summary heard =
     AnswersOfSome (report_text b summary) (HandsOut b) (runs_of_moves b) heard
 
 -- If a step was refused memory, it is told which step it was; `may_want` says for which entry that
 -- is due a line may want memory though there is room.
 abbrev pub TellsStep : (Option Entry → Type 0) → BoardSeen → List LineReport
-    → Result Unit PlayFailed → Type 0
+    → Result PlayEnd PlayFailed → Type 0
 TellsStep may_want b = TellsOfSome (CutShort b) (RefusedStep may_want b)
 
 -- the board's lines, to which nothing has happened, and room for a report for each line
@@ -44,17 +46,18 @@ pub record IsReady (b : BoardSeen) (s : SystemSeen) (for_reports : ReportRoom) :
 -- what is seen of a play that has ended
 pub record StatedPlaySeen : Type 0 where
   pub system : SystemSeen
-  pub end : Result Unit StepRefused
+  pub end : Result PlayEnd StepRefused
 
 -- A system in which its board was played, and how the play ended. If memory was refused, the system
 -- is as the play so far left it, and a next move is due.
-pub record IsPlayed (s : SystemSeen) (end : Result Unit StepRefused) : Type 0 where
+pub record IsPlayed (s : SystemSeen) (end : Result PlayEnd StepRefused) : Type 0 where
   pub layout : s.layout ≡ layout_of s.board
   pub lines : board_lines s.lines ≡ lines_of s.board (reverse s.log)
-  pub play : IsPlay s s.board.picks end
+  pub play : IsPlay s s.board.picks (stop_of end)
+  pub says : SaysEnd (board_lines s.lines) end
 
 -- what the reports hand out of the system, and of a step that was refused memory which it was
-abbrev pub HandsOutSystem : (Option Entry → Type 0) → SystemSeen → Result Unit StepRefused
+abbrev pub HandsOutSystem : (Option Entry → Type 0) → SystemSeen → Result PlayEnd StepRefused
     → List LineReport → Type 0
 HandsOutSystem may_want s =
     HandsOutStep (HandsOut s.board s.log) (RefusedStep may_want s.board s.log)

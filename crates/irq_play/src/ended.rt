@@ -4,7 +4,7 @@ ghost use Rattle.board_report.specs.Reporting.{HasRoom};
 ghost use Rattle.board_report.specs.Summable.{IsSummable};
 ghost use Rattle.irq_play.specs.Played.{HandsOutSystem};
 
-use board_core::System;
+use board_core::{PlayEnd, System};
 use board_def::{Board, Layout};
 use board_report::{ReportRoom, hand_out};
 use irq_base::Reports;
@@ -17,10 +17,11 @@ use std::marker::Model;
 #[derive(Drop)]
 pub struct StatedPlay<'b, L: IrqLine> {
     pub(crate) system: System<'b, L>,
-    pub(crate) end: Result<(), StepRefused>,
+    pub(crate) end: Result<PlayEnd, StepRefused>,
 }
 
 impl<'b, L: IrqLine> Model for StatedPlay<'b, L> {
+    ghost use Rattle.board_core.specs.Hung.{stop_of};
     ghost use Rattle.board_core.specs.Wanted.{PlayWants};
     ghost use Rattle.irq_play.specs.Played.{IsPlayed, StatedPlaySeen};
 
@@ -29,7 +30,7 @@ impl<'b, L: IrqLine> Model for StatedPlay<'b, L> {
     ghost view = { λ p. record { system = p.system; end = p.end } };
 
     ghost invariant = { λ p. IsPlayed p.system p.end
-        × PlayWants L.may_want p.system p.system.board.picks p.end };
+        × PlayWants L.may_want p.system p.system.board.picks (stop_of p.end) };
 }
 
 impl<'b, L: IrqLine> StatedPlay<'b, L> {
@@ -59,7 +60,7 @@ impl<'b, L: IrqLine> EndedPlay for StatedPlay<'b, L> {
 
     ghost hands_out = { λ p. HandsOutSystem L.may_want p.system };
 
-    fn end(&self) -> Result<(), StepRefused> {
+    fn end(&self) -> Result<PlayEnd, StepRefused> {
         self.end
     }
 

@@ -66,7 +66,8 @@ pub fn play_system<'b, M: MakesDomainLine, H: Handler>(
     ensures unheard { OnErr result (Heard H.hears [] handlers.old handlers.new) }
 {
     let (mut system, room) = ready_system(alloc, board, maker)?;
-    let end = system.play(board.picks(), handlers);
+    let stop = system.play(board.picks(), handlers);
+    let end = system.end_after(stop);
     Ok((StatedPlay { system, end }, room))
 }
 

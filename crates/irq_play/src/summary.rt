@@ -12,6 +12,7 @@ ghost use Rattle.play_report.specs.Answers.{Answers, Prints};
 ghost use Rattle.play_report.specs.Failing.{is_printing, is_write_fault};
 
 use crate::ended::StatedPlay;
+use board_core::PlayEnd;
 use board_def::Board;
 use board_report::{ReportRoom, hand_on, print_layout, print_totals};
 use irq_base::Reports;
@@ -40,7 +41,7 @@ pub(crate) fn report_summary<O: Sink, L: IrqLine>(
     let laid = print_laid(board, &play, &mut row, out);
     let reports = play.take_reports(board, room);
     let end = match laid {
-        Ok(()) => print_sums(&mut row, &reports, out),
+        Ok(end) => print_sums(&mut row, &reports, end, out),
         Err(failed) => Err(failed),
     };
     PlayedBoard { end, reports }
@@ -52,23 +53,29 @@ fn print_laid<O: Sink, L: IrqLine>(
     play: &StatedPlay<'_, L>,
     row: &mut TextRow,
     out: &mut O,
-) -> Result<(), PlayFailed>
+) -> Result<PlayEnd, PlayFailed>
     requires { play.now.system.board ≡ board.now }
     ensures prints { Prints (layout_rows board.now) play.now.end (O.written out.old)
         (O.written out.new) result }
     ensures write_fault { Counts (O.faults out.old) (O.faults out.new) (is_write_fault result) }
     ensures silent { is_printing result ≡ false → out.new ≡ out.old }
 {
-    play.end()?;
+    let end = play.end()?;
     print_layout(out, row, board, play.layout())?;
-    Ok(())
+    Ok(end)
 }
 
-/// Prints the summary rows and the total after the layout, and has all of it handed on.
-fn print_sums<O: Sink>(row: &mut TextRow, reports: &Reports, out: &mut O) -> Result<(), PlayFailed>
+/// Prints the summary rows and the total after the layout, and has all of it handed on; `end` is
+/// how the play ended.
+fn print_sums<O: Sink>(
+    row: &mut TextRow,
+    reports: &Reports,
+    end: PlayEnd,
+    out: &mut O,
+) -> Result<PlayEnd, PlayFailed>
     requires few { length reports.now.reports ≤ 64 }
     requires summable { All IsSummable reports.now.reports }
-    ensures prints { Prints (totals_text (map told_by reports.now.reports)) (Ok tt)
+    ensures prints { Prints (totals_text (map told_by reports.now.reports)) (Ok end)
         (O.written out.old) (O.written out.new) result }
     ensures emptied { OnOk result (O.kept out.new ≡ []) }
     ensures write_fault { Counts (O.faults out.old) (O.faults out.new) (is_write_fault result) }
@@ -76,5 +83,5 @@ fn print_sums<O: Sink>(row: &mut TextRow, reports: &Reports, out: &mut O) -> Res
 {
     print_totals(out, row, reports)?;
     hand_on(out)?;
-    Ok(())
+    Ok(end)
 }

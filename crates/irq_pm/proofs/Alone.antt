@@ -7,8 +7,8 @@ use Rattle.irq_base.specs.declared.entries.Entry.{Entry}
 use Rattle.irq_model.specs.Kinds.{is_any_ask, is_by_driver, is_driver}
 use Rattle.irq_laws.proofs.Lists.{both_ways}
 use Rattle.board_driver.specs.Longer.{last_driver}
-use Rattle.sleep_laws.proofs.Waits.{not_own}
-use Rattle.sleep_laws.specs.Sleeping.{is_disable_by, is_enable_by, is_other_driver, is_other_call, since_disable, is_suspended, others_only_ask}
+use Rattle.irq_pm.proofs.Waits.{not_own}
+use Rattle.irq_pm.specs.Sleeping.{is_disable_by, is_enable_by, is_other_driver, is_other_call, since_disable, is_suspended, others_only_ask}
 
 -- while the line is suspended the other drivers have only asked
 abbrev pub IsAlone : List Entry → Type 0

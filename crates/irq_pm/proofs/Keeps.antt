@@ -16,7 +16,7 @@ use Rattle.irq_base.specs.declared.numbers.LineNo.{LineNo}
 use Rattle.irq_model.specs.Due.{due_call}
 use Rattle.irq_model.specs.Kinds.{same_line, same_driver, is_any_ask, is_by_driver, is_driver}
 use Rattle.irq_model.specs.Next.{ask_makes_edge, next_of_driver, next_past}
-use Rattle.irq_steps.proofs.Same.{line_from_same}
+use Rattle.irq_model.proofs.Same.{line_from_same}
 use Rattle.irq_laws.proofs.Chosen.{the_same}
 use Rattle.irq_laws.proofs.OwnLaws.{due_is_own_past}
 use Rattle.irq_laws.proofs.Progress.{same_call}
@@ -34,8 +34,8 @@ use Rattle.board_play.proofs.KeptAlways.{apart_kept, move_keeps}
 use Rattle.board_play.proofs.Moves.{MovesOn, moves_on}
 use Rattle.board_play.proofs.Moving.{moved_at}
 use Rattle.board_play.proofs.Parts.{the_line}
-use Rattle.sleep_laws.proofs.Waits.{own_due}
-use Rattle.sleep_laws.specs.Sleeping.{is_other_driver, is_suspended}
+use Rattle.irq_pm.proofs.Waits.{own_due}
+use Rattle.irq_pm.specs.Sleeping.{is_other_driver, is_suspended}
 use Rattle.irq_pm.specs.Phases.{Phase, Picking, Disabling, Asleep, Enabling, Going, is_ask_call, is_ask_due}
 use Rattle.irq_pm.specs.Phases.{is_disable_due, due_of, disabling, sleeping, going, last_move, inner_move, ask_move}
 use Rattle.irq_pm.specs.Phases.{or_next, picked, step_in, sleep_next}

@@ -9,3 +9,11 @@ pub mod Keeps
 pub mod Through
 pub mod Fits
 pub mod Marked
+pub mod CalmLines
+pub mod Waits
+pub mod Held
+pub mod SleepLaws
+pub mod ResumeLaws
+pub mod LeftAlone
+pub mod Falls
+pub mod SleepRows

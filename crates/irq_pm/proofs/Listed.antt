@@ -15,7 +15,7 @@ use Rattle.irq_model.specs.Legal.{IsLegalPast}
 use Rattle.irq_model.specs.Lines.{has_device, is_device}
 use Rattle.irq_model.specs.Next.{next_of_thread, next_past}
 use Rattle.irq_model.specs.Valid.{IsValid}
-use Rattle.irq_steps.proofs.Same.{dev_from_same}
+use Rattle.irq_model.proofs.Same.{dev_from_same}
 use Rattle.irq_laws.proofs.Chosen.{chosen}
 use Rattle.play_laws.specs.Actors.{threads_of as threads_of_line, cpus_of as cpus_of_line, drivers_of as drivers_of_line, actors_of as actors_of_line, IsOneOf}
 use Rattle.play_laws.proofs.Listed.{in_first, in_second, mover_listed}

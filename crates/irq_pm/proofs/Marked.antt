@@ -9,7 +9,7 @@ use Rattle.board_play.specs.Kept.{AreKept}
 use Rattle.board_play.specs.Lines.{BoardLine, Move, lines_of}
 use Rattle.board_play.specs.Order.{actors_of}
 use Rattle.board_play.specs.Play.{Done, first_move, or_move}
-use Rattle.play_orders.specs.Orders.{IsMade}
+use Rattle.board_play.specs.Orders.{IsMade}
 use Rattle.irq_pm.specs.Marked.{AreMoves, HasWoken, SleptOnce}
 use Rattle.irq_pm.specs.Phases.{Phase, Picking, Disabling, Asleep, Enabling, Going, ask_move, disabling, due_of, going, inner_move}
 use Rattle.irq_pm.specs.Phases.{is_disable_due, last_move, picked, sleep_next, sleep_order, sleeping, step_in}

@@ -9,7 +9,7 @@ use Rattle.irq_base.specs.declared.numbers.DriverNo.{DriverNo}
 use Rattle.irq_base.specs.declared.numbers.LineNo.{LineNo}
 use Rattle.irq_model.specs.Due.{calls_by}
 use Rattle.irq_model.specs.Kinds.{same_line, same_driver}
-use Rattle.irq_steps.proofs.Same.{same_self_line, driver_from_same}
+use Rattle.irq_model.proofs.Same.{same_self_line, driver_from_same}
 use Rattle.irq_laws.proofs.Chosen.{the_same}
 use Rattle.irq_laws.proofs.Lists.{both_ways}
 use Rattle.board_def.specs.LineOf.{line_of_row, with_driver}
@@ -23,7 +23,7 @@ use Rattle.board_play.specs.Current.{calls_on}
 use Rattle.board_play.specs.Lines.{defs_of}
 use Rattle.board_play.proofs.Members.{AreApart}
 use Rattle.board_play.proofs.OfBoard.{apart_defs, has_calls}
-use Rattle.sleep_laws.proofs.LeftAlone.{script}
+use Rattle.irq_pm.proofs.LeftAlone.{script}
 use Rattle.irq_pm.specs.SleptBoard.{live_rows, disable_of, enable_of, slept}
 
 -- the driver's calls on the line

@@ -15,7 +15,7 @@ use Rattle.irq_model.specs.Legal.{IsLegalPast}
 use Rattle.irq_model.specs.Links.{depth}
 use Rattle.irq_model.specs.Places.{EachEntry}
 use Rattle.irq_model.specs.Valid.{IsValid}
-use Rattle.irq_steps.proofs.Same.{driver_from_same}
+use Rattle.irq_model.proofs.Same.{driver_from_same}
 use Rattle.irq_laws.proofs.Lists.{both_ways}
 use Rattle.play_laws.specs.Actors.{IsOneOf}
 use Rattle.board_def.specs.Rules.{IsBoard, IsActorOf, has_driver}
@@ -32,13 +32,13 @@ use Rattle.board_play.proofs.Members.{line_there, past_at}
 use Rattle.board_play.proofs.Moving.{lines_more}
 use Rattle.board_play.proofs.OfBoard.{valid_defs}
 use Rattle.board_core.proofs.Movers.{none_listed}
-use Rattle.play_orders.proofs.OnePlay.{one_play}
-use Rattle.play_orders.specs.Orders.{IsMade, moves_in, onto}
-use Rattle.sleep_laws.proofs.LeftAlone.{left_alone}
-use Rattle.sleep_laws.proofs.SleepLaws.{rests, still_at}
-use Rattle.sleep_laws.proofs.ResumeLaws.{resumes_as_it_was}
-use Rattle.sleep_laws.specs.Sleeping.{is_synced_by, is_suspended, is_asleep, is_left_alone, since_disable, others_only_ask}
-use Rattle.sleep_laws.specs.Slept.{begins_run, IsReopening}
+use Rattle.board_play.proofs.OneOrderedPlay.{one_play}
+use Rattle.board_play.specs.Orders.{IsMade, moves_in, onto}
+use Rattle.irq_pm.proofs.LeftAlone.{left_alone}
+use Rattle.irq_pm.proofs.SleepLaws.{rests, still_at}
+use Rattle.irq_pm.proofs.ResumeLaws.{resumes_as_it_was}
+use Rattle.irq_pm.specs.Sleeping.{is_synced_by, is_suspended, is_asleep, is_left_alone, since_disable, others_only_ask}
+use Rattle.irq_pm.specs.SleptLines.{begins_run, IsReopening}
 use Rattle.irq_pm.specs.Phases.{Phase, Picking, Disabling, Asleep, Enabling, Going, disabling, sleeping, going, due_of}
 use Rattle.irq_pm.specs.Phases.{inner_move, is_disable_due, last_move, ask_move, picked, step_in, sleep_next}
 use Rattle.irq_pm.specs.Phases.{sleep_order}

@@ -13,7 +13,7 @@ use Rattle.irq_base.specs.declared.numbers.LineNo.{LineNo}
 use Rattle.irq_model.specs.Due.{calls_by, entries_by, due_of as due_among, due_call}
 use Rattle.irq_model.specs.Kinds.{same_line, same_driver}
 use Rattle.irq_model.specs.Next.{next_of_driver, next_past}
-use Rattle.irq_steps.proofs.Same.{same_self_line}
+use Rattle.irq_model.proofs.Same.{same_self_line}
 use Rattle.irq_laws.proofs.Lists.{both_ways}
 use Rattle.irq_laws.proofs.Progress.{due_at}
 use Rattle.board_def.specs.Rules.{IsBoard, has_driver}
@@ -32,11 +32,11 @@ use Rattle.board_play.proofs.Members.{find_there}
 use Rattle.board_play.proofs.Moves.{line_stands}
 use Rattle.board_play.proofs.OfBoard.{calls_fit}
 use Rattle.board_play.proofs.Script.{is_on, in_all, done, current, no_current}
-use Rattle.sleep_laws.proofs.LeftAlone.{script, Position, at_none, at_disable, at_clear, at_synced, at_enable, position}
-use Rattle.sleep_laws.specs.Sleeping.{is_suspended}
+use Rattle.irq_pm.proofs.LeftAlone.{script, Position, at_none, at_disable, at_clear, at_synced, at_enable, position}
+use Rattle.irq_pm.specs.Sleeping.{is_suspended}
 use Rattle.irq_pm.specs.Phases.{due_of, is_disable_call, is_disable_due, last_move}
 use Rattle.irq_pm.specs.SleptBoard.{are_runs_calm, slept}
-use Rattle.irq_pm.proofs.Calm.{calm_def}
+use Rattle.irq_pm.proofs.Calm.{calm_boards_settle, calm_def}
 use Rattle.irq_pm.proofs.Rests.{disable_moves}
 use Rattle.irq_pm.proofs.Script.{disables, enables, all_calls, its_script, disabled_once}
 
@@ -197,7 +197,7 @@ module _ (b : BoardSeen) (is : IsBoard b) (long : IsBoard (slept b)) (free : has
           let s = line_stands (slept b) lines (actors.Driver last_driver) x here in
           let its : due_call x.def last_driver x.past ≡ Some (calls.Disable, c.1) = due ∙ ap (λ (k : Call). due_at k c.1) (is_disable c.0 disabling) in
           not_none (next_past x.def x.past (actors.Driver last_driver)) x.def.line
-          (disable_moves (slept b) long lines k threads cpus s.place x s.at
+          (disable_moves (slept b) long lines k (calm_boards_settle b long calm lines k) threads cpus s.place x s.at
           (calm_def b calm s.place x.def (def_at (slept b) lines k s.place x s.at)) last_driver c.1 its)
           (ap (λ (o : Option BoardLine). due_on o (actors.Driver last_driver)) (sym here) ∙ none)
 

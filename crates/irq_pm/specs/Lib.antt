@@ -4,3 +4,5 @@ pub mod Waking
 pub mod Phases
 pub mod Slept
 pub mod Marked
+pub mod Sleeping
+pub mod SleptLines

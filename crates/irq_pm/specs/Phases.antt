@@ -19,7 +19,7 @@ use Rattle.board_play.specs.Current.{current_line}
 use Rattle.board_play.specs.Lines.{BoardLine, Move, lines_of}
 use Rattle.board_play.specs.Order.{due_move, threads_of, cpus_of, actors_of}
 use Rattle.board_play.specs.Play.{first_move, or_move}
-use Rattle.play_orders.specs.Orders.{Order}
+use Rattle.board_play.specs.Orders.{Order}
 use Rattle.irq_pm.specs.SleepLog.{told, moves_of}
 use Rattle.irq_pm.specs.Waking.{woken_by}
 use Rattle.irq_pm.specs.declared.entries.SleepEntry.{SleepEntry}

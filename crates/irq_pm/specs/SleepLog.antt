@@ -2,7 +2,7 @@
 -- comes first.
 use Rattle.std.specs.Prelude.{Option, Some, None, List, [], ◌∷◌}
 use Rattle.board_play.specs.Lines.{Move}
-use Rattle.play_orders.specs.Orders.{onto}
+use Rattle.board_play.specs.Orders.{onto}
 use Rattle.irq_pm.specs.declared.entries.SleepEntry.{SleepEntry}
 use Rattle.irq_pm.specs.declared.entries.SleepEntry.TheVariants as sleeps
 

@@ -10,10 +10,10 @@ use Rattle.irq_model.specs.Places.{EachEntry}
 use Rattle.board_def.specs.Seen.{BoardSeen}
 use Rattle.board_driver.specs.Longer.{last_driver}
 use Rattle.board_play.specs.Play.{End}
-use Rattle.play_orders.specs.Orders.{IsPlayed}
-use Rattle.sleep_laws.specs.Sleeping.{is_enable_by, since_disable, before_disable, is_suspended}
-use Rattle.sleep_laws.specs.Sleeping.{is_asleep, is_left_alone}
-use Rattle.sleep_laws.specs.Slept.{begins_run}
+use Rattle.board_play.specs.Orders.{IsPlayed}
+use Rattle.irq_pm.specs.Sleeping.{is_enable_by, since_disable, before_disable, is_suspended}
+use Rattle.irq_pm.specs.Sleeping.{is_asleep, is_left_alone}
+use Rattle.irq_pm.specs.SleptLines.{begins_run}
 use Rattle.irq_pm.specs.Phases.{Picking, sleep_order}
 use Rattle.irq_pm.specs.SleepLog.{moves_of}
 use Rattle.irq_pm.specs.Waking.{woken_by}

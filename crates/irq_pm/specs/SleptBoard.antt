@@ -13,7 +13,7 @@ use Rattle.board_def.specs.Seen.{BoardSeen}
 use Rattle.board_def.specs.declared.rows.LineRow.{LineRow}
 use Rattle.domain_rules.specs.Layout.{is_mapped}
 use Rattle.domain_rules.specs.declared.layouts.Placement.{Placement}
-use Rattle.sleep_laws.specs.Sleeping.{moves_or_waits}
+use Rattle.irq_pm.specs.Sleeping.{moves_or_waits}
 use Rattle.board_driver.specs.Longer.{last_driver, with_last_driver}
 use Rattle.board_driver.specs.declared.adding.LineCall.{LineCall}
 use Rattle.board_play.specs.Lines.{mapped}

@@ -6,7 +6,7 @@ use Rattle.irq_base.specs.declared.numbers.LineNo.{LineNo}
 use Rattle.irq_model.specs.Kinds.{same_line, is_off}
 use Rattle.board_driver.specs.Longer.{last_driver}
 use Rattle.board_play.specs.Lines.{Move, part}
-use Rattle.sleep_laws.specs.Sleeping.{is_disable_by}
+use Rattle.irq_pm.specs.Sleeping.{is_disable_by}
 
 abbrev pub is_among : LineNo → List LineNo → Bool
 is_among line lines = list_any (same_line line) lines

@@ -5,7 +5,7 @@ ghost use Rattle.irq_pm.specs.SleptBoard.{are_runs_calm, can_all_wake, can_wake}
 ghost use Rattle.irq_pm.specs.SleptBoard.{has_room_for_sleep};
 ghost use Rattle.irq_pm.specs.SleptBoard.{is_for_sleep, is_mapped_at, live_rows, sleep_script};
 ghost use Rattle.irq_pm.specs.SleptBoard.{slept, wakes_row};
-ghost use Rattle.sleep_laws.specs.Sleeping.{moves_or_waits};
+ghost use Rattle.irq_pm.specs.Sleeping.{moves_or_waits};
 
 use board_def::{Board, Layout, LineRow, Placement};
 use board_driver::{LineCall, with_last_driver};

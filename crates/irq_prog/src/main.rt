@@ -5,7 +5,7 @@
 
 use board_lines::MakesChainLine;
 use callbacks::ByKind;
-use irq_command::run;
+use irq_top::run;
 use notifiers::ByProcessor;
 use std::env;
 use std::process::ExitCode;

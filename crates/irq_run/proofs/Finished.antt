@@ -5,8 +5,11 @@ use Rattle.irq_base.specs.declared.numbers.LineNo.{LineNo}
 use Rattle.irq_base.specs.declared.reporting.LineReport.{LineReport}
 use Rattle.irq_line.specs.declared.answers.StepRefused.{StepRefused}
 use Rattle.irq_line.specs.declared.answers.StepRefused.TheVariants as refusals
+use Rattle.board_core.specs.Hung.{SaysEnd, stop_of}
 use Rattle.board_core.specs.Seen.{SystemSeen, board_lines}
 use Rattle.board_core.specs.Turns.{lowest_move}
+use Rattle.board_core.specs.declared.ends.PlayEnd.{PlayEnd}
+use Rattle.board_core.specs.declared.ends.PlayEnd.TheVariants as ends
 use Rattle.board_core.specs.Wanted.{HasSpare, LowestWantsByLine, SettleWants}
 use Rattle.board_def.specs.Rules.{IsBoard}
 use Rattle.board_def.specs.Seen.{BoardSeen}
@@ -45,6 +48,9 @@ module _ (b : BoardSeen) (isb : IsBoard b) (s : SystemSeen) (of_board : s.board 
   next_is = ap (λ (c : BoardSeen). first_move c (board_lines s.lines) (actors_of c)) of_board
       ∙ ap (λ (ls : List BoardLine). first_move b ls (actors_of b)) (sym are_same)
 
+  still : IsRun b s (Ok tt) → next_move b its ≡ None
+  still p = sym next_is ∙ p.ends
+
   -- when it is done, nothing moves
   rests : IsRun b s (Ok tt) → AreAtRest b (board_lines s.lines)
   rests p = at_rest b (board_lines s.lines) (subst (λ (c : BoardSeen). first_move c (board_lines s.lines) (actors_of c) ≡ None) of_board p.ends)
@@ -56,20 +62,21 @@ module _ (b : BoardSeen) (isb : IsBoard b) (s : SystemSeen) (of_board : s.board 
       (p.ends.log ∙ ap (λ (c : BoardSeen). c.log) of_board)
       (subst (λ (c : BoardSeen). first_move c (board_lines s.lines) (actors_of c) ≡ Some p.ends.move) of_board p.ends.is)
 
-  handed : (end : Result Unit StepRefused) → IsRun b s end → (reports : List LineReport) → Reported b (board_lines s.lines) reports
-      → HandsOut b its end reports
-  handed (Ok _) p reports told = told.done (rests p)
-  handed (Err (refusals.Full line len)) p reports told = record { full = told.full line len (no_room_full line len p); kept = kept_with }
-  handed (Err refusals.NoMemory) p reports told = record {
+  handed : (end : Result PlayEnd StepRefused) → IsRun b s (stop_of end) → SaysEnd (board_lines s.lines) end → (reports : List LineReport)
+      → Reported b (board_lines s.lines) reports → HandsOut b its end reports
+  handed (Ok ends.Settled) p says reports told = told.done (rests p) says
+  handed (Ok (ends.Hung line actor)) p says reports told = record { hung = told.hung line actor (rests p) says; kept = kept_with; still = still p }
+  handed (Err (refusals.Full line len)) p says reports told = record { full = told.full line len (no_room_full line len p); kept = kept_with }
+  handed (Err refusals.NoMemory) p says reports told = record {
     so_far = told.so_far;
     kept = kept_with;
     further = subst (λ (o : Option Move). IsSome o) next_is p.ends;
   }
 
   -- which step was refused, by the room that is handed out
-  step_done : (may_want : Option Entry → Type 0) (end : Result Unit StepRefused) → IsRun b s end → (reports : List LineReport) → KeepRoom s.lines reports
+  step_done : (may_want : Option Entry → Type 0) (reports : List LineReport) → KeepRoom s.lines reports
       → LowestWantsByLine may_want s → RefusedStep may_want b its reports
-  step_done may_want end p reports keep w = record {
+  step_done may_want reports keep w = record {
     actor = w.actor;
     next = sym next_is ∙ (w.lowest ∙ (ap (λ (c : BoardSeen). due_move c (board_lines s.lines) w.actor) of_board
         ∙ ap (λ (ls : List BoardLine). due_move b ls w.actor) (sym are_same)));
@@ -86,9 +93,12 @@ module _ (b : BoardSeen) (isb : IsBoard b) (s : SystemSeen) (of_board : s.board 
           subst (λ (n : ℕ). 1 ≤ n) (keep k i x report at_x at (number_is ∙ sym same)) room
 
   -- what the reports of its lines hand out
-  pub handed_out : (may_want : Option Entry → Type 0) (end : Result Unit StepRefused) → IsRun b s end → SettleWants may_want s end
+  pub handed_out : (may_want : Option Entry → Type 0) (stop : Result Unit StepRefused) (end : Result PlayEnd StepRefused) → stop_of end ≡ stop
+      → IsRun b s stop → SaysEnd (board_lines s.lines) end → SettleWants may_want s stop
       → (reports : List LineReport) → Reported b (board_lines s.lines) reports → KeepRoom s.lines reports
       → HandsOutStep (HandsOut b its) (RefusedStep may_want b its) end reports
-  handed_out may_want end p wants reports told keep =
-      with_step (HandsOut b its) (RefusedStep may_want b its) end reports (handed end p reports told)
-      (λ is. step_done may_want end p reports keep (subst (λ (e : Result Unit StepRefused). SettleWants may_want s e) is wants))
+  handed_out may_want stop end so p says wants reports told keep =
+      with_step (HandsOut b its) (RefusedStep may_want b its) end reports
+      (handed end (subst (λ (x : Result Unit StepRefused). IsRun b s x) (sym so) p) says reports told)
+      (λ is. step_done may_want reports keep
+      (subst (λ (x : Result Unit StepRefused). SettleWants may_want s x) (sym so ∙ ap (λ (e : Result PlayEnd StepRefused). stop_of e) is) wants))

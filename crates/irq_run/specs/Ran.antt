@@ -1,5 +1,5 @@
 -- What a board's run answers, and what is printed of it.
-use Rattle.std.specs.Prelude.{◌≡◌, ℕ, Bool, IsSome, Option, Result, Ok, Err, List, []}
+use Rattle.std.specs.Prelude.{◌≡◌, ℕ, Bool, IsSome, Option, None, Result, Ok, Err, List, []}
 use Rattle.irq_base.specs.declared.devices.Answer.{Answer}
 use Rattle.irq_base.specs.declared.devices.Run.{Run}
 use Rattle.irq_base.specs.declared.entries.Actor.{Actor}
@@ -17,7 +17,10 @@ use Rattle.board_play.specs.Kept.{AreKept}
 use Rattle.board_play.specs.Lines.{Move}
 use Rattle.board_play.specs.Order.{actors_of, due_move, line_for}
 use Rattle.board_play.specs.Play.{first_move}
+use Rattle.board_core.specs.declared.ends.PlayEnd.{PlayEnd}
+use Rattle.board_core.specs.declared.ends.PlayEnd.TheVariants as ends
 use Rattle.board_report.specs.Headline.{FullLog, Headline, Histories, SoFar, histories_of}
+use Rattle.board_report.specs.Hung.{HungBoard}
 use Rattle.board_report.specs.Reporting.{IsHandedRoom}
 use Rattle.play_report.specs.Answers.{Answers, HandsOutStep}
 use Rattle.play_report.specs.declared.failing.PlayFailed.{PlayFailed}
@@ -25,16 +28,25 @@ use Rattle.play_report.specs.declared.failing.PlayFailed.TheVariants as fails
 use Rattle.irq_run.specs.Given.{EachGiven, lines_with}
 use Rattle.irq_run.specs.Report.{run_text}
 
+-- the move of the lowest actor that can move after these histories
+abbrev pub next_move : BoardSeen → Histories → Option Move
+next_move b entries = first_move b (lines_with b entries) (actors_of b)
+
+-- the run ended when nobody could move, and some actor is hung, and the reports hand out the run
+pub record IsRunHung (b : BoardSeen) (entries : Histories) (reports : List LineReport)
+    (line : LineNo) (actor : Actor) : Type 0 where
+  pub hung : HungBoard b entries reports line actor
+  -- the drivers' calls were made in the order of their scripts
+  pub kept : AreKept b (lines_with b entries)
+  -- no actor can move
+  pub still : next_move b entries ≡ None
+
 -- the run ended when this line's history had the greatest length, and the reports hand out the run
 pub record IsRunFull (b : BoardSeen) (entries : Histories) (reports : List LineReport)
     (line : LineNo) (len : ℕ) : Type 0 where
   pub full : FullLog b entries reports line len
   -- the drivers' calls were made in the order of their scripts
   pub kept : AreKept b (lines_with b entries)
-
--- the move of the lowest actor that can move after these histories
-abbrev pub next_move : BoardSeen → Histories → Option Move
-next_move b entries = first_move b (lines_with b entries) (actors_of b)
 
 -- the run ended when a step was refused memory, and the reports hand out the run up to it
 pub record IsRunCut (b : BoardSeen) (entries : Histories) (reports : List LineReport)
@@ -46,8 +58,9 @@ pub record IsRunCut (b : BoardSeen) (entries : Histories) (reports : List LineRe
   pub further : IsSome (next_move b entries)
 
 -- what the reports hand out of a run with these histories, by how it ended
-abbrev pub HandsOut : BoardSeen → Histories → Result Unit StepRefused → List LineReport → Type 0
-HandsOut b entries (Ok _) reports = Headline b entries reports
+abbrev pub HandsOut : BoardSeen → Histories → Result PlayEnd StepRefused → List LineReport → Type 0
+HandsOut b entries (Ok ends.Settled) reports = Headline b entries reports
+HandsOut b entries (Ok (ends.Hung line actor)) reports = IsRunHung b entries reports line actor
 HandsOut b entries (Err (refusals.Full line len)) reports = IsRunFull b entries reports line len
 HandsOut b entries (Err refusals.NoMemory) reports = IsRunCut b entries reports
 
@@ -73,7 +86,7 @@ pub record HasRun (gave : Run → Answer → Type 0) (b : BoardSeen) (Reports : 
 -- to
 -- its end. If memory was refused for anything but a step, nothing is handed out.
 abbrev pub RunsBoard : (gave : Run → Answer → Type 0) → BoardSeen → Bool → List LineReport
-    → Option (List ℕ) → Option (List ℕ) → Result Unit PlayFailed → Type 0
+    → Option (List ℕ) → Option (List ℕ) → Result PlayEnd PlayFailed → Type 0
 RunsBoard gave b summary reports before now (Err fails.NoMemory) = reports ≡ []
 RunsBoard gave b summary reports before now end =
     HasRun gave b (λ entries. Answers (run_text b summary (histories_of b entries))
@@ -82,7 +95,7 @@ RunsBoard gave b summary reports before now end =
 -- If a step was refused memory, it is told which step it was; `may_want` says for which entry that
 -- is due a line may want memory though there is room.
 abbrev pub TellsStep : (Option Entry → Type 0) → BoardSeen → List LineReport
-    → Result Unit PlayFailed → Type 0
+    → Result PlayEnd PlayFailed → Type 0
 TellsStep may_want b reports (Err (fails.Step refusals.NoMemory)) = (entries : Histories)
     × IsRunCut b entries reports × RefusedStep may_want b entries reports
 TellsStep may_want b reports end = Unit {0}
@@ -98,6 +111,6 @@ pub record IsRun (b : BoardSeen) (s : SystemSeen) (end : Result Unit StepRefused
 -- what is answered and printed of a run with these histories, by how it ended, and of a step that
 -- was refused memory which it was
 abbrev pub ReportsRun : (Option Entry → Type 0) → BoardSeen → Bool → Histories → List LineReport
-    → Option (List ℕ) → Option (List ℕ) → Result Unit PlayFailed → Type 0
+    → Option (List ℕ) → Option (List ℕ) → Result PlayEnd PlayFailed → Type 0
 ReportsRun may_want b summary entries = Answers (run_text b summary (histories_of b entries))
     (HandsOutStep (HandsOut b entries) (RefusedStep may_want b entries))

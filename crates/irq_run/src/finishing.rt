@@ -1,5 +1,6 @@
 //! Hands out the reports of a run that has ended, and prints it if it came to its end.
 ghost use Rattle.std.specs.Prelude.{◌≡◌, ◌≤◌, [], All, OnOk, Ok, false, length, map, true};
+ghost use Rattle.board_core.specs.Hung.{stop_of};
 ghost use Rattle.board_core.specs.Seen.{board_lines};
 ghost use Rattle.board_core.specs.Wanted.{SettleWants};
 ghost use Rattle.board_report.specs.Headline.{told_by};
@@ -14,7 +15,7 @@ ghost use Rattle.play_report.specs.Answers.{Prints};
 ghost use Rattle.play_report.specs.Failing.{is_printing, is_write_fault};
 
 use crate::printing::print_lines;
-use board_core::System;
+use board_core::{PlayEnd, System};
 use board_def::Board;
 use board_report::{ReportRoom, hand_on, hand_out, print_layout, print_totals};
 use irq_base::Reports;
@@ -23,18 +24,18 @@ use irq_line::{IrqLine, StepRefused};
 use play_report::{PlayFailed, PlayedBoard};
 use text_row::TextRow;
 
-/// Takes the histories out of the lines of a run that ended with `end`, and prints them after the
-/// layout, or a summary of them, if the run came to its end.
+/// Takes the histories out of the lines of a run that stopped so, and prints them after the layout,
+/// or a summary of them, if the run came to its end.
 pub(crate) fn report_run<O: Sink, L: IrqLine>(
     board: &Board,
     summary: bool,
     system: System<'_, L>,
-    end: Result<(), StepRefused>,
+    stop: Result<(), StepRefused>,
     room: ReportRoom,
     out: &mut O,
 ) -> PlayedBoard
-    requires ran { IsRun board.now system end }
-    requires memory { SettleWants L.may_want system end }
+    requires ran { IsRun board.now system stop }
+    requires memory { SettleWants L.may_want system stop }
     requires room { HasRoom (length board.now.lines) room }
     ensures runs { ReportsRun L.may_want board.now summary
         (entries_in (board_lines system.entry.lines)) result.reports.reports (O.written out.old)
@@ -46,10 +47,11 @@ pub(crate) fn report_run<O: Sink, L: IrqLine>(
     board.is_board();
     system.is_kept();
     let mut row = TextRow::new();
+    let end = system.end_after(stop);
     let laid = print_laid(board, &system, end, &mut row, out);
     let reports = hand_out(board, system, room);
     let end = match laid {
-        Ok(()) => print_rows(&mut row, summary, &reports, out),
+        Ok(end) => print_rows(&mut row, summary, &reports, end, out),
         Err(failed) => Err(failed),
     };
     PlayedBoard { end, reports }
@@ -59,33 +61,34 @@ pub(crate) fn report_run<O: Sink, L: IrqLine>(
 fn print_laid<O: Sink, L: IrqLine>(
     board: &Board,
     system: &System<'_, L>,
-    end: Result<(), StepRefused>,
+    end: Result<PlayEnd, StepRefused>,
     row: &mut TextRow,
     out: &mut O,
-) -> Result<(), PlayFailed>
-    requires { IsRun board.now system.now end }
+) -> Result<PlayEnd, PlayFailed>
+    requires { IsRun board.now system.now (stop_of end) }
     ensures prints { Prints (layout_rows board.now) end (O.written out.old) (O.written out.new)
         result }
     ensures write_fault { Counts (O.faults out.old) (O.faults out.new) (is_write_fault result) }
     ensures silent { is_printing result ≡ false → out.new ≡ out.old }
 {
-    end?;
+    let end = end?;
     print_layout(out, row, board, system.layout())?;
-    Ok(())
+    Ok(end)
 }
 
 /// Prints the histories line by line, or the summary rows and the total, and has what was printed
-/// handed on.
+/// handed on; `end` is how the run ended.
 fn print_rows<O: Sink>(
     row: &mut TextRow,
     summary: bool,
     reports: &Reports,
+    end: PlayEnd,
     out: &mut O,
-) -> Result<(), PlayFailed>
+) -> Result<PlayEnd, PlayFailed>
     requires few { length reports.now.reports ≤ 64 }
     requires summable { All IsSummable reports.now.reports }
     requires rows { All HasRows reports.now.reports }
-    ensures prints { Prints (rows_text summary (map told_by reports.now.reports)) (Ok tt)
+    ensures prints { Prints (rows_text summary (map told_by reports.now.reports)) (Ok end)
         (O.written out.old) (O.written out.new) result }
     ensures emptied { OnOk result (O.kept out.new ≡ []) }
     ensures write_fault { Counts (O.faults out.old) (O.faults out.new) (is_write_fault result) }
@@ -97,5 +100,5 @@ fn print_rows<O: Sink>(
         print_lines(out, reports)?;
     }
     hand_on(out)?;
-    Ok(())
+    Ok(end)
 }

@@ -10,7 +10,7 @@ ghost use Rattle.irq_run.specs.Report.{lines_text};
 
 use irq_base::{History, LineNo, Reports};
 use irq_io::{Sink, WriteFailed, write_all};
-use kept_rows::KeptRows;
+use log_text::KeptRows;
 
 /// Prints the rows of each report's history, report by report.
 pub(crate) fn print_lines<O: Sink>(out: &mut O, reports: &Reports) -> Result<(), WriteFailed>

@@ -14,7 +14,7 @@ use Rattle.board_play.specs.Lines.{BoardLine, Move}
 use Rattle.board_play.specs.Play.{or_move}
 use Rattle.board_core.specs.Seen.{board_lines}
 use Rattle.board_core.specs.Turns.{move_of, lowest_move}
-use Rattle.play_orders.specs.Orders.{IsMade}
+use Rattle.board_play.specs.Orders.{IsMade}
 use Rattle.irq_pm.specs.Phases.{Phase, Picking, Disabling, Asleep, Enabling, Going, is_disable_due, due_of, disabling}
 use Rattle.irq_pm.specs.Phases.{sleeping, going, last_move, or_next, picked, step_in, sleep_next}
 use Rattle.irq_pm.specs.Phases.{sleep_order}

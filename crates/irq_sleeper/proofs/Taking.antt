@@ -3,7 +3,7 @@ use Rattle.std.proofs.Common.{◌≡◌, Bool, true, false, not, ◌&&◌, filte
 use Rattle.std.proofs.lemmas.Map.Views.{any-filter_same}
 use Rattle.irq_base.specs.declared.numbers.LineNo.{LineNo}
 use Rattle.irq_model.specs.Kinds.{same_line}
-use Rattle.irq_steps.proofs.Same.{line_from_same}
+use Rattle.irq_model.proofs.Same.{line_from_same}
 use Rattle.irq_pm.specs.Waking.{is_among}
 
 turned : (a b : Bool) → (a && b) ≡ (b && a)

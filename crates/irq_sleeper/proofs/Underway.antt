@@ -8,7 +8,7 @@ use Rattle.irq_base.specs.declared.numbers.LineNo.{LineNo}
 use Rattle.irq_line.specs.declared.answers.StepRefused.{StepRefused}
 use Rattle.irq_line.specs.declared.answers.StepRefused.TheVariants as refusals
 use Rattle.irq_model.specs.Kinds.{same_line}
-use Rattle.irq_steps.proofs.Same.{line_from_same, same_self_line}
+use Rattle.irq_model.proofs.Same.{line_from_same, same_self_line}
 use Rattle.irq_laws.proofs.Lists.{both_ways}
 use Rattle.board_def.specs.Seen.{BoardSeen}
 use Rattle.board_play.specs.Lines.{BoardLine, Move, part, defs_of, lines_of, lines_after, find_line}
@@ -21,7 +21,7 @@ use Rattle.board_core.specs.declared.turns.Turn.{Turn}
 use Rattle.board_core.specs.declared.turns.Turn.TheVariants as turns
 use Rattle.board_core.proofs.Movers.{first_there, none_there, some_of}
 use Rattle.board_core.proofs.Underway.{part_in}
-use Rattle.play_orders.specs.Orders.{IsMade, moves_in}
+use Rattle.board_play.specs.Orders.{IsMade, moves_in}
 use Rattle.irq_pm.specs.Phases.{Phase, Picking, Disabling, Asleep, Enabling, Going, Next}
 use Rattle.irq_pm.specs.Phases.{sleep_next, sleep_order}
 use Rattle.irq_sleeper.specs.Seen.{SleeperSeen, log_of, marked}

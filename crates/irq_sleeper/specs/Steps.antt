@@ -12,7 +12,7 @@ use Rattle.board_core.specs.declared.turns.Turn.{Turn}
 use Rattle.board_core.specs.declared.turns.Turn.TheVariants as turns
 use Rattle.board_play.specs.Lines.{Move, lines_of, part}
 use Rattle.board_play.specs.Play.{Done, Full}
-use Rattle.play_orders.specs.Orders.{IsMade}
+use Rattle.board_play.specs.Orders.{IsMade}
 use Rattle.irq_pm.specs.Phases.{Phase, Picking, Disabling, Asleep, Enabling, Going, ask_move}
 use Rattle.irq_pm.specs.Phases.{inner_move, last_move, sleep_next, sleep_order}
 use Rattle.irq_sleeper.specs.Seen.{SleeperSeen, log_of}

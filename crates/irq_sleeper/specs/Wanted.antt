@@ -12,7 +12,7 @@ use Rattle.board_play.specs.Play.{first_move}
 use Rattle.board_core.specs.Seen.{SystemSeen, board_lines}
 use Rattle.board_core.specs.Turns.{CanMove, MayMove, move_of}
 use Rattle.board_core.specs.Wanted.{HasSpare, WantedMemory}
-use Rattle.play_orders.specs.Orders.{IsMade}
+use Rattle.board_play.specs.Orders.{IsMade}
 use Rattle.irq_pm.specs.Phases.{Phase, Picking, sleep_next, sleep_order}
 use Rattle.irq_pm.specs.SleepLog.{moves_of}
 use Rattle.irq_pm.specs.declared.entries.SleepEntry.{SleepEntry}

@@ -1,5 +1,6 @@
 //! The lines of a board, put to sleep and woken.
 ghost use Rattle.std.specs.Prelude.{◌≡◌, Err, IfErr, IfOk};
+ghost use Rattle.board_core.specs.Hung.{SaysEnd, stop_of};
 ghost use Rattle.board_core.specs.Making.{MakesAll};
 ghost use Rattle.board_core.specs.Seen.{board_lines};
 ghost use Rattle.board_core.specs.Turns.{move_of, lowest_move};
@@ -21,7 +22,7 @@ ghost use Rattle.irq_sleeper.specs.Wanted.{PlayWants, StepWants};
 use crate::marks::WakeMark;
 use crate::walk::SleepWalk;
 use crate::watch::{SYSTEM, Watch};
-use board_core::{System, Turn};
+use board_core::{PlayEnd, System, Turn};
 use board_def::{Board, Layout};
 use callbacks::Handler;
 use irq_base::{Actor, Call, DriverNo, LineNo, NoMemory};
@@ -342,6 +343,14 @@ impl<'b, L: IrqLine> Sleeper<'b, L> {
         ensures { result.now ≡ self.now.system.layout }
     {
         self.system.layout()
+    }
+
+    /// How a play ended that stopped so: where nobody can move, whether somebody hangs.
+    pub fn end_after(&self, stop: Result<(), StepRefused>) -> Result<PlayEnd, StepRefused>
+        ensures stop { stop_of result ≡ stop }
+        ensures says { SaysEnd (board_lines self.now.system.lines) result }
+    {
+        self.system.end_after(stop)
     }
 
     /// The system, as it stands.

@@ -6,7 +6,7 @@ ghost use Rattle.irq_base.specs.declared.numbers.LineNo.{LineNo};
 ghost use Rattle.irq_model.specs.Kinds.{is_off, same_line};
 ghost use Rattle.irq_pm.specs.Waking.{is_among};
 ghost use Rattle.irq_sleeper.specs.Watching.{Watches};
-ghost use Rattle.sleep_laws.specs.Sleeping.{is_disable_by};
+ghost use Rattle.irq_pm.specs.Sleeping.{is_disable_by};
 
 use irq_base::{CallEntry, CpuEntry, DriverNo, Entry, LineNo, NoMemory, TakeAnswer};
 use std::alloc::Global;

@@ -16,7 +16,7 @@ use Rattle.irq_model.specs.Lines.{is_device}
 use Rattle.irq_model.specs.Rounds.{begins_round, flow, has_flow, has_begun}
 use Rattle.irq_model.specs.Legal.{IsDue, IsLegalPast}
 use Rattle.irq_model.specs.Valid.{IsValid}
-use Rattle.irq_steps.proofs.Same.{same_self, dev_from_same}
+use Rattle.irq_model.proofs.Same.{same_self, dev_from_same}
 use Rattle.irq_laws.specs.Kept.{Kept}
 use Rattle.irq_laws.proofs.KeptAlways.{kept}
 use Rattle.irq_laws.proofs.FreesKept.{begun_is_linked}

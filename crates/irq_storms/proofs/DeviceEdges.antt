@@ -32,7 +32,7 @@ use Rattle.irq_model.specs.RunBounds.{asks_this, arms_this, asks_of, arms_of, to
 use Rattle.irq_model.specs.Legal.{IsDue, IsLegalPast}
 use Rattle.irq_model.specs.Valid.{IsValid, HasDistinctDevices}
 use Rattle.irq_model.specs.ValidRuns.{HasValidRuns, has_script, is_told}
-use Rattle.irq_steps.proofs.Same.{same_self, same_both, dev_from_same}
+use Rattle.irq_model.proofs.Same.{same_self, same_both, dev_from_same}
 use Rattle.irq_laws.proofs.Lists.{both_ways}
 use Rattle.irq_laws.proofs.ScriptLaws.{follows_past}
 use Rattle.irq_laws.proofs.ImpliesCall.{step_row}

@@ -20,7 +20,7 @@ use Rattle.irq_model.specs.Asks.{unserved_asks}
 use Rattle.irq_model.specs.Due.{entries_by}
 use Rattle.irq_model.specs.Legal.{IsDue, IsLegalPast}
 use Rattle.irq_model.specs.Valid.{IsValid, HasDistinctDevices, names_one_of}
-use Rattle.irq_steps.proofs.Same.{dev_from_same}
+use Rattle.irq_model.proofs.Same.{dev_from_same}
 use Rattle.irq_laws.proofs.ImpliesDriver.{ask_due}
 use Rattle.irq_laws.proofs.Lists.{both_ways}
 use Rattle.irq_laws.proofs.Requested.{due_passes}

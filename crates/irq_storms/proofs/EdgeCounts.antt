@@ -18,7 +18,7 @@ use Rattle.irq_model.specs.Rounds.{closes, cpu_of_handle, flow, has_flow}
 use Rattle.irq_model.specs.Waiting.{clears_pending, is_pending}
 use Rattle.irq_model.specs.Spurious.{note_of}
 use Rattle.irq_model.specs.Legal.{IsDue, IsLegal, IsLegalPast}
-use Rattle.irq_steps.proofs.RoundSteps.{flow_quiet}
+use Rattle.irq_model.proofs.RoundSteps.{flow_quiet}
 use Rattle.irq_laws.proofs.ImpliesFlow.{take_due, end_due, has_a_flow}
 use Rattle.irq_laws.proofs.TakeLaws.{takes_are_counted}
 use Rattle.irq_storms.specs.Judged.{one_if}

@@ -26,8 +26,8 @@ use Rattle.irq_model.specs.Threads.{is_woken, is_other_unfinished}
 use Rattle.irq_model.specs.Signal.{signals}
 use Rattle.irq_model.specs.Legal.{IsDue, IsLegalPast}
 use Rattle.irq_model.specs.Valid.{IsValid}
-use Rattle.irq_steps.proofs.EdgeSteps.{goes_sent, sent_more}
-use Rattle.irq_steps.proofs.MaskSteps.{masked_more}
+use Rattle.irq_model.proofs.EdgeSteps.{goes_sent, sent_more}
+use Rattle.irq_model.proofs.MaskSteps.{masked_more}
 use Rattle.irq_laws.proofs.KeptAlways.{kept}
 use Rattle.irq_laws.proofs.Lists.{both_ways}
 use Rattle.irq_laws.proofs.Masking.{zero_depth}

@@ -25,7 +25,7 @@ use Rattle.irq_model.specs.Threads.{is_running}
 use Rattle.irq_model.specs.Runs.{met_by, told_of, answer_of_run_now}
 use Rattle.irq_model.specs.RunBounds.{is_told_handled, told_handled}
 use Rattle.irq_model.specs.Legal.{IsLegalPast}
-use Rattle.irq_steps.proofs.Same.{dev_from_same}
+use Rattle.irq_model.proofs.Same.{dev_from_same}
 use Rattle.irq_laws.proofs.ScriptLaws.{runs_past}
 use Rattle.irq_laws.proofs.ImpliesFlow.{return_due}
 use Rattle.irq_laws.proofs.ImpliesThread.{thread_return_due, has_returned}

@@ -32,7 +32,7 @@ use Rattle.irq_model.specs.Due.{due_of}
 use Rattle.irq_model.specs.RunBounds.{arms_this, arms_of}
 use Rattle.irq_model.specs.ValidRuns.{HasValidRuns, is_direct}
 use Rattle.irq_model.specs.Legal.{IsLegalPast}
-use Rattle.irq_steps.proofs.Same.{same_self, dev_from_same}
+use Rattle.irq_model.proofs.Same.{same_self, dev_from_same}
 use Rattle.irq_laws.proofs.Chosen.{the_same}
 use Rattle.irq_laws.proofs.ScriptLaws.{runs_past}
 use Rattle.irq_laws.proofs.Lists.{both_ways}

@@ -18,7 +18,7 @@ use Rattle.irq_model.specs.Runs.{makes_calls, entries_of_run}
 use Rattle.irq_model.specs.RunLaws.{calls_of_run}
 use Rattle.irq_model.specs.Scripts.{AreMadeBy, MakesAll}
 use Rattle.irq_model.specs.Legal.{IsLegalPast}
-use Rattle.irq_steps.proofs.Same.{same_self_cpu}
+use Rattle.irq_model.proofs.Same.{same_self_cpu}
 use Rattle.irq_laws.specs.Actors.{calls_of, entries_of, calls_at_work, entries_at_work}
 use Rattle.irq_laws.proofs.ScriptLaws.{runs_past, follows_past}
 use Rattle.irq_laws.proofs.ImpliesFlow.{begin_due, return_due, handler_call_due}

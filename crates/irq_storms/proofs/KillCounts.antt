@@ -32,7 +32,7 @@ use Rattle.irq_model.specs.Spurious.{note_of}
 use Rattle.irq_model.specs.Threads.{is_woken, is_other_unfinished}
 use Rattle.irq_model.specs.Legal.{IsDue, IsLegalPast}
 use Rattle.irq_model.specs.Valid.{IsValid}
-use Rattle.irq_steps.proofs.MaskSteps.{masked_more}
+use Rattle.irq_model.proofs.MaskSteps.{masked_more}
 use Rattle.irq_laws.specs.Kept.{KeepsDepth}
 use Rattle.irq_laws.proofs.KeptAlways.{kept}
 use Rattle.irq_laws.proofs.DepthKept.{StaysEnabled, enabled_before}

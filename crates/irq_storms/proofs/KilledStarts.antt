@@ -34,10 +34,10 @@ use Rattle.irq_model.specs.Next.{is_only}
 use Rattle.irq_model.specs.Legal.{IsDue, IsLegalPast}
 use Rattle.irq_model.specs.Valid.{IsValid}
 use Rattle.irq_model.specs.ValidRuns.{HasValidRuns}
-use Rattle.irq_steps.proofs.LinkSteps.{linked_unlink}
-use Rattle.irq_steps.proofs.ListSteps.{linked_refused, linked_not_there}
-use Rattle.irq_steps.proofs.DepthSteps.{raised, lowered, raised_reset, raised_more}
-use Rattle.irq_steps.proofs.Same.{same_both, same_self}
+use Rattle.irq_model.proofs.LinkSteps.{linked_unlink}
+use Rattle.irq_model.proofs.ListSteps.{linked_refused, linked_not_there}
+use Rattle.irq_model.proofs.DepthSteps.{raised, lowered, raised_reset, raised_more}
+use Rattle.irq_model.proofs.Same.{same_both, same_self}
 use Rattle.irq_laws.specs.Actors.{by_someone}
 use Rattle.irq_laws.specs.Kept.{Kept}
 use Rattle.irq_laws.proofs.Lists.{both_ways}

@@ -32,7 +32,7 @@ use Rattle.irq_model.specs.Runs.{met_by, makes_calls, is_recognised, entries_of_
 use Rattle.irq_model.specs.RunLaws.{calls_of_run, is_in_run}
 use Rattle.irq_model.specs.Scripts.{MakesSteps, MakesAll, MakesAllOf, steps_in}
 use Rattle.irq_model.specs.Legal.{IsDue, IsLegalPast}
-use Rattle.irq_steps.proofs.Same.{same_self, dev_from_same}
+use Rattle.irq_model.proofs.Same.{same_self, dev_from_same}
 use Rattle.irq_laws.specs.Kept.{KeepsRuns}
 use Rattle.irq_laws.proofs.ScriptLaws.{runs_past, follows_run_scripts}
 use Rattle.irq_laws.proofs.Lists.{both_ways}

@@ -36,7 +36,7 @@ use Rattle.irq_model.specs.Scripts.{MakesSteps, MakesAll, MakesAllOf, steps_in, 
 use Rattle.irq_model.specs.Legal.{IsDue, IsLegalPast}
 use Rattle.irq_model.specs.Valid.{IsValid, HasDistinctDevices}
 use Rattle.irq_model.specs.ValidRuns.{HasValidRuns}
-use Rattle.irq_steps.proofs.Same.{same_self, same_both, dev_from_same}
+use Rattle.irq_model.proofs.Same.{same_self, same_both, dev_from_same}
 use Rattle.irq_laws.proofs.Chosen.{the_same}
 use Rattle.irq_laws.proofs.Lists.{both_ways}
 use Rattle.irq_laws.proofs.ScriptLaws.{runs_past}

@@ -19,8 +19,8 @@ use Rattle.irq_model.specs.Lines.{is_device, is_eoi_flow}
 use Rattle.irq_model.specs.Rounds.{closes, begins_round, cpu_of_handle, flow, has_flow, has_begun, at_work}
 use Rattle.irq_model.specs.Legal.{IsDue, IsLegalPast}
 use Rattle.irq_model.specs.Valid.{IsValid}
-use Rattle.irq_steps.proofs.RoundSteps.{flow_quiet}
-use Rattle.irq_steps.proofs.Same.{same_self, dev_from_same}
+use Rattle.irq_model.proofs.RoundSteps.{flow_quiet}
+use Rattle.irq_model.proofs.Same.{same_self, dev_from_same}
 use Rattle.irq_laws.specs.Kept.{Kept}
 use Rattle.irq_laws.proofs.KeptAlways.{kept}
 use Rattle.irq_laws.proofs.FreesKept.{begun_is_linked}

@@ -25,7 +25,7 @@ use Rattle.irq_model.specs.Threads.{is_running}
 use Rattle.irq_model.specs.Reason.{is_called}
 use Rattle.irq_model.specs.Runs.{is_that_part, serves_by_word, told_of, served_by_run}
 use Rattle.irq_model.specs.Legal.{IsDue, IsLegalPast}
-use Rattle.irq_steps.proofs.Same.{dev_from_same}
+use Rattle.irq_model.proofs.Same.{dev_from_same}
 use Rattle.irq_laws.specs.Kept.{KeepsRuns}
 use Rattle.irq_laws.proofs.ScriptLaws.{runs_past}
 use Rattle.irq_laws.proofs.Lists.{stands_cases, both_ways}

@@ -24,7 +24,7 @@ use Rattle.irq_model.specs.RunLaws.{is_in_run}
 use Rattle.irq_model.specs.Threads.{is_running}
 use Rattle.irq_model.specs.RunBounds.{arms_this, arms_of}
 use Rattle.irq_model.specs.Legal.{IsDue, IsLegalPast}
-use Rattle.irq_steps.proofs.Same.{dev_from_same}
+use Rattle.irq_model.proofs.Same.{dev_from_same}
 use Rattle.irq_laws.proofs.ImpliesThread.{has_returned, thread_call_due}
 use Rattle.irq_laws.proofs.ImpliesDriver.{arm_due}
 use Rattle.irq_storms.specs.Judged.{one_if}

@@ -14,7 +14,7 @@ use Rattle.irq_model.specs.Places.{since, count_of}
 use Rattle.irq_model.specs.Kinds.{wakes, is_thread_begin, is_thread_return, is_finish, is_done}
 use Rattle.irq_model.specs.Threads.{is_woken, is_running}
 use Rattle.irq_model.specs.Legal.{IsDue, IsLegalPast}
-use Rattle.irq_steps.proofs.Same.{dev_from_same}
+use Rattle.irq_model.proofs.Same.{dev_from_same}
 use Rattle.irq_laws.proofs.ImpliesThread.{has_returned, has_finished, thread_begin_due, thread_return_due, finish_due, done_due}
 use Rattle.irq_storms.specs.Judged.{one_if}
 use Rattle.irq_storms.proofs.Running.{StaysBelow, runs_below}

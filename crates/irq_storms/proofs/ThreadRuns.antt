@@ -19,7 +19,7 @@ use Rattle.irq_model.specs.Legal.{IsLegalPast}
 use Rattle.irq_laws.specs.Actors.{calls_of}
 use Rattle.irq_laws.proofs.ScriptLaws.{follows_past}
 use Rattle.irq_laws.proofs.ImpliesThread.{has_returned, thread_call_due}
-use Rattle.irq_steps.proofs.Same.{dev_from_same}
+use Rattle.irq_model.proofs.Same.{dev_from_same}
 use Rattle.irq_storms.specs.Tests.{total}
 use Rattle.irq_storms.proofs.Counting.{total_ext}
 use Rattle.irq_storms.proofs.Weights.{total_back, total_kept, made_total}

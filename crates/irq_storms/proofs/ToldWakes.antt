@@ -34,7 +34,7 @@ use Rattle.irq_model.specs.Scripts.{MakesSteps, step_in}
 use Rattle.irq_model.specs.RunBounds.{wakes_this, wakes_by_handler, is_wake_word, told_wakes}
 use Rattle.irq_model.specs.ValidRuns.{HasValidRuns}
 use Rattle.irq_model.specs.Legal.{IsDue, IsLegalPast}
-use Rattle.irq_steps.proofs.Same.{dev_from_same}
+use Rattle.irq_model.proofs.Same.{dev_from_same}
 use Rattle.irq_laws.proofs.ScriptLaws.{runs_past, follows_past}
 use Rattle.irq_laws.proofs.Requested.{one_of}
 use Rattle.irq_laws.proofs.ImpliesCall.{step_row}

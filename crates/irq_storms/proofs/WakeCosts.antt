@@ -17,7 +17,7 @@ use Rattle.irq_model.specs.Kinds.{is_wake, wakes, wakes_by_call, is_thread_begin
 use Rattle.irq_model.specs.Lines.{run_script}
 use Rattle.irq_model.specs.RunBounds.{weight_of, script_weight}
 use Rattle.irq_model.specs.Legal.{IsLegalPast}
-use Rattle.irq_steps.proofs.Same.{dev_from_same}
+use Rattle.irq_model.proofs.Same.{dev_from_same}
 use Rattle.irq_storms.specs.Judged.{one_if}
 use Rattle.irq_storms.specs.Tests.{total}
 use Rattle.irq_storms.proofs.Counting.{count_more, total_at, total_ext, totals_by_key}

@@ -18,7 +18,7 @@ use Rattle.irq_model.specs.Bounds.{is_ask_call, ask_calls, other_calls}
 use Rattle.irq_model.specs.RunBounds.{weight_of, device_weight, wake_weight, round_weight}
 use Rattle.irq_model.specs.Valid.{IsValid, HasDistinctDevices}
 use Rattle.irq_model.specs.ValidRuns.{HasValidRuns, names_own_device}
-use Rattle.irq_steps.proofs.Same.{dev_from_same}
+use Rattle.irq_model.proofs.Same.{dev_from_same}
 use Rattle.irq_storms.specs.Judged.{one_if}
 use Rattle.irq_storms.specs.Tests.{total}
 use Rattle.irq_storms.proofs.Counting.{count_more, total_at, total_ext, total_sum as total_parts, totals_by_key}

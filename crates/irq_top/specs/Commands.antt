@@ -11,6 +11,7 @@ use Rattle.irq_base.specs.declared.devices.Run.{Run}
 use Rattle.irq_base.specs.declared.entries.Entry.{Entry}
 use Rattle.irq_base.specs.declared.numbers.LineNo.{LineNo}
 use Rattle.irq_base.specs.declared.reporting.LineReport.{LineReport}
+use Rattle.board_core.specs.declared.ends.PlayEnd.{PlayEnd}
 use Rattle.board_def.specs.Rules.{IsBoard}
 use Rattle.board_def.specs.Seen.{BoardSeen}
 use Rattle.board_gen.specs.Generated.{generated}
@@ -90,11 +91,11 @@ module _ (nobody : Type 0) (OnBoard : BoardSeen → List LineReport → Option (
 
 -- a board was played or run, and the call ends as that did
 module _ (Plays : BoardSeen → List LineReport → Option (List ℕ) → Option (List ℕ)
-    → Result Unit PlayFailed → Type 0) where
+    → Result PlayEnd PlayFailed → Type 0) where
   abbrev pub EndsAs : BoardSeen → List LineReport → Option (List ℕ) → Option (List ℕ) → Ending
       → Type 0
   EndsAs b reports before now ending =
-      (end : Result Unit PlayFailed) × (ending ≡ ending_of_play end)
+      (end : Result PlayEnd PlayFailed) × (ending ≡ ending_of_play end)
       × Plays b reports before now end
 
 -- the board isn't for what is asked: this fault of the whole text says so, nothing is handed out,
@@ -109,7 +110,7 @@ pub record IsRefused (isnt_for nobody : Type 0) (kind : FaultKind) (reports : Li
 -- a board was played, if it is for that; else it is refused
 module _ (IsntFor : BoardSeen → Type 0) (nobody : Type 0) (kind : FaultKind)
     (Plays : BoardSeen → List LineReport → Option (List ℕ) → Option (List ℕ)
-    → Result Unit PlayFailed → Type 0) where
+    → Result PlayEnd PlayFailed → Type 0) where
   abbrev pub EndsIfFit : BoardSeen → List LineReport → Option (List ℕ) → Option (List ℕ) → Ending
       → Type 0
   EndsIfFit b reports before now (endings.Board fault) =
@@ -192,7 +193,7 @@ module _ (heard : List Run → Type 0) (gave : Run → Answer → Type 0) where
 
 -- which step of a play was refused memory; `may_want` says for which entry that is due a line may
 -- want memory, though its history has room
-module _ (Tells : BoardSeen → List LineReport → Result Unit PlayFailed → Type 0) where
+module _ (Tells : BoardSeen → List LineReport → Result PlayEnd PlayFailed → Type 0) where
   abbrev pub TellsPlay : BoardSeen → List LineReport → Ending → Type 0
   TellsPlay b reports (endings.Step refused) = Tells b reports (Err (plays.Step refused))
   TellsPlay b reports ending = Unit {0}
@@ -233,3 +234,19 @@ reads (commands.Sleep armed) = true
 -- no command that these words ask for reads the source: they ask for none, or for one that doesn't
 abbrev pub ReadsNothing : List (List ℕ) → Type 0
 ReadsNothing words = (asked : Command) → Asks words asked → reads asked ≡ false
+
+-- What is done of the command that is asked, which `IsAsked` tells. If none is, that is a fault of
+-- usage, unless memory was refused, and nothing is handed out or called. `same`: so is the source.
+pub record DoesAsked (heard : List Run → Type 0) (gave : Run → Answer → Type 0)
+    (placed : List Notice → Type 0) (may_want : Option Entry → Type 0) (same : Type 0)
+    (IsAsked : Command → Type 0) (told left : Option (List ℕ)) (reports : List LineReport)
+    (before now : Option (List ℕ)) (ending : Ending) : Type 0 where
+  pub form : (asked : Command) → IsAsked asked → ending ≡ endings.Usage → ⊥
+  pub usage : ((asked : Command) → IsAsked asked → ⊥)
+      → (ending ≡ endings.Usage) ⊎ (ending ≡ endings.NoMemory)
+  pub unasked : ((asked : Command) → IsAsked asked → ⊥) → reports ≡ []
+  pub uncalled : ((asked : Command) → IsAsked asked → ⊥) → CallsNobody heard placed
+  pub unread : ((asked : Command) → IsAsked asked → reads asked ≡ false) → same
+  pub does : (asked : Command) → IsAsked asked
+      → Does heard gave placed asked told left reports before now ending
+  pub wanted : (asked : Command) → IsAsked asked → TellsWanted may_want asked told reports ending

@@ -1,9 +1,12 @@
 -- How the top call ends, by its ending: the exit status, and the row on the error sink.
 use Rattle.std.specs.Prelude.{ℕ, Bool, true, false, List, [], ◌++◌, codes, Result}
 use Rattle.std.specs.Prelude.{Ok, Err}
-use Rattle.program_io.specs.ErrorRows.{fault_row, full_row}
+use Rattle.program_io.specs.ErrorRows.{fault_row, full_row, hung_row}
+use Rattle.program_io.specs.Streams.{EndSeen}
 use Rattle.program_io.specs.declared.inputs.InputRefused.{InputRefused}
 use Rattle.program_io.specs.declared.inputs.InputRefused.TheVariants as refusals
+use Rattle.board_core.specs.declared.ends.PlayEnd.{PlayEnd}
+use Rattle.board_core.specs.declared.ends.PlayEnd.TheVariants as ends
 use Rattle.log_check.specs.declared.verdict.Verdict.{Verdict}
 use Rattle.log_check.specs.declared.verdict.Verdict.TheVariants as verdicts
 use Rattle.irq_check.specs.declared.answers.Judgement.{Judgement}
@@ -19,6 +22,7 @@ abbrev pub status_of : Ending → ℕ
 status_of endings.Done = 0
 status_of (endings.Unlawful line entry) = 1
 status_of (endings.Malformed row) = 1
+status_of (endings.Hung line actor) = 9
 status_of endings.Usage = 2
 status_of (endings.Board fault) = 3
 status_of endings.ReadFault = 4
@@ -31,6 +35,7 @@ abbrev pub error_text : Ending → List ℕ
 error_text endings.Done = []
 error_text (endings.Unlawful line entry) = []
 error_text (endings.Malformed row) = []
+error_text (endings.Hung line actor) = hung_row line actor
 error_text endings.Usage =
     codes "usage: genirq run [--summary] | play [--summary] | check [--why] | gen N"
     ++ codes " | chained | hotplug V EVENT... | sleep LINE...\n"
@@ -46,8 +51,9 @@ ending_of_refusal (refusals.Fault fault) = endings.Board fault
 ending_of_refusal refusals.ReadFault = endings.ReadFault
 ending_of_refusal refusals.NoMemory = endings.NoMemory
 
-abbrev pub ending_of_play : Result Unit PlayFailed → Ending
-ending_of_play (Ok _) = endings.Done
+abbrev pub ending_of_play : Result PlayEnd PlayFailed → Ending
+ending_of_play (Ok ends.Settled) = endings.Done
+ending_of_play (Ok (ends.Hung line actor)) = endings.Hung line actor
 ending_of_play (Err plays.NoMemory) = endings.NoMemory
 ending_of_play (Err (plays.Step refused)) = endings.Step refused
 ending_of_play (Err (plays.Write failed)) = endings.WriteFault
@@ -75,9 +81,28 @@ abbrev pub is_printed : Ending → Bool
 is_printed endings.Done = true
 is_printed (endings.Unlawful line entry) = true
 is_printed (endings.Malformed row) = true
+is_printed (endings.Hung line actor) = true
 is_printed _ = false
+
+-- the ending has no row on the error sink
+abbrev pub is_quiet : Ending → Bool
+is_quiet endings.Done = true
+is_quiet (endings.Unlawful line entry) = true
+is_quiet (endings.Malformed row) = true
+is_quiet _ = false
 
 -- the ending at which something may have been printed
 abbrev pub is_printing : Ending → Bool
 is_printing endings.WriteFault = true
 is_printing ending = is_printed ending
+
+-- what an ending says of the streams
+abbrev pub end_seen : Ending → EndSeen
+end_seen ending = record {
+  printed = is_printed ending;
+  printing = is_printing ending;
+  is_quiet = is_quiet ending;
+  row = error_text ending;
+  read_failed = is_read_fault_end ending;
+  write_failed = is_write_fault_end ending;
+}

@@ -1,5 +1,5 @@
 //! What each command does, apart from the row on the error sink.
-ghost use Rattle.std.specs.Prelude.{◌≡◌, ◌≤◌, [], false, length, true};
+ghost use Rattle.std.specs.Prelude.{◌≡◌, ◌≤◌, false, length, true};
 ghost use Rattle.callbacks.specs.Heard.{Heard};
 ghost use Rattle.hotplug_play.specs.Played.{planned_after};
 ghost use Rattle.irq_play.specs.Played.{TellsStep};
@@ -8,10 +8,10 @@ ghost use Rattle.notifiers.specs.Told.{Told};
 ghost use Rattle.board_gen.specs.Generated.{generated};
 ghost use Rattle.irq_io.specs.Faults.{Counts};
 ghost use Rattle.irq_words.specs.Words.{IsInRange};
+ghost use Rattle.program_io.specs.Streams.{KeepsOutput};
 ghost use Rattle.irq_top.specs.Commands.{CallsNobody, Checks, Does, HotplugsAs, PlaysAs, RunsAs};
 ghost use Rattle.irq_top.specs.Commands.{TakesBoard, TellsPlay, TellsTaken, TellsWanted, reads};
-ghost use Rattle.irq_top.specs.Ending.{is_printed, is_printing, is_read_fault_end};
-ghost use Rattle.irq_top.specs.Ending.{is_write_fault_end};
+ghost use Rattle.irq_top.specs.Ending.{end_seen, is_read_fault_end};
 
 use crate::ending::Ending;
 use crate::outcome::Outcome;
@@ -70,10 +70,8 @@ where
     ensures unread { reads asked ≡ false → src.new ≡ src.old }
     ensures read_fault { Counts (S.faults src.old) (S.faults src.new)
         (is_read_fault_end result.ending) }
-    ensures emptied { is_printed result.ending ≡ true → O.kept out.new ≡ [] }
-    ensures write_fault { Counts (O.faults out.old) (O.faults out.new)
-        (is_write_fault_end result.ending) }
-    ensures silent { is_printing result.ending ≡ false → out.new ≡ out.old }
+    ensures keeps { KeepsOutput (end_seen result.ending) (out.new ≡ out.old) (O.kept out.new)
+        (O.faults out.old) (O.faults out.new) }
 {
     match asked {
         Command::Run { summary } => run(rt, alloc, summary, src, out, gate, shared, maker),
@@ -119,12 +117,10 @@ where
         result.ending }
     ensures read_fault { Counts (S.faults src.old) (S.faults src.new)
         (is_read_fault_end result.ending) }
-    ensures emptied { is_printed result.ending ≡ true → O.kept out.new ≡ [] }
-    ensures write_fault { Counts (O.faults out.old) (O.faults out.new)
-        (is_write_fault_end result.ending) }
     ensures wanted { TellsTaken (RunTells M.Line.may_want) (S.left src.old) result.reports.reports
         result.ending }
-    ensures silent { is_printing result.ending ≡ false → out.new ≡ out.old }
+    ensures keeps { KeepsOutput (end_seen result.ending) (out.new ≡ out.old) (O.kept out.new)
+        (O.faults out.old) (O.faults out.new) }
 {
     match read_input(alloc, src) {
         Ok(board) => {
@@ -159,10 +155,8 @@ where
     ensures wanted { TellsPlay (RunTells M.Line.may_want) board.now result.reports.reports
         result.ending }
     ensures unread { is_read_fault_end result.ending ≡ false }
-    ensures emptied { is_printed result.ending ≡ true → O.kept out.new ≡ [] }
-    ensures write_fault { Counts (O.faults out.old) (O.faults out.new)
-        (is_write_fault_end result.ending) }
-    ensures silent { is_printing result.ending ≡ false → out.new ≡ out.old }
+    ensures keeps { KeepsOutput (end_seen result.ending) (out.new ≡ out.old) (O.kept out.new)
+        (O.faults out.old) (O.faults out.new) }
 {
     Outcome::of_play(run_and_print(rt, alloc, board, summary, maker, gate, shared, out))
 }
@@ -193,10 +187,8 @@ fn hotplug<S: Source, O: Sink, H: Handler, M: MakesDomainLine, N: Notifier>(
         result.reports.reports result.ending }
     ensures read_fault { Counts (S.faults src.old) (S.faults src.new)
         (is_read_fault_end result.ending) }
-    ensures emptied { is_printed result.ending ≡ true → O.kept out.new ≡ [] }
-    ensures write_fault { Counts (O.faults out.old) (O.faults out.new)
-        (is_write_fault_end result.ending) }
-    ensures silent { is_printing result.ending ≡ false → out.new ≡ out.old }
+    ensures keeps { KeepsOutput (end_seen result.ending) (out.new ≡ out.old) (O.kept out.new)
+        (O.faults out.old) (O.faults out.new) }
 {
     match read_input(alloc, src) {
         Ok(board) => {
@@ -226,10 +218,8 @@ fn hotplug_board<O: Sink, H: Handler, M: MakesDomainLine, N: Notifier>(
     ensures wanted { TellsPlay
         (λ b. TellsStep M.Line.may_want (planned_after b vectors events.now)) board
         result.reports.reports result.ending }
-    ensures emptied { is_printed result.ending ≡ true → O.kept out.new ≡ [] }
-    ensures write_fault { Counts (O.faults out.old) (O.faults out.new)
-        (is_write_fault_end result.ending) }
-    ensures silent { is_printing result.ending ≡ false → out.new ≡ out.old }
+    ensures keeps { KeepsOutput (end_seen result.ending) (out.new ≡ out.old) (O.kept out.new)
+        (O.faults out.old) (O.faults out.new) }
     ensures unread { is_read_fault_end result.ending ≡ false }
 {
     match hotplug_and_print(alloc, board, vectors, events, maker, handlers, notify, out) {
@@ -251,10 +241,8 @@ fn play_generated<O: Sink, H: Handler, M: MakesDomainLine>(
         result.ending }
     ensures wanted { TellsPlay (TellsStep M.Line.may_want) (generated n) result.reports.reports
         result.ending }
-    ensures emptied { is_printed result.ending ≡ true → O.kept out.new ≡ [] }
-    ensures write_fault { Counts (O.faults out.old) (O.faults out.new)
-        (is_write_fault_end result.ending) }
-    ensures silent { is_printing result.ending ≡ false → out.new ≡ out.old }
+    ensures keeps { KeepsOutput (end_seen result.ending) (out.new ≡ out.old) (O.kept out.new)
+        (O.faults out.old) (O.faults out.new) }
 {
     match generate(alloc, n) {
         Ok(board) => Play { summary: true }.play(alloc, board, handlers, maker, out),
@@ -274,10 +262,8 @@ fn check<S: Source, O: Sink, M: MakesDomainLine>(
         (O.written out.old) (O.written out.new) result.ending }
     ensures read_fault { Counts (S.faults src.old) (S.faults src.new)
         (is_read_fault_end result.ending) }
-    ensures emptied { is_printed result.ending ≡ true → O.kept out.new ≡ [] }
-    ensures write_fault { Counts (O.faults out.old) (O.faults out.new)
-        (is_write_fault_end result.ending) }
-    ensures silent { is_printing result.ending ≡ false → out.new ≡ out.old }
+    ensures keeps { KeepsOutput (end_seen result.ending) (out.new ≡ out.old) (O.kept out.new)
+        (O.faults out.old) (O.faults out.new) }
 {
     let end = check_and_print(alloc, why, src, out, maker);
     Outcome::without_reports(alloc, Ending::of_check(end))

@@ -3,8 +3,9 @@ ghost use Rattle.std.specs.Prelude.{◌≡◌};
 ghost use Rattle.irq_top.specs.Ending.{ending_of_check, ending_of_play, ending_of_verdict};
 ghost use Rattle.irq_top.specs.Ending.{status_of};
 
+use board_core::PlayEnd;
 use board_text::BoardFault;
-use irq_base::LineNo;
+use irq_base::{Actor, LineNo};
 use irq_check::{CheckFailed, Judgement, Verdict};
 use irq_line::StepRefused;
 use play_report::PlayFailed;
@@ -21,6 +22,10 @@ pub enum Ending {
     /// The log that was checked can't be read: this row, counted from 1, is the first malformed
     /// one.
     Malformed { row: u32 },
+    /// The play, or the run, came to an end at which nobody can move, and all of it is printed; but
+    /// an actor waits for itself, at once or through others, and for ever. Of the board's first
+    /// line with such an actor it is the lowest: threads come before processors before drivers.
+    Hung { line: LineNo, actor: Actor },
     /// The words of the command line are no command's.
     Usage,
     /// The input is refused: its first fault.
@@ -37,7 +42,7 @@ pub enum Ending {
 }
 
 impl Ending {
-    /// The exit status: 0 to 7.
+    /// The exit status: 0 to 7, and 9.
     pub fn status(self) -> u8
         ensures { result ≡ status_of self }
     {
@@ -50,15 +55,17 @@ impl Ending {
             Ending::WriteFault => 5,
             Ending::Step(StepRefused::Full { .. }) => 6,
             Ending::Step(StepRefused::NoMemory) | Ending::NoMemory => 7,
+            Ending::Hung { .. } => 9,
         }
     }
 
     /// How the call ends whose play, or run, ended so.
-    pub(crate) fn of_play(end: Result<(), PlayFailed>) -> Ending
+    pub(crate) fn of_play(end: Result<PlayEnd, PlayFailed>) -> Ending
         ensures { result ≡ ending_of_play end }
     {
         match end {
-            Ok(()) => Ending::Done,
+            Ok(PlayEnd::Settled) => Ending::Done,
+            Ok(PlayEnd::Hung { line, actor }) => Ending::Hung { line, actor },
             Err(PlayFailed::NoMemory) => Ending::NoMemory,
             Err(PlayFailed::Step(refused)) => Ending::Step(refused),
             Err(PlayFailed::Write(_)) => Ending::WriteFault,

@@ -4,7 +4,7 @@ ghost use Rattle.irq_top.specs.Ending.{error_text};
 
 use crate::ending::Ending;
 use irq_line::StepRefused;
-use program_io::{push_fault, push_full_log};
+use program_io::{push_fault, push_full_log, push_hung};
 use text_row::TextRow;
 
 /// Writes the row that says how the call ended, empty if the work was done, or a log is unlawful or
@@ -15,6 +15,7 @@ pub fn error_row(row: &mut TextRow, ending: Ending)
     row.clear();
     match ending {
         Ending::Done | Ending::Unlawful { .. } | Ending::Malformed { .. } => {}
+        Ending::Hung { line, actor } => push_hung(row, line, actor),
         Ending::Usage => {
             row.push_bytes(
                 b"usage: genirq run [--summary] | play [--summary] | check [--why] | gen N",

@@ -1,9 +1,7 @@
 //! What the top call hands out.
-ghost use Rattle.std.specs.Prelude.{◌≡◌, [], false, is_ok};
+ghost use Rattle.std.specs.Prelude.{◌≡◌, [], false};
 ghost use Rattle.board_stated.specs.TextOf.{whole};
-ghost use Rattle.play_report.specs.Failing.{is_write_fault, is_printing as play_is_printing};
-ghost use Rattle.irq_top.specs.Ending.{ending_of_play, is_printed, is_printing, is_read_fault_end};
-ghost use Rattle.irq_top.specs.Ending.{is_write_fault_end};
+ghost use Rattle.irq_top.specs.Ending.{ending_of_play, is_read_fault_end};
 
 use crate::ending::Ending;
 use board_words::{BoardFault, FaultKind};
@@ -38,9 +36,6 @@ impl Outcome {
     pub(crate) fn of_play(played: PlayedBoard) -> Outcome
         ensures ending { result.ending ≡ ending_of_play played.end }
         ensures unread { is_read_fault_end result.ending ≡ false }
-        ensures printed { is_printed result.ending ≡ is_ok played.end }
-        ensures write_fault { is_write_fault_end result.ending ≡ is_write_fault played.end }
-        ensures printing { is_printing result.ending ≡ play_is_printing played.end }
         ensures reports { result.reports.reports ≡ played.reports.reports }
     {
         Outcome {

@@ -1,10 +1,10 @@
 //! The commands that read a board and play it.
-ghost use Rattle.std.specs.Prelude.{◌≡◌, [], false, true};
+ghost use Rattle.std.specs.Prelude.{◌≡◌, []};
 ghost use Rattle.callbacks.specs.Heard.{Heard};
 ghost use Rattle.irq_io.specs.Faults.{Counts};
+ghost use Rattle.program_io.specs.Streams.{KeepsOutput};
 ghost use Rattle.irq_top.specs.Commands.{TakesBoard, TellsTaken};
-ghost use Rattle.irq_top.specs.Ending.{is_printed, is_printing, is_read_fault_end};
-ghost use Rattle.irq_top.specs.Ending.{is_write_fault_end};
+ghost use Rattle.irq_top.specs.Ending.{end_seen, is_read_fault_end};
 
 use crate::ending::Ending;
 use crate::outcome::Outcome;
@@ -17,15 +17,15 @@ use std::alloc::Global;
 
 /// A way to play a board and print it.
 pub(crate) trait OnBoard {
-    ghost use Rattle.std.specs.Prelude.{◌≡◌, ℕ, [], false, true, List, Option, Result};
+    ghost use Rattle.std.specs.Prelude.{◌≡◌, ℕ, false, List, Option, Result};
     ghost use Rattle.irq_base.specs.declared.devices.Run.{Run};
     ghost use Rattle.irq_base.specs.declared.entries.Entry.{Entry};
     ghost use Rattle.irq_base.specs.declared.reporting.LineReport.{LineReport};
-    ghost use Rattle.irq_io.specs.Faults.{Counts};
+    ghost use Rattle.board_core.specs.declared.ends.PlayEnd.{PlayEnd};
+    ghost use Rattle.program_io.specs.Streams.{KeepsOutput};
     ghost use Rattle.board_def.specs.Seen.{BoardSeen};
     ghost use Rattle.irq_top.specs.Commands.{TellsPlay};
-    ghost use Rattle.irq_top.specs.Ending.{is_printed, is_printing, is_read_fault_end};
-    ghost use Rattle.irq_top.specs.Ending.{is_write_fault_end};
+    ghost use Rattle.irq_top.specs.Ending.{end_seen, is_read_fault_end};
     ghost use Rattle.callbacks.specs.Heard.{Heard};
     ghost use Rattle.play_report.specs.declared.failing.PlayFailed.{PlayFailed};
     ghost use Rattle.irq_top.specs.declared.ending.Ending.{Ending};
@@ -38,7 +38,7 @@ pub(crate) trait OnBoard {
     /// What it tells of a step that was refused memory, with lines that may want memory for these
     /// entries that are due.
     ghost tells: { Self → (Option Entry → Type 0) → BoardSeen → List LineReport
-        → Result Unit PlayFailed → Type 0 };
+        → Result PlayEnd PlayFailed → Type 0 };
 
     /// Plays the board, and prints its log, or a summary. Nothing is read.
     fn play<O: Sink, H: Handler, M: MakesDomainLine>(
@@ -53,10 +53,8 @@ pub(crate) trait OnBoard {
             result.reports.reports (O.written out.old) (O.written out.new) result.ending }
         ensures wanted { TellsPlay (tells self M.Line.may_want) board result.reports.reports
             result.ending }
-        ensures emptied { is_printed result.ending ≡ true → O.kept out.new ≡ [] }
-        ensures write_fault { Counts (O.faults out.old) (O.faults out.new)
-            (is_write_fault_end result.ending) }
-        ensures silent { is_printing result.ending ≡ false → out.new ≡ out.old }
+        ensures keeps { KeepsOutput (end_seen result.ending) (out.new ≡ out.old) (O.kept out.new)
+            (O.faults out.old) (O.faults out.new) }
         ensures unread { is_read_fault_end result.ending ≡ false };
 }
 
@@ -77,10 +75,8 @@ pub(crate) fn take_board<S: Source, O: Sink, P: OnBoard + Drop, H: Handler, M: M
         result.reports.reports result.ending }
     ensures read_fault { Counts (S.faults src.old) (S.faults src.new)
         (is_read_fault_end result.ending) }
-    ensures emptied { is_printed result.ending ≡ true → O.kept out.new ≡ [] }
-    ensures write_fault { Counts (O.faults out.old) (O.faults out.new)
-        (is_write_fault_end result.ending) }
-    ensures silent { is_printing result.ending ≡ false → out.new ≡ out.old }
+    ensures keeps { KeepsOutput (end_seen result.ending) (out.new ≡ out.old) (O.kept out.new)
+        (O.faults out.old) (O.faults out.new) }
 {
     match read_input(alloc, src) {
         Ok(board) => {

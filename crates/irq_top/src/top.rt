@@ -1,14 +1,13 @@
 //! The top call.
-ghost use Rattle.std.specs.Prelude.{◌≡◌, ◌↔◌, [], false, true, map};
+ghost use Rattle.std.specs.Prelude.{◌≡◌, ◌↔◌, [], map};
 ghost use Rattle.callbacks.specs.Heard.{Heard};
-ghost use Rattle.irq_io.specs.Faults.{Counts};
 ghost use Rattle.notifiers.specs.Told.{Told};
 ghost use Rattle.irq_words.specs.Words.{Asks, AsksNothing};
 ghost use Rattle.irq_words.specs.declared.Command.{Command};
 ghost use Rattle.program_io.specs.ErrorRows.{Tells};
+ghost use Rattle.program_io.specs.Streams.{KeepsStreams};
 ghost use Rattle.irq_top.specs.Commands.{Does, ReadsNothing, TellsWanted};
-ghost use Rattle.irq_top.specs.Ending.{error_text, is_printed, is_printing, is_read_fault_end};
-ghost use Rattle.irq_top.specs.Ending.{is_write_fault_end};
+ghost use Rattle.irq_top.specs.Ending.{end_seen, error_text, is_quiet};
 
 use crate::commands::act;
 use crate::ending::Ending;
@@ -79,18 +78,8 @@ where
         result.ending }
     ensures wanted { (asked : Command) → Asks (map (λ w. w.now) words.now) asked
         → TellsWanted M.Line.may_want asked (S.left src.old) result.reports.reports result.ending }
-    ensures read_fault { Counts (S.faults src.old) (S.faults src.new)
-        (is_read_fault_end result.ending) }
-
-    ensures emptied { is_printed result.ending ≡ true → O.kept out.new ≡ [] }
-    ensures write_fault { Counts (O.faults out.old) (O.faults out.new)
-        (is_write_fault_end result.ending) }
-    ensures silent { is_printing result.ending ≡ false → out.new ≡ out.old }
-
-    ensures tells { is_printed result.ending ≡ false
-        → Tells (error_text result.ending) (E.written err.old) (E.written err.new)
-        (E.kept err.new) (E.faults err.old) (E.faults err.new) }
-    ensures quiet { is_printed result.ending ≡ true → err.new ≡ err.old }
+    ensures keeps { KeepsStreams (end_seen result.ending) S.faults src.old src.new O.kept O.faults
+        out.old out.new E.written E.kept E.faults err.old err.new }
 {
     let Some(asked) = read_command(words) else {
         return end_early(alloc, Ending::Usage, err);
@@ -98,20 +87,20 @@ where
     let outcome = act(
         rt, alloc, asked, src, out, gate, handlers, shared, maker, notify,
     );
-    if !is_printed(outcome.ending) {
+    if !is_quiet(outcome.ending) {
         tell(err, outcome.ending);
     }
     outcome
 }
 
-/// Whether the ending has no row on the error sink, since all is printed on the output.
-fn is_printed(ending: Ending) -> bool
-    ensures { result ≡ is_printed ending }
+/// Whether the ending has no row on the error sink.
+fn is_quiet(ending: Ending) -> bool
+    ensures { result ≡ is_quiet ending }
 {
-    match ending {
-        Ending::Done | Ending::Unlawful { .. } | Ending::Malformed { .. } => true,
-        _ => false,
-    }
+    matches!(
+        ending,
+        Ending::Done | Ending::Unlawful { .. } | Ending::Malformed { .. }
+    )
 }
 
 /// An ending before anything was read or played, which is said on `err`.

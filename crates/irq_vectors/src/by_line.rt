@@ -3,7 +3,7 @@ ghost use Rattle.std.specs.Prelude.{◌≡◌, ◌≤◌, List, length, IfOk};
 ghost use Rattle.irq_base.specs.declared.entries.Entry.{Entry};
 ghost use Rattle.irq_base.specs.declared.lines.LineDef.{LineDef};
 ghost use Rattle.irq_model.specs.Valid.{IsValid};
-ghost use Rattle.irq_model.specs.ValidRuns.{HasValidRuns, NeverWaits};
+ghost use Rattle.irq_model.specs.ValidRuns.{HasValidRuns};
 ghost use Rattle.log_check.specs.Judged.{Judged};
 ghost use Rattle.irq_vectors.specs.Verdict.{IsVerdict};
 
@@ -23,7 +23,6 @@ use std::alloc::Global;
 pub fn judge_by_line(alloc: Global, def: &LineDef, entries: &[Entry]) -> Result<Verdict, NoMemory>
     requires valid { IsValid def.now }
     requires runs { HasValidRuns def.now }
-    requires waits { NeverWaits def.now }
     requires fits { length entries.now ≤ def.now.log }
     ensures { IfOk result (λ verdict. IsVerdict def.now entries.now verdict) }
 {

@@ -1,9 +1,10 @@
 -- What stands in the way of an actor is what the state says.
-use Rattle.std.proofs.Common.{◌≡◌, ℕ, ◌-◌, ◌≤◌, drop, arith, Bool, true, false, not, ◌||◌, ◌&&◌, cond, is_some, Option}
+use Rattle.std.proofs.Common.{◌-◌, ◌≤◌, ◌≡◌, ℕ, drop, arith, Bool, true, false, not, ◌||◌, ◌&&◌, cond, is_some, Option}
 use Rattle.std.proofs.Common.{Some, None, List, [], ◌∷◌, option_map, refl, sym, ap, reverse, ◌∙◌}
 use Rattle.std.specs.List.{slice_get}
 use Rattle.irq_base.specs.declared.calls.Call.{Call}
 use Rattle.irq_base.specs.declared.devices.DeviceDef.{DeviceDef}
+use Rattle.irq_base.specs.declared.devices.Part.TheVariants as parts
 use Rattle.irq_base.specs.declared.entries.Actor.{Actor}
 use Rattle.irq_base.specs.declared.entries.Actor.TheVariants as actors
 use Rattle.irq_base.specs.declared.entries.Entry.{Entry}
@@ -21,32 +22,40 @@ use Rattle.irq_model.specs.Legal.{IsLegalPast}
 use Rattle.irq_model.specs.Lines.{has_device}
 use Rattle.irq_model.specs.Masks.{is_masked}
 use Rattle.irq_model.specs.Next.{next_of_thread}
+use Rattle.irq_model.specs.Rounds.{at_work, flow, is_cpu}
+use Rattle.irq_model.specs.Runs.{due_in_run}
 use Rattle.irq_model.specs.Signal.{target}
 use Rattle.irq_model.specs.Threads.{is_running, is_woken}
 use Rattle.irq_model.specs.Valid.{IsValid}
 use Rattle.irq_model.specs.Waiting.{is_soft}
 use Rattle.device_table.proofs.Tables.{at_device, at_none}
 use Rattle.device_table.specs.Rows.{at}
+use Rattle.act_thread.specs.Steps.{is_in_run}
+use Rattle.act_thread.specs.declared.rows.Stage.{Stage}
+use Rattle.act_thread.specs.declared.rows.Stage.TheVariants as stages
+use Rattle.act_thread.specs.declared.rows.ThreadRow.{ThreadRow}
 use Rattle.line_obstacles.specs.Obstacles.{flow_in_way, freed_in_way, in_way, in_way_of_call}
-use Rattle.line_obstacles.specs.Obstacles.{in_way_of_cpu, in_way_of_thread, is_at_work, lower}
-use Rattle.line_obstacles.specs.Obstacles.{lowest_that, waited_for}
+use Rattle.line_obstacles.specs.Obstacles.{in_way_of_cpu, in_way_of_handler, in_way_of_run, in_way_of_take, in_way_of_thread}
+use Rattle.line_obstacles.specs.Obstacles.{is_at_work, lower, lowest_that, waited_for}
+use Rattle.line_obstacles.specs.declared.obstacle.Obstacle.{Obstacle}
 use Rattle.line_obstacles.specs.declared.obstacle.Obstacle.TheVariants as obstacles
 use Rattle.line_scripts.specs.Rows.{RowSeen}
 use Rattle.run_scripts.specs.Runs.{RunsSeen}
 use Rattle.line_marks.proofs.CellFollows.{presents_is}
 use Rattle.line_marks.proofs.CallsDue.{idle_is}
 use Rattle.line_marks.proofs.DueIs.{call_is}
-use Rattle.line_marks.proofs.Known.{in_run}
+use Rattle.line_marks.proofs.RunsAre.{handler_due_is}
+use Rattle.line_marks.proofs.RunsAre.{thread_due_is as run_due_is}
 use Rattle.line_marks.proofs.ThreadsDue.{thread_due_is}
-use Rattle.line_marks.specs.Due.{due_of_row}
+use Rattle.line_marks.specs.Due.{due_at_stage, due_of_row}
 use Rattle.line_marks.specs.Line.{IsLine}
 use Rattle.line_marks.specs.Next.{due_call_in}
 use Rattle.line_marks.specs.State.{StateSeen, state_of}
-use Rattle.line_marks.specs.Threads.{thread_of, threads_of, has_returned, has_finished}
-use Rattle.line_core.specs.InWay.{busy_in, by_cpu, by_freed, by_row, by_thread, by_wait}
+use Rattle.line_marks.specs.Threads.{thread_of, threads_of, stage_by, has_returned, has_finished}
+use Rattle.line_state.specs.Waits.{wait_at, wait_of_due, wait_of_handler, wait_of_row}
+use Rattle.line_core.proofs.More.{working_named}
+use Rattle.line_core.specs.InWay.{busy_in, by_cpu, by_freed, by_row, by_take, by_thread, by_wait}
 use Rattle.line_core.specs.InWay.{unless_target}
-
--- ---- threads
 
 -- ---- the lowest of some devices
 
@@ -83,26 +92,6 @@ not_both false true = refl
 not_both false false = refl
 
 module _ (def : LineDef) (past : List Entry) (valid : IsValid def) (legal : IsLegalPast def past) where
-  of_cpu : (c : CpuNo) → in_way_of_cpu def past c ≡ by_cpu (state_of def past) c
-  of_cpu c = ap (λ b. cond (b || is_soft past) (unless_target c (target def past))
-      (cond (is_masked def past) (Some obstacles.Masked) (Some obstacles.NoSignal)))
-      (sym (presents_is def past valid legal))
-
-  of_thread : (d : DevNo) → in_way_of_thread def past d ≡ by_thread def (state_of def past) d
-  of_thread d = by_test (has_device def d) refl
-    where
-      by_test : (b : Bool) → has_device def d ≡ b
-          → cond (b && is_running past d) (cond (is_some (next_of_thread def d past)) None (flow_in_way def past)) None
-          ≡ by_thread def (state_of def past) d
-      by_test false gone = sym (ap (by_row def (state_of def past) d) (at_none (thread_of past) def.devices d gone))
-      by_test true there =
-          let row : at (threads_of def past) d ≡ Some (thread_of past d) = at_device (thread_of past) def.devices d there in
-          let run = in_run (is_running past d) (has_returned past d) (has_finished past d) in
-          ap (λ (o : Option Entry). cond (is_running past d) (cond (is_some o) None (flow_in_way def past)) None)
-          (thread_due_is def past d valid legal ∙ ap (due_of_row def (state_of def past) d) row)
-          ∙ (ap (λ b. cond b (cond (is_some (due_of_row def (state_of def past) d (Some (thread_of past d)))) None (flow_in_way def past)) None) (sym run)
-          ∙ sym (ap (by_row def (state_of def past) d) row))
-
   busy : (d : DevNo) → is_at_work past d ≡ busy_in (state_of def past) d
   busy d = not_both (is_woken past d) (is_running past d) ∙ ap not (sym (idle_is def past valid legal d))
 
@@ -117,16 +106,98 @@ module _ (def : LineDef) (past : List Entry) (valid : IsValid def) (legal : IsLe
   of_wait waits.Mutex = refl
   of_wait waits.Freed = of_freed (freeing past)
 
+  abbrev seen : StateSeen
+  seen = state_of def past
+
+  of_due : (o : Option (Call × ℕ)) → in_way_of_call def past o ≡ by_wait (state_of def past) def.devices (wait_of_due o)
+  of_due None = refl
+  of_due (Some (c, n)) = of_wait (block_of c n)
+
+  -- ---- processors
+
+  of_handler : (o : Option DevNo) → at_work past ≡ o
+      → in_way_of_handler def past o ≡ by_wait (state_of def past) def.devices (wait_of_handler def (state_of def past) o)
+  of_handler None is = refl
+  of_handler (Some d) is =
+      of_due (due_in_run def parts.Primary d past)
+      ∙ ap (λ (o : Option (Call × ℕ)). by_wait (state_of def past) def.devices (wait_of_due o))
+      (sym (handler_due_is def past d (working_named def past d valid legal is) is))
+
+  of_take : (c : CpuNo) → in_way_of_take def past c ≡ by_take (state_of def past) c
+  of_take c = ap (λ b. cond (b || is_soft past) (unless_target c (target def past))
+      (cond (is_masked def past) (Some obstacles.Masked) (Some obstacles.NoSignal)))
+      (sym (presents_is def past valid legal))
+
+  of_cpu : (c : CpuNo) → in_way_of_cpu def past c ≡ by_cpu def (state_of def past) def.devices c
+  of_cpu c =
+      ap (λ (o : Option Obstacle). cond (is_cpu c (flow def past)) o (in_way_of_take def past c)) (of_handler (at_work past) refl)
+      ∙ ap (λ (o : Option Obstacle). cond (is_cpu c (flow def past)) (by_wait (state_of def past) def.devices
+      (wait_of_handler def (state_of def past) (at_work past))) o) (of_take c)
+
+  -- ---- threads
+
+  module _ (d : DevNo) (there : has_device def d ≡ true) where
+    abbrev told : Stage → Option Obstacle
+    told stage = cond (is_some (due_at_stage def stage (state_of def past) d (thread_of past d))) None
+        (by_wait (state_of def past) def.devices (wait_at def (state_of def past) d stage))
+
+    -- to finish it waits for the flow, on a one-shot line
+    unfinished : (o : Bool) (x : Option Entry) (y : Entry) (w : Option Obstacle) → w ≡ flow_in_way def past
+        → cond (is_some (cond o x (Some y))) None w
+        ≡ cond (is_some (cond o x (Some y))) None (by_wait (state_of def past) def.devices (cond o waits.Flow waits.Nothing))
+    unfinished true x y w is = ap (λ (z : Option Obstacle). cond (is_some x) None z) is
+    unfinished false x y w is = refl
+
+    by_stage : (r t f : Bool) → has_returned past d ≡ t
+        → cond r (cond (is_some (due_at_stage def (stage_by r t f) (state_of def past) d (thread_of past d))) None (in_way_of_run def past d)) None
+        ≡ cond (is_in_run (stage_by r t f)) (told (stage_by r t f)) None
+    by_stage false t f it = refl
+    by_stage true false f it =
+        ap (λ (w : Option Obstacle). cond (is_some (due_at_stage def stages.Begun (state_of def past) d (thread_of past d))) None w)
+        (ap (λ (b : Bool). cond b (flow_in_way def past) (in_way_of_call def past (due_in_run def parts.Thread d past))) it
+        ∙ (of_due (due_in_run def parts.Thread d past)
+        ∙ ap (λ (o : Option (Call × ℕ)). by_wait (state_of def past) def.devices (wait_of_due o)) (sym (run_due_is def past d there it))))
+    by_stage true true false it =
+        unfinished (state_of def past).desc.oneshot _ _ (in_way_of_run def past d)
+        (ap (λ (b : Bool). cond b (flow_in_way def past) (in_way_of_call def past (due_in_run def parts.Thread d past))) it)
+    by_stage true true true it = refl
+
+    abbrev row : Option ThreadRow
+    row = at (threads_of def past) d
+
+    row_is : at (threads_of def past) d ≡ Some (thread_of past d)
+    row_is = at_device (thread_of past) def.devices d there
+
+    of_row : cond (is_running past d) (cond (is_some (next_of_thread def d past)) None (in_way_of_run def past d)) None
+        ≡ by_thread def (state_of def past) def.devices d
+    of_row =
+        ap (λ (o : Option Entry). cond (is_running past d) (cond (is_some o) None (in_way_of_run def past d)) None)
+        (thread_due_is def past d valid legal ∙ ap (due_of_row def (state_of def past) d) row_is)
+        ∙ (by_stage (is_running past d) (has_returned past d) (has_finished past d) refl
+        ∙ (ap (λ (w : WaitFor). cond (is_in_run (thread_of past d).stage)
+        (cond (is_some (due_of_row def (state_of def past) d (Some (thread_of past d)))) None (by_wait (state_of def past) def.devices w)) None)
+        (sym (ap (wait_of_row def (state_of def past) d) row_is))
+        ∙ sym (ap (by_row def (state_of def past) def.devices d) row_is)))
+
+  of_thread : (d : DevNo) → in_way_of_thread def past d ≡ by_thread def (state_of def past) def.devices d
+  of_thread d = by_test (has_device def d) refl
+    where
+      by_test : (b : Bool) → has_device def d ≡ b
+          → cond (b && is_running past d) (cond (is_some (next_of_thread def d past)) None (in_way_of_run def past d)) None
+          ≡ by_thread def (state_of def past) def.devices d
+      by_test false gone = sym (ap (by_row def (state_of def past) def.devices d) (at_none (thread_of past) def.devices d gone))
+      by_test true there = of_row d there
+
 module _ (line : LineSeen) (s : StateSeen) (scripts : List (DriverNo × RowSeen)) (runs : RunsSeen)
     (is : IsLine line.def line.entries s scripts runs) where
   abbrev past : List Entry
   past = reverse line.entries
 
-  pub cpu_told : (c : CpuNo) → by_cpu s c ≡ in_way line.def past (actors.Cpu c)
-  cpu_told c = ap (λ (x : StateSeen). by_cpu x c) is.state ∙ sym (of_cpu line.def past is.valid is.legal c)
+  pub cpu_told : (c : CpuNo) → by_cpu line.def s line.def.devices c ≡ in_way line.def past (actors.Cpu c)
+  cpu_told c = ap (λ (x : StateSeen). by_cpu line.def x line.def.devices c) is.state ∙ sym (of_cpu line.def past is.valid is.legal c)
 
-  pub thread_told : (d : DevNo) → by_thread line.def s d ≡ in_way line.def past (actors.Thread d)
-  thread_told d = ap (λ (x : StateSeen). by_thread line.def x d) is.state ∙ sym (of_thread line.def past is.valid is.legal d)
+  pub thread_told : (d : DevNo) → by_thread line.def s line.def.devices d ≡ in_way line.def past (actors.Thread d)
+  thread_told d = ap (λ (x : StateSeen). by_thread line.def x line.def.devices d) is.state ∙ sym (of_thread line.def past is.valid is.legal d)
 
   pub no_call_in_way : (r : DriverNo) → due_call_in scripts r ≡ None → None ≡ in_way line.def past (actors.Driver r)
   no_call_in_way r none = sym (ap (in_way_of_call line.def past) (call_is line.def past scripts is.calls is.at r ∙ none))

@@ -1,10 +1,14 @@
 pub mod More
 pub mod Runs
-pub mod Lowest
 pub mod Queries
 pub mod Blocked
 pub mod Asked
 pub mod Stepping
 pub mod Steps
-pub mod RunsGo
 pub mod InWay
+pub mod CallWaits
+pub mod ActorWaits
+pub mod Ways
+pub mod HungThreads
+pub mod LowestHung
+pub mod Unwaiting

@@ -1,5 +1,5 @@
 -- One more due entry keeps what holds of a line.
-use Rattle.std.proofs.Common.{◌≡◌, ℕ, ◌+◌, ◌<◌, ◌≤◌, ◌^◌, ◌||◌, Bool, true, false, cond, is_some, option_map, Option, Some, None, List, []}
+use Rattle.std.proofs.Common.{◌+◌, ◌<◌, ◌≡◌, ℕ, ◌≤◌, ◌^◌, ◌||◌, Bool, true, false, cond, is_some, option_map, Option, Some, None, List, []}
 use Rattle.std.proofs.Common.{◌∷◌, ◌++◌, length, slice_get, reverse, refl, sym, ap, subst, ◌∙◌, arith}
 use Rattle.std.specs.Prelude.{IfSome}
 use Rattle.std.proofs.lemmas.List.{length-append, length-reverse, reverse-append}
@@ -32,9 +32,9 @@ use Rattle.irq_model.specs.Next.{next, next_past, next_of_driver}
 use Rattle.irq_model.specs.Reason.{is_being_freed}
 use Rattle.irq_model.specs.Rounds.{at_work}
 use Rattle.irq_model.specs.Runs.{due_in_run}
-use Rattle.irq_steps.proofs.DueSteps.{laid_start, laid_within, part_at}
-use Rattle.irq_steps.specs.Laid.{with_count}
-use Rattle.irq_steps.proofs.Same.{same_self_driver, driver_from_same}
+use Rattle.irq_model.proofs.DueSteps.{laid_start, laid_within, part_at}
+use Rattle.irq_model.specs.Laid.{with_count}
+use Rattle.irq_model.proofs.Same.{same_self_driver, driver_from_same}
 use Rattle.line_scripts.specs.Endings.{completes}
 use Rattle.line_scripts.specs.Rows.{RowSeen, calls_of, call_of, place_of, within_of}
 use Rattle.act_list.specs.Actions.{has}
@@ -62,7 +62,7 @@ use Rattle.line_marks.proofs.StateFollows.{state_follows, state_first}
 use Rattle.line_marks.specs.Expected.{IsExpected}
 use Rattle.line_state.specs.Seen.{FixedSeen, HasCall, IsAimOf, IsScripted, LineStateSeen, runs_seen}
 use Rattle.irq_model.specs.Valid.{IsValid}
-use Rattle.irq_model.specs.ValidRuns.{HasValidRuns, NeverWaits}
+use Rattle.irq_model.specs.ValidRuns.{HasValidRuns}
 use Rattle.line_marks.specs.Line.{IsLine}
 use Rattle.line_marks.specs.Next.{due_call_in}
 use Rattle.line_marks.specs.Scripts.{IsAt, place_after, within_after}
@@ -200,7 +200,6 @@ module _ (def : LineDef) (h : List Entry) (s : StateSeen) (scripts after : List 
       record {
         valid = is.valid;
         valid_runs = is.valid_runs;
-        waits = is.waits;
         legal = subst (λ (x : List Entry). IsLegalPast def x) (sym (newest h e)) legal;
         state = ap (state_after def e) is.state ∙ (sym (state_follows def e (reverse h) is.valid legal) ∙ ap (state_of def) (sym (newest h e)));
         calls = calls_after a m;
@@ -216,6 +215,12 @@ module _ (def : LineDef) (h : List Entry) (s : StateSeen) (scripts after : List 
 without_count : (o : Option Call) (n : ℕ) → option_map (λ (x : Call × ℕ). x.0) (with_count o n) ≡ o
 without_count None n = refl
 without_count (Some c) n = refl
+
+-- the handler at work is one of a device of the line
+pub working_named : (def : LineDef) (past : List Entry) (d : DevNo) → IsValid def → IsLegalPast def past → at_work past ≡ Some d → has_device def d ≡ true
+working_named def past d valid legal is =
+    let k = kept def past valid legal in
+    there_named def past k d (called_there def past k d (k.runs.working d is).0)
 
 -- the state and the drivers' places that stand beside a history
 pub record Beside (def : LineDef) (h : List Entry) : Type 0 where
@@ -258,9 +263,7 @@ module _ (def : LineDef) (h : List Entry) (b : Beside def h) where
       (ap (λ x. x || is_being_freed (reverse h) d) (linked_known def (reverse h) d b.is.valid b.is.legal ∙ is))
 
   working_there : (d : DevNo) → at_work (reverse h) ≡ Some d → has_device def d ≡ true
-  working_there d is =
-      let k = kept def (reverse h) b.is.valid b.is.legal in
-      there_named def (reverse h) k d (called_there def (reverse h) k d (k.runs.working d is).0)
+  working_there d is = working_named def (reverse h) d b.is.valid b.is.legal is
 
   thread_there : (d : DevNo) (r : ThreadRow) → at (threads_of def (reverse h)) d ≡ Some r → has_device def d ≡ true
   thread_there d r is = by_test (has_device def d) refl
@@ -397,14 +400,13 @@ line_after def h more after moved e p =
 
 -- ---- a new line
 
-pub line_starts : (def : LineDef) (l : LineStateSeen) (scripts : List (DriverNo × RowSeen)) → IsValid def → HasValidRuns def → NeverWaits def
+pub line_starts : (def : LineDef) (l : LineStateSeen) (scripts : List (DriverNo × RowSeen)) → IsValid def → HasValidRuns def
     → l.state ≡ first_state def → AreRunsOf def (runs_seen l)
     → ((r : DriverNo) → calls_of scripts r ≡ calls_by r def.calls) → ((r : DriverNo) → place_of scripts r ≡ 0) → ((r : DriverNo) → within_of scripts r ≡ 0)
     → IsLine def [] l.state scripts (runs_seen l)
-line_starts def l scripts valid runs waits is scripted calls places withins = record {
+line_starts def l scripts valid runs is scripted calls places withins = record {
   valid = valid;
   valid_runs = runs;
-  waits = waits;
   legal = tt;
   state = is ∙ sym (state_first def);
   calls = calls;

@@ -1,5 +1,5 @@
 -- What is asked of a line is what its state says.
-use Rattle.std.proofs.Common.{◌≡◌, ◌↔◌, ◌≤◌, ℕ, option_map, Bool, true, false, not, ◌||◌, ◌&&◌, cond, is_some, Option}
+use Rattle.std.proofs.Common.{◌≤◌, ◌≡◌, ◌↔◌, ℕ, option_map, Bool, true, false, not, ◌||◌, ◌&&◌, cond, is_some, Option}
 use Rattle.std.proofs.Common.{Some, None, List, refl, sym, ap, subst, ◌∙◌}
 use Rattle.std.proofs.lemmas.Bool.{false≢true}
 use Rattle.std.proofs.lemmas.Option.{none-some, same_Some}
@@ -12,7 +12,6 @@ use Rattle.irq_base.specs.declared.entries.CallEntry.{CallEntry}
 use Rattle.irq_base.specs.declared.entries.Entry.{Entry}
 use Rattle.irq_base.specs.declared.entries.Entry.TheVariants as by
 use Rattle.irq_base.specs.declared.entries.CpuEntry.TheVariants as cpus
-use Rattle.irq_base.specs.declared.entries.ThreadEntry.TheVariants as threads
 use Rattle.irq_base.specs.declared.entries.Way.TheVariants as ways
 use Rattle.irq_base.specs.declared.lines.LineDef.{LineDef}
 use Rattle.irq_base.specs.declared.numbers.CpuNo.{CpuNo}
@@ -22,32 +21,21 @@ use Rattle.irq_model.specs.Legal.{IsLegalPast}
 use Rattle.irq_model.specs.Next.{next_past}
 use Rattle.irq_model.specs.Rounds.{is_cpu}
 use Rattle.irq_model.specs.Signal.{lowest_in}
-use Rattle.irq_model.specs.Lines.{has_device}
-use Rattle.irq_model.specs.Runs.{due_in_run}
-use Rattle.irq_model.specs.Threads.{is_running, is_woken}
 use Rattle.irq_model.specs.Valid.{IsValid}
-use Rattle.irq_model.specs.ValidRuns.{HasValidRuns, NeverWaits}
-use Rattle.irq_steps.proofs.Same.{same_self_cpu, cpu_from_same}
+use Rattle.irq_model.specs.ValidRuns.{HasValidRuns}
+use Rattle.irq_model.proofs.Same.{same_self_cpu, cpu_from_same}
 use Rattle.act_list.specs.Lists.{first_left}
-use Rattle.act_thread.specs.Steps.{could_step, steps_at, is_returned_stage}
-use Rattle.act_thread.specs.Threads.{row_passes}
-use Rattle.act_thread.specs.declared.rows.ThreadRow.{ThreadRow}
-use Rattle.device_table.proofs.Lowest.{own_by}
-use Rattle.device_table.proofs.Tables.{at_device, at_none}
-use Rattle.line_core.proofs.Lowest.{Below, least, passes}
-use Rattle.line_core.proofs.RunsGo.{run_goes}
-use Rattle.device_table.specs.Rows.{at, lowest_where}
 use Rattle.irq_line.specs.Queries.{is_some_take}
 use Rattle.line_marks.proofs.CpuDueIs.{cpu_due_is}
 use Rattle.line_marks.proofs.DueIs.{thread_is}
-use Rattle.line_marks.proofs.RunsAre.{thread_due_is}
 use Rattle.line_marks.specs.Calls.{step_by}
 use Rattle.line_marks.specs.Runs.{due_in_run_at}
-use Rattle.line_marks.specs.Threads.{threads_of, thread_of, stage_by, has_returned, has_finished}
 use Rattle.line_marks.specs.CpuDue.{in_flow_by, begin_or_end_by, handler_or_return_by, next_take_by, take_by}
-use Rattle.line_marks.specs.Due.{call_or_return_by, due_of_row, due_at_stage}
 use Rattle.line_marks.specs.State.{StateSeen, state_of}
-use Rattle.line_state.specs.Seen.{taker_of, unless_in_flow, lowest_due, may_go_on}
+use Rattle.line_marks.specs.Threads.{threads_of}
+use Rattle.line_state.proofs.Could.{due_there, is_due}
+use Rattle.line_state.proofs.LowestOf.{Below, of_below, of_passes}
+use Rattle.line_state.specs.Seen.{taker_of, unless_in_flow, lowest_due}
 
 -- ---- takes
 
@@ -111,33 +99,7 @@ module _ (s : StateSeen) (c : CpuNo) where
   taker_told true None = (λ h. absurd (none-some c h), λ h. absurd (no_target (is_cpu c s.desc.flow) true h))
   taker_told true (Some t) = by_target t (is_cpu t s.desc.flow) refl (same_cpu c t) refl
 
--- ---- threads
-
-or_none : (a b : Bool) → a ≡ (a || (b && false))
-or_none true b = refl
-or_none false true = refl
-or_none false false = refl
-
-goes_so : (o f : Bool) (x y : Entry) → is_some (cond o (cond f None (Some x)) (Some y)) ≡ ((not o || not f) && true)
-goes_so true true x y = refl
-goes_so true false x y = refl
-goes_so false f x y = refl
-
-wakes_so : (w : Bool) (x : Entry) → is_some (cond w (Some x) None) ≡ w
-wakes_so true x = refl
-wakes_so false x = refl
-
--- a device that passes has a row that passes
-record Passing (p : ThreadRow → Bool) (o : Option ThreadRow) : Type 0 where
-  row : ThreadRow
-  is : o ≡ Some row
-  so : p row ≡ true
-
-passing : (p : ThreadRow → Bool) (o : Option ThreadRow) → row_passes p false o ≡ true → Passing p o
-passing p None h = absurd (false≢true h)
-passing p (Some r) h = record { row = r; is = refl; so = h }
-
-module _ (def : LineDef) (past : List Entry) (valid : IsValid def) (runs : HasValidRuns def) (waits : NeverWaits def) (legal : IsLegalPast def past) where
+module _ (def : LineDef) (past : List Entry) (valid : IsValid def) (runs : HasValidRuns def) (legal : IsLegalPast def past) where
   pub is_taker : (c : CpuNo) → (taker_of (state_of def past) ≡ Some c) ↔ IsTrue (is_some_take (next_past def past (actors.Cpu c)))
   is_taker c =
       let told : is_some_take (next_past def past (actors.Cpu c))
@@ -147,42 +109,6 @@ module _ (def : LineDef) (past : List Entry) (valid : IsValid def) (runs : HasVa
       (lowest_in (state_of def past).aim.cpus (state_of def past).aim.mask) in
       (λ h. told ∙ both.0 h, λ h. both.1 (sym told ∙ h))
 
-  -- a run that hasn't returned goes on
-  run_due : (d : DevNo) → (o : Option (Call × ℕ)) → due_in_run def parts.Thread d past ≡ o
-      → is_some (call_or_return_by def (state_of def past) d o) ≡ true
-  run_due d None is = refl
-  run_due d (Some due) is = some_step (step_by def (state_of def past) due) (run_goes def past (state_of def past) parts.Thread d due runs waits is)
-    where
-      some_step : (o : Option CallEntry) → is_some o ≡ true → is_some (option_map (by.ThreadCall d) o) ≡ true
-      some_step None h = h
-      some_step (Some call) h = refl
-
-  by_stage : (d : DevNo) (r t f : Bool) → has_device def d ≡ true → has_returned past d ≡ t
-      → is_some (due_at_stage def (stage_by r t f) (state_of def past) d (thread_of past d))
-      ≡ (steps_at (is_woken past d) (stage_by r t f) || (may_go_on (state_of def past).desc && is_returned_stage (stage_by r t f)))
-  by_stage d false t f there is = wakes_so (is_woken past d) (by.Thread d threads.Begin) ∙ or_none (is_woken past d) (may_go_on (state_of def past).desc)
-  by_stage d true false f there is =
-      ap (λ (o : Option (Call × ℕ)). is_some (call_or_return_by def (state_of def past) d o)) (thread_due_is def past d there is)
-      ∙ run_due d (due_in_run def parts.Thread d past) refl
-  by_stage d true true false there is = goes_so (state_of def past).desc.oneshot (is_some (state_of def past).desc.flow) _ _
-  by_stage d true true true there is = refl
-
-  due_so : (d : DevNo) → is_some (next_past def past (actors.Thread d))
-      ≡ row_passes (could_step (may_go_on (state_of def past).desc)) false (at (threads_of def past) d)
-  due_so d = ap is_some (thread_is def past d valid legal) ∙ by_test (has_device def d) refl
-    where
-      by_test : (b : Bool) → has_device def d ≡ b → is_some (due_of_row def (state_of def past) d (at (threads_of def past) d))
-          ≡ row_passes (could_step (may_go_on (state_of def past).desc)) false (at (threads_of def past) d)
-      by_test false gone =
-          let row : at (threads_of def past) d ≡ None = at_none (thread_of past) def.devices d gone in
-          ap (λ (o : Option ThreadRow). is_some (due_of_row def (state_of def past) d o)) row
-          ∙ sym (ap (row_passes (could_step (may_go_on (state_of def past).desc)) false) row)
-      by_test true there =
-          let row : at (threads_of def past) d ≡ Some (thread_of past d) = at_device (thread_of past) def.devices d there in
-          ap (λ (o : Option ThreadRow). is_some (due_of_row def (state_of def past) d o)) row
-          ∙ (by_stage d (is_running past d) (has_returned past d) (has_finished past d) there refl
-          ∙ sym (ap (row_passes (could_step (may_go_on (state_of def past).desc)) false) row))
-
   abbrev pub IsDueThread : DevNo → Type 0
   IsDueThread d = IsSome (next_past def past (actors.Thread d))
 
@@ -190,17 +116,20 @@ module _ (def : LineDef) (past : List Entry) (valid : IsValid def) (runs : HasVa
   IsLowest None = (d : DevNo) → IsDueThread d → ⊥
   IsLowest (Some l) = IsDueThread l × ((d : DevNo) → IsDueThread d → l.0 ≤ d.0)
 
-  pub is_lowest : IsLowest (lowest_due (state_of def past))
-  is_lowest = by_lowest (lowest_due (state_of def past)) refl
+  pub is_lowest : IsLowest (lowest_due def (state_of def past))
+  is_lowest = by_lowest (lowest_due def (state_of def past)) refl
     where
-      p : ThreadRow → Bool
-      p = could_step (may_go_on (state_of def past).desc)
+      due_so : (d : DevNo) → is_some (next_past def past (actors.Thread d)) ≡ is_due def (state_of def past) d
+      due_so d = ap is_some (thread_is def past d valid legal)
 
-      below : (d : DevNo) → IsDueThread d → Below (lowest_where p (threads_of def past)) d
-      below d due = let w = passing p (at (threads_of def past) d) (sym (due_so d) ∙ due) in least p (threads_of def past) d w.row w.is w.so
+      below : (d : DevNo) → IsDueThread d → Below (lowest_due def (state_of def past)) d
+      below d due =
+          let is : is_due def (state_of def past) d ≡ true = sym (due_so d) ∙ due in
+          of_below (is_due def (state_of def past)) (threads_of def past) d (due_there def (state_of def past) d is) is
 
-      by_lowest : (o : Option DevNo) → lowest_where p (threads_of def past) ≡ o → IsLowest o
+      by_lowest : (o : Option DevNo) → lowest_due def (state_of def past) ≡ o → IsLowest o
       by_lowest None is = λ d due. subst (λ (o : Option DevNo). Below o d) is (below d due)
-      by_lowest (Some l) is =
-          let w = passes p (threads_of def past) l (own_by (thread_of past) def.devices valid.distinct) is in
-          (due_so l ∙ (ap (row_passes p false) w.1 ∙ w.2), λ d due. subst (λ (o : Option DevNo). Below o d) is (below d due))
+      by_lowest (Some l) is = (
+        due_so l ∙ (of_passes (is_due def (state_of def past)) (threads_of def past) l is).1,
+        λ d due. subst (λ (o : Option DevNo). Below o d) is (below d due),
+      )

@@ -20,6 +20,7 @@ use Rattle.line_obstacles.specs.declared.obstacle.Obstacle.{Obstacle}
 use Rattle.line_obstacles.specs.declared.obstacle.Obstacle.TheVariants as obstacles
 use Rattle.line_marks.specs.Due.{due_at_stage}
 use Rattle.line_marks.specs.State.{StateSeen}
+use Rattle.line_state.specs.Waits.{wait_of_handler, wait_of_thread}
 
 abbrev pub busy_in : StateSeen → DevNo → Bool
 busy_in s d = not (is_idle_at s.threads d)
@@ -39,18 +40,26 @@ by_wait s devices waits.Mutex = option_map (λ free. obstacles.Mutex free.0) s.f
 by_wait s devices waits.Freed = by_freed s s.freeing
 
 -- a thread in a run whose next entry isn't due
-abbrev pub by_row : LineDef → StateSeen → DevNo → Option ThreadRow → Option Obstacle
-by_row def s d None = None
-by_row def s d (Some r) = if is_in_run r.stage
-    then (if is_some (due_at_stage def r.stage s d r) then None else flow_by s) else None
+abbrev pub by_row : LineDef → StateSeen → List DeviceDef → DevNo → Option ThreadRow
+    → Option Obstacle
+by_row def s devices d None = None
+by_row def s devices d (Some r) = if is_in_run r.stage
+    then (if is_some (due_at_stage def r.stage s d r) then None
+    else by_wait s devices (wait_of_thread def s d)) else None
 
-abbrev pub by_thread : LineDef → StateSeen → DevNo → Option Obstacle
-by_thread def s d = by_row def s d (at s.threads d)
+abbrev pub by_thread : LineDef → StateSeen → List DeviceDef → DevNo → Option Obstacle
+by_thread def s devices d = by_row def s devices d (at s.threads d)
 
 abbrev pub unless_target : CpuNo → Option CpuNo → Option Obstacle
 unless_target c target = if is_cpu c target then None else option_map obstacles.Target target
 
-abbrev pub by_cpu : StateSeen → CpuNo → Option Obstacle
-by_cpu s c =
+abbrev pub by_take : StateSeen → CpuNo → Option Obstacle
+by_take s c =
     if signals s.cell || s.desc.soft then unless_target c (lowest_in s.aim.cpus s.aim.mask)
     else (if s.desc.masked then Some obstacles.Masked else Some obstacles.NoSignal)
+
+-- a processor in its flow is kept by what its handler's call waits for
+abbrev pub by_cpu : LineDef → StateSeen → List DeviceDef → CpuNo → Option Obstacle
+by_cpu def s devices c =
+    if is_cpu c s.desc.flow then by_wait s devices (wait_of_handler def s s.round.working)
+    else by_take s c

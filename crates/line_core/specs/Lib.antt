@@ -6,3 +6,4 @@ pub mod Room
 pub mod Entries
 pub mod Steps
 pub mod InWay
+pub mod Hanging

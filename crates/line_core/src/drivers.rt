@@ -29,7 +29,7 @@ use line_state::{DriverStep, DueStep, LineState};
 impl<C: Chip> Line<C> {
     /// A step of a driver, which ends no run. Most calls are asks: an ask is made here, with its
     /// due call at hand, if there is room for its entry.
-    #[inline(never)]
+    #[inline(always)]
     pub(crate) fn step_of_driver<L>(&mut self, driver: DriverNo) -> Result<Stepped<L>, StepRefused>
         ensures step { IsStepAlone self.old.line (actors.Driver driver) result self.new.line }
         ensures wiring { self.new.wiring ≡ self.old.wiring }
@@ -46,7 +46,7 @@ impl<C: Chip> Line<C> {
     }
 
     /// The ask, which is due of the driver, where the history has room.
-    #[inline(always)]
+    #[inline(never)]
     fn ask(&mut self, driver: DriverNo, dev: DevNo) -> Entry
         requires call { option_map (λ due. due.0)
             (due_call self.old.line.def driver (reverse self.old.line.entries))

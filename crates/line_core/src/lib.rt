@@ -16,6 +16,7 @@
 
 mod drivers;
 pub mod due;
+pub mod hanging;
 mod line;
 mod making;
 pub mod moving;
@@ -25,6 +26,7 @@ mod room;
 mod threads;
 
 pub use due::due_by;
+pub use hanging::lowest_hung;
 pub use line::Line;
 pub use making::MakesCellLine;
 pub use moving::advance;

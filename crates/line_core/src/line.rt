@@ -6,7 +6,7 @@ ghost use Rattle.irq_model.specs.Lines.{serves};
 ghost use Rattle.irq_model.specs.Signal.{target};
 ghost use Rattle.irq_model.specs.Up.{is_up};
 ghost use Rattle.irq_model.specs.Valid.{IsValid};
-ghost use Rattle.irq_model.specs.ValidRuns.{HasValidRuns, NeverWaits};
+ghost use Rattle.irq_model.specs.ValidRuns.{HasValidRuns};
 ghost use Rattle.irq_laws.specs.Driven.{cell_after};
 ghost use Rattle.callbacks.specs.Heard.{Heard};
 ghost use Rattle.irq_line.specs.Answers.{Answers};
@@ -15,6 +15,7 @@ ghost use Rattle.irq_line.specs.Memory.{WantsMemory};
 ghost use Rattle.line_core.specs.Blocking.{freed_in, blocks_by};
 ghost use Rattle.line_core.specs.Room.{HasRoom, IsFullOf, RoomFor, links_next};
 
+use crate::hanging::lowest_hung;
 use crate::room::make_place;
 use callbacks::Hears;
 use irq_base::{Actor, Blocks, Chip, CpuNo, DevNo, History, LineDef, NoMemory};
@@ -62,7 +63,6 @@ impl<C: Chip + Drop> Line<C> {
     pub fn new(alloc: Global, def: &LineDef, chip: C) -> Result<Line<C>, NoMemory>
         requires valid { IsValid def.now }
         requires runs { HasValidRuns def.now }
-        requires waits { NeverWaits def.now }
         requires cell { C.cell chip
             ≡ fresh_cell def.now.trigger def.now.keeps def.now.recalls def.now.retriggers
             (serves def.now) }
@@ -259,6 +259,11 @@ impl<C: Chip + Drop> IrqLine for Line<C> {
     }
 
     #[inline(always)]
+    fn spins(&self) -> bool {
+        self.state.spins()
+    }
+
+    #[inline(always)]
     fn taker(&self) -> Option<CpuNo> {
         self.state.taker()
     }
@@ -271,5 +276,9 @@ impl<C: Chip + Drop> IrqLine for Line<C> {
     #[inline(always)]
     fn blocks(&self) -> Blocks {
         blocks_by(&self.state)
+    }
+
+    fn lowest_hung(&self) -> Option<Actor> {
+        lowest_hung(&self.state, &self.scripts)
     }
 }

@@ -2,7 +2,7 @@
 ghost use Rattle.std.specs.Prelude.{◌≡◌};
 ghost use Rattle.irq_model.specs.Lines.{serves};
 ghost use Rattle.irq_model.specs.Valid.{IsValid};
-ghost use Rattle.irq_model.specs.ValidRuns.{HasValidRuns, NeverWaits};
+ghost use Rattle.irq_model.specs.ValidRuns.{HasValidRuns};
 
 use crate::line::Line;
 use irq_base::{FlowKind, LineDef, NoMemory, Trigger};
@@ -10,8 +10,8 @@ use irq_line::MakesLine;
 use line_cell::Cell;
 use std::alloc::Global;
 
-/// Makes a line of every valid definition whose runs never wait, whatever its virq, over the cell
-/// that the definition describes.
+/// Makes a line of every valid definition with valid runs, whatever its virq, over the cell that
+/// the definition describes.
 #[derive(Clone, Copy)]
 pub struct MakesCellLine;
 
@@ -23,7 +23,7 @@ fn serves(def: &LineDef) -> bool
 }
 
 impl MakesLine<Line<Cell>> for MakesCellLine {
-    ghost makes = { λ maker virq def. IsValid def × HasValidRuns def × NeverWaits def };
+    ghost makes = { λ maker virq def. IsValid def × HasValidRuns def };
 
     fn make(&self, alloc: Global, _virq: u32, def: &LineDef) -> Result<Line<Cell>, NoMemory> {
         let cell = Cell::new(

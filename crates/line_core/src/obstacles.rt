@@ -4,7 +4,7 @@ ghost use Rattle.irq_base.specs.declared.lines.LineDef.{LineDef};
 ghost use Rattle.act_thread.specs.Steps.{is_in_run};
 ghost use Rattle.line_state.specs.Seen.{IsScripted};
 ghost use Rattle.line_obstacles.specs.Obstacles.{lower, lowest_that};
-ghost use Rattle.line_core.specs.InWay.{busy_in, by_cpu, by_freed, by_thread, by_wait};
+ghost use Rattle.line_core.specs.InWay.{busy_in, by_cpu, by_freed, by_take, by_thread, by_wait};
 ghost use Rattle.line_core.specs.InWay.{flow_by};
 
 use crate::line::Line;
@@ -17,8 +17,8 @@ use line_state::LineState;
 impl<C: Chip + Drop> TellsObstacles for Line<C> {
     fn obstacle(&self, actor: Actor) -> Option<Obstacle> {
         match actor {
-            Actor::Cpu(cpu) => of_cpu(&self.state, cpu),
-            Actor::Thread(dev) => of_thread(&self.state, dev),
+            Actor::Cpu(cpu) => of_cpu(&self.state, &self.def.devices, cpu),
+            Actor::Thread(dev) => of_thread(&self.state, &self.def.devices, dev),
             Actor::Driver(driver) => match self.scripts.due(driver) {
                 Some((call, made)) => of_wait(&self.state, &self.def.devices, wait_of(call, made)),
                 None => None,
@@ -27,9 +27,21 @@ impl<C: Chip + Drop> TellsObstacles for Line<C> {
     }
 }
 
+/// What keeps the processor: in its flow what its handler's call waits for, else what keeps
+/// interrupts from it.
+fn of_cpu<C: Chip>(state: &LineState<C>, devices: &DeviceList, cpu: CpuNo) -> Option<Obstacle>
+    ensures { (def : LineDef) → IsScripted def state.now
+        → result ≡ by_cpu def state.now.state devices.now cpu }
+{
+    if state.in_flow() == Some(cpu) {
+        return of_wait(state, devices, state.wait_of_handler());
+    }
+    of_take(state, cpu)
+}
+
 /// What keeps interrupts from the processor.
-fn of_cpu<C: Chip>(state: &LineState<C>, cpu: CpuNo) -> Option<Obstacle>
-    ensures { result ≡ by_cpu state.now.state cpu }
+fn of_take<C: Chip>(state: &LineState<C>, cpu: CpuNo) -> Option<Obstacle>
+    ensures { result ≡ by_take state.now.state cpu }
 {
     if !state.chip().signal() && !state.desc().soft() {
         return Some(if state.desc().masked() {
@@ -46,16 +58,17 @@ fn of_cpu<C: Chip>(state: &LineState<C>, cpu: CpuNo) -> Option<Obstacle>
     }
 }
 
-/// What keeps the thread from its next entry: in a run only a flow can.
-fn of_thread<C: Chip>(state: &LineState<C>, dev: DevNo) -> Option<Obstacle>
+/// What keeps the thread from its next entry: in a run what its call waits for, and to finish a
+/// flow.
+fn of_thread<C: Chip>(state: &LineState<C>, devices: &DeviceList, dev: DevNo) -> Option<Obstacle>
     ensures { (def : LineDef) → IsScripted def state.now
-        → result ≡ by_thread def state.now.state dev }
+        → result ≡ by_thread def state.now.state devices.now dev }
 {
     let row = state.threads().get(dev)?;
     if !is_in_run(row.stage) || state.due_of_thread(dev).is_some() {
         return None;
     }
-    of_flow(state)
+    of_wait(state, devices, state.wait_of_thread(dev))
 }
 
 /// Whether the thread is in a run.

@@ -24,10 +24,8 @@ use irq_line::{StepRefused, Stepped};
 use line_state::{LineState, ThreadStep};
 
 impl<C: Chip> Line<C> {
-    /// A step of a device's thread. It stands apart, as that of a driver, so that a step of a
-    /// processor is short
-    /// where it is made.
-    #[inline(never)]
+    /// A step of a device's thread.
+    #[inline(always)]
     pub(crate) fn step_of_thread<E: Hears>(
         &mut self,
         dev: DevNo,
@@ -55,8 +53,10 @@ impl<C: Chip> Line<C> {
         self.state.due_of_thread(dev)
     }
 
-    /// Does what is due of the thread, where there is room for its entry.
-    #[inline(always)]
+    /// Does what is due of the thread, where there is room for its entry. It stands apart, as what a
+    /// driver does, so that a step of a processor is short where it is made. What chooses between
+    /// them doesn't, or the answers of all three would go through one place in memory.
+    #[inline(never)]
     fn act_of_thread<E: Hears>(
         &mut self,
         dev: DevNo,

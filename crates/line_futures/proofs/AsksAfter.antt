@@ -5,7 +5,7 @@ use Rattle.irq_base.specs.declared.devices.Part.TheVariants as parts
 use Rattle.irq_base.specs.declared.numbers.DevNo.{DevNo}
 use Rattle.irq_model.specs.Kinds.{same_dev}
 use Rattle.irq_model.specs.Runs.{is_that_part}
-use Rattle.irq_steps.proofs.Same.{dev_from_same}
+use Rattle.irq_model.proofs.Same.{dev_from_same}
 use Rattle.device_table.specs.Rows.{at, change}
 use Rattle.device_table.specs.Sums.{one_if, how_many}
 use Rattle.act_thread.specs.Steps.{may_return}

@@ -36,8 +36,8 @@ use Rattle.irq_model.specs.Rounds.{is_cpu}
 use Rattle.irq_model.specs.Runs.{is_recognised, is_that_part, serves_by_word}
 use Rattle.irq_model.specs.Signal.{lowest_in}
 use Rattle.irq_model.specs.Spurious.{noted}
-use Rattle.irq_steps.proofs.Same.{same_self}
-use Rattle.irq_steps.specs.Laid.{with_count}
+use Rattle.irq_model.proofs.Same.{same_self}
+use Rattle.irq_model.specs.Laid.{with_count}
 use Rattle.device_table.specs.Rows.{at}
 use Rattle.act_list.specs.Actions.{answer_by as link_answer_by}
 use Rattle.act_list.specs.Lists.{cleared, first_left}
@@ -208,7 +208,7 @@ module _ (def : LineDef) (s : StateSeen) where
         (makes_same works)
         ∙ ap (λ (o : Option (Call × ℕ)). cond (makes_calls_at def s parts.Primary d) o None) (due_by_place parts.Primary)
 
-    due_in_thread : due_in_run_at def (canon s) parts.Thread d ≡ due_in_run_at def s parts.Thread d
+    pub due_in_thread : due_in_run_at def (canon s) parts.Thread d ≡ due_in_run_at def s parts.Thread d
     due_in_thread = due_by_place parts.Thread
 
     call_or_return_same : t d ≡ true → (o : Option (Call × ℕ)) → call_or_return_by def (canon s) d o ≡ call_or_return_by def s d o

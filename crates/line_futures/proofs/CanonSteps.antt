@@ -18,7 +18,7 @@ use Rattle.irq_base.specs.declared.lines.LineDef.{LineDef}
 use Rattle.irq_base.specs.declared.numbers.DevNo.{DevNo}
 use Rattle.irq_model.specs.Kinds.{same_dev}
 use Rattle.irq_model.specs.Rounds.{begins_round}
-use Rattle.irq_steps.proofs.Same.{same_self, same_both}
+use Rattle.irq_model.proofs.Same.{same_self, same_both}
 use Rattle.device_table.specs.Rows.{change, HasOwnKeys}
 use Rattle.act_list.specs.Actions.{is_bare}
 use Rattle.act_list.specs.Lists.{ListSeen, after_unlink}

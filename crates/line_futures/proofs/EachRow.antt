@@ -2,7 +2,7 @@
 use Rattle.std.proofs.Common.{◌≡◌, Bool, true, false, cond, Option, Some, None, List, [], ◌∷◌, option_map, refl, sym, ap, subst, ◌∙◌}
 use Rattle.irq_base.specs.declared.numbers.DevNo.{DevNo}
 use Rattle.irq_model.specs.Kinds.{same_dev}
-use Rattle.irq_steps.proofs.Same.{dev_from_same}
+use Rattle.irq_model.proofs.Same.{dev_from_same}
 use Rattle.device_table.specs.Rows.{at, put, change, changed, HasOwnKeys}
 use Rattle.line_futures.specs.Canon.{each_row}
 

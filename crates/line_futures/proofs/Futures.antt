@@ -12,7 +12,7 @@ use Rattle.irq_model.specs.Kinds.{is_by_driver}
 use Rattle.irq_model.specs.Legal.{IsDue, IsLegalPast}
 use Rattle.irq_model.specs.Next.{next_past}
 use Rattle.irq_model.specs.Valid.{IsValid}
-use Rattle.irq_steps.proofs.DueSteps.{due_laid}
+use Rattle.irq_model.proofs.DueSteps.{due_laid}
 use Rattle.line_marks.proofs.CpuDueIs.{cpu_due_is}
 use Rattle.line_marks.proofs.DriversDueIs.{driver_is}
 use Rattle.line_marks.proofs.DueIs.{thread_is}

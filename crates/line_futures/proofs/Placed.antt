@@ -14,9 +14,9 @@ use Rattle.irq_model.specs.Kinds.{is_driver, is_by_driver}
 use Rattle.irq_model.specs.Legal.{IsDue, IsLegalPast}
 use Rattle.irq_model.specs.Next.{next_past, next_of_driver}
 use Rattle.irq_laws.specs.Kept.{complete}
-use Rattle.irq_steps.proofs.DueSteps.{due_laid, laid_start}
-use Rattle.irq_steps.proofs.Same.{driver_from_same}
-use Rattle.irq_steps.specs.Laid.{Laid, with_count}
+use Rattle.irq_model.proofs.DueSteps.{due_laid, laid_start}
+use Rattle.irq_model.proofs.Same.{driver_from_same}
+use Rattle.irq_model.specs.Laid.{Laid, with_count}
 use Rattle.line_scripts.specs.Endings.{completes}
 use Rattle.line_marks.proofs.ScriptsFollow.{own_place, other_place}
 use Rattle.line_marks.specs.Scripts.{IsAt, place_after, within_after}

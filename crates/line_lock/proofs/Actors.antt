@@ -3,7 +3,7 @@ use Rattle.std.proofs.Common.{◌≡◌, ◌⊎◌, Bool, true, false, not, cond
 use Rattle.std.proofs.lemmas.Bool.{false≢true}
 use Rattle.irq_base.specs.declared.entries.Actor.{Actor}
 use Rattle.irq_model.specs.Kinds.{same_actor}
-use Rattle.irq_steps.proofs.Same.{same_self_actor, actor_from_same}
+use Rattle.irq_model.proofs.Same.{same_self_actor, actor_from_same}
 use Rattle.line_lock.specs.Knows.{is_among, without}
 
 -- either the same, or tested as others

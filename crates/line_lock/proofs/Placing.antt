@@ -7,7 +7,7 @@ use Rattle.irq_base.specs.Who.{actor_of}
 use Rattle.irq_base.specs.declared.entries.Actor.{Actor}
 use Rattle.irq_base.specs.declared.entries.Entry.{Entry}
 use Rattle.irq_model.specs.Kinds.{same_actor, is_by}
-use Rattle.irq_steps.proofs.Same.{same_self_actor}
+use Rattle.irq_model.proofs.Same.{same_self_actor}
 use Rattle.line_lock.specs.Placed.{placed_from, placed, placed_of}
 use Rattle.line_lock.specs.Knows.{BeginsWith, longer}
 use Rattle.line_lock.specs.declared.view.Placed.{Placed}

@@ -13,7 +13,7 @@ use Rattle.board_def.specs.Rules.{IsBoard}
 use Rattle.board_def.specs.Seen.{BoardSeen}
 use Rattle.board_def.specs.Unnamed.{defs_of, leaf_of, leaves_of}
 use Rattle.board_def.specs.declared.rows.LineRow.{LineRow}
-use Rattle.board_def.proofs.RunRules.{valid_runs, never_waits}
+use Rattle.board_def.proofs.RunRules.{valid_runs}
 use Rattle.board_def.proofs.Validity.{valid_row}
 use Rattle.board_layout.specs.Laid.{paths_of}
 use Rattle.line_makers.specs.Chips.{HasAllChips, cell_of_line}
@@ -70,6 +70,5 @@ has_all_chips h b board same paths i virq path row at is =
     record {
       valid = valid_row b i row board at;
       runs = valid_runs b board row;
-      waits = never_waits b board row;
       chips = some_and (λ path. cell_of (kinds_on h.domains path) ≡ cell_of_line (line_of_row b row)) (path_in h.paths virq) path there cell;
     }

@@ -4,7 +4,7 @@ use Rattle.irq_base.specs.Cell.{Cell, fresh_cell}
 use Rattle.irq_base.specs.declared.lines.LineDef.{LineDef}
 use Rattle.irq_model.specs.Lines.{serves}
 use Rattle.irq_model.specs.Valid.{IsValid}
-use Rattle.irq_model.specs.ValidRuns.{HasValidRuns, NeverWaits}
+use Rattle.irq_model.specs.ValidRuns.{HasValidRuns}
 use Rattle.board_def.specs.Layout.{layout_of}
 use Rattle.board_def.specs.LineOf.{line_of_row}
 use Rattle.board_def.specs.Seen.{BoardSeen}
@@ -23,7 +23,6 @@ cell_of_line def = fresh_cell def.trigger def.keeps def.recalls def.retriggers (
 pub record HasChips (h : HierarchySeen) (virq : ℕ) (def : LineDef) : Type 0 where
   pub valid : IsValid def
   pub runs : HasValidRuns def
-  pub waits : NeverWaits def
   pub chips : IsSomeAnd (path_in h.paths virq) (λ path. cell_of (kinds_on h.domains path)
       ≡ cell_of_line def)
 

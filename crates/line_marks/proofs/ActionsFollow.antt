@@ -18,9 +18,9 @@ use Rattle.irq_model.specs.Legal.{IsDue, IsLegalPast}
 use Rattle.irq_model.specs.Links.{linking_flags, is_linked, linked, requested, is_empty, is_none_linked}
 use Rattle.irq_model.specs.Places.{count_of}
 use Rattle.irq_model.specs.Valid.{IsValid}
-use Rattle.irq_steps.proofs.LinkSteps.{linked_request, linked_unlink}
-use Rattle.irq_steps.proofs.ListSteps.{linked_refused, linked_not_there, count_filter, requested_once}
-use Rattle.irq_steps.proofs.Same.{same_self, same_both, dev_from_same}
+use Rattle.irq_model.proofs.LinkSteps.{linked_request, linked_unlink}
+use Rattle.irq_model.proofs.ListSteps.{linked_refused, linked_not_there, count_filter, requested_once}
+use Rattle.irq_model.proofs.Same.{same_self, same_both, dev_from_same}
 use Rattle.irq_laws.proofs.ImpliesDriver.{request_due}
 use Rattle.irq_laws.proofs.KeptAlways.{kept}
 use Rattle.irq_laws.proofs.RestKept.{no_part}

@@ -20,7 +20,7 @@ use Rattle.irq_model.specs.Kinds.{same_dev, is_ask, is_begin, is_thread_begin, i
 use Rattle.irq_model.specs.Places.{since, before, count_of}
 use Rattle.irq_model.specs.Runs.{is_that_part}
 use Rattle.irq_model.specs.Valid.{IsValid}
-use Rattle.irq_steps.proofs.Same.{same_self, same_both}
+use Rattle.irq_model.proofs.Same.{same_self, same_both}
 use Rattle.device_table.specs.Rows.{change}
 use Rattle.device_table.proofs.Tables.{same_table, change_any}
 use Rattle.ask_counts.specs.Facts.{all_facts}

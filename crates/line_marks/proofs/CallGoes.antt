@@ -5,7 +5,7 @@ use Rattle.std.proofs.lemmas.Bool.{ltb-true, ltb-false, lt-ltb}
 use Rattle.irq_base.specs.declared.calls.Call.{Call}
 use Rattle.irq_base.specs.declared.entries.Entry.{Entry}
 use Rattle.irq_model.specs.Due.{entries_of_call, due_of}
-use Rattle.irq_steps.proofs.DueSteps.{each_makes_some, makes_as_many}
+use Rattle.irq_model.proofs.DueSteps.{each_makes_some, makes_as_many}
 use Rattle.line_scripts.proofs.LastEntry.{completes_at, goes_over, ends_over}
 use Rattle.line_scripts.specs.Endings.{completes}
 

@@ -39,7 +39,7 @@ use Rattle.irq_model.specs.Reason.{is_being_freed}
 use Rattle.irq_model.specs.Threads.{is_woken, is_running}
 use Rattle.irq_model.specs.Valid.{IsValid, names_one_of}
 use Rattle.irq_model.specs.Waiting.{is_pending}
-use Rattle.irq_steps.proofs.Same.{dev_from_same}
+use Rattle.irq_model.proofs.Same.{dev_from_same}
 use Rattle.device_table.proofs.Tables.{at_device, at_none}
 use Rattle.device_table.specs.Rows.{at, table_by}
 use Rattle.device_table.specs.Sums.{one_if}

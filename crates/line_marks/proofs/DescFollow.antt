@@ -18,8 +18,8 @@ use Rattle.irq_model.specs.Rounds.{flow, closes, cpu_of_handle}
 use Rattle.irq_model.specs.Valid.{IsValid}
 use Rattle.irq_model.specs.Lines.{is_edge_line, is_eoi_flow}
 use Rattle.irq_model.specs.Waiting.{is_pending, clears_pending}
-use Rattle.irq_steps.proofs.DepthSteps.{raised, lowered, raised_reset, raised_more}
-use Rattle.irq_steps.proofs.MaskSteps.{masked_more}
+use Rattle.irq_model.proofs.DepthSteps.{raised, lowered, raised_reset, raised_more}
+use Rattle.irq_model.proofs.MaskSteps.{masked_more}
 use Rattle.irq_laws.proofs.KeptAlways.{kept}
 use Rattle.desc_state.specs.Desc.{DescSeen}
 use Rattle.line_marks.specs.Desc.{desc_of, desc_after, depth_after, take_masks_with}

@@ -12,8 +12,8 @@ use Rattle.irq_model.specs.Legal.{IsLegalPast}
 use Rattle.irq_model.specs.Lines.{has_device}
 use Rattle.irq_model.specs.Next.{next, next_past, next_of_thread}
 use Rattle.irq_model.specs.Valid.{IsValid}
-use Rattle.irq_steps.proofs.DueSteps.{due_laid}
-use Rattle.irq_steps.specs.Laid.{with_count}
+use Rattle.irq_model.proofs.DueSteps.{due_laid}
+use Rattle.irq_model.specs.Laid.{with_count}
 use Rattle.device_table.proofs.Tables.{at_none}
 use Rattle.run_scripts.specs.Runs.{RunsSeen}
 use Rattle.line_scripts.specs.Rows.{RowSeen, calls_of, place_of, within_of}

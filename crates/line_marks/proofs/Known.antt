@@ -16,7 +16,7 @@ use Rattle.irq_model.specs.Links.{linked, is_linked, requested, linking_flags}
 use Rattle.irq_model.specs.Reason.{is_being_freed}
 use Rattle.irq_model.specs.Threads.{is_woken, is_running, is_unfinished}
 use Rattle.irq_model.specs.Valid.{IsValid}
-use Rattle.irq_steps.proofs.Same.{same_self, dev_from_same}
+use Rattle.irq_model.proofs.Same.{same_self, dev_from_same}
 use Rattle.device_table.specs.Rows.{table_by}
 use Rattle.device_table.specs.Sums.{one_if}
 use Rattle.act_list.specs.Actions.{has}

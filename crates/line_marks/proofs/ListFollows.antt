@@ -13,7 +13,7 @@ use Rattle.irq_base.specs.declared.numbers.DevNo.{DevNo}
 use Rattle.irq_model.specs.Kinds.{is_begin}
 use Rattle.irq_model.specs.Rounds.{begins_round, has_begun}
 use Rattle.irq_model.specs.Valid.{IsValid}
-use Rattle.irq_steps.proofs.Same.{same_self, same_both}
+use Rattle.irq_model.proofs.Same.{same_self, same_both}
 use Rattle.device_table.specs.Rows.{table_by}
 use Rattle.device_table.proofs.Tables.{same_table, change_any}
 use Rattle.act_list.specs.Lists.{ListSeen, cleared, after_begin_round}

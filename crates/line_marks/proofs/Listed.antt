@@ -9,7 +9,7 @@ use Rattle.irq_model.specs.Next.{is_only, flags_differ}
 use Rattle.act_list.specs.Actions.{is_bare, is_only_action, has, is_mismatch}
 use Rattle.act_list.specs.Lists.{flags_of, first_left, begun_at}
 use Rattle.act_list.specs.declared.actions.Action.{Action}
-use Rattle.irq_steps.proofs.Same.{same_self}
+use Rattle.irq_model.proofs.Same.{same_self}
 use Rattle.line_marks.specs.Actions.{flags_by}
 
 abbrev pub first_by : (DevNo → Bool) → List DevNo → Option DevNo

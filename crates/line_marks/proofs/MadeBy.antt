@@ -7,7 +7,7 @@ use Rattle.irq_base.specs.declared.entries.Entry.{Entry}
 use Rattle.irq_base.specs.Who.{actor_of}
 use Rattle.irq_model.specs.Kinds.{is_call, made_by, is_by, same_actor}
 use Rattle.irq_model.specs.Links.{linked, is_first_request}
-use Rattle.irq_steps.proofs.Same.{same_self_actor}
+use Rattle.irq_model.proofs.Same.{same_self_actor}
 use Rattle.irq_laws.specs.Actors.{by_someone}
 
 pub is_made : (a : Actor) (call : CallEntry) (t : CallEntry → Bool) → is_call t (made_by a call) ≡ t call

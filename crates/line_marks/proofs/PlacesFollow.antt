@@ -25,9 +25,9 @@ use Rattle.irq_model.specs.Places.{since, count_of}
 use Rattle.irq_model.specs.Rounds.{at_work}
 use Rattle.irq_model.specs.Runs.{due_in_run, makes_calls}
 use Rattle.irq_model.specs.Valid.{IsValid}
-use Rattle.irq_steps.proofs.DueSteps.{each_makes_some, makes_as_many}
-use Rattle.irq_steps.proofs.Same.{same_self, same_both}
-use Rattle.irq_steps.specs.Laid.{with_count}
+use Rattle.irq_model.proofs.DueSteps.{each_makes_some, makes_as_many}
+use Rattle.irq_model.proofs.Same.{same_self, same_both}
+use Rattle.irq_model.specs.Laid.{with_count}
 use Rattle.irq_laws.proofs.ImpliesFlow.{handler_call_due}
 use Rattle.irq_laws.proofs.ImpliesThread.{thread_call_due, thread_there}
 use Rattle.device_table.specs.Rows.{table_by, change}

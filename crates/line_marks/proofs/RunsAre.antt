@@ -24,8 +24,8 @@ use Rattle.irq_model.specs.Rounds.{at_work}
 use Rattle.irq_model.specs.Runs.{answer_of_run_now, due_in_run, entries_of_run, is_recognised, is_that_part}
 use Rattle.irq_model.specs.Runs.{makes_calls, met_by, serves_by_word, served_by_run, told_of}
 use Rattle.irq_model.specs.Threads.{is_running}
-use Rattle.irq_steps.proofs.Same.{same_self}
-use Rattle.irq_steps.specs.Laid.{with_count}
+use Rattle.irq_model.proofs.Same.{same_self}
+use Rattle.irq_model.specs.Laid.{with_count}
 use Rattle.device_table.specs.Rows.{at}
 use Rattle.device_table.proofs.Tables.{at_device}
 use Rattle.ask_counts.specs.declared.facts.DeviceFacts.{DeviceFacts}

@@ -9,8 +9,8 @@ use Rattle.irq_base.specs.declared.numbers.DriverNo.{DriverNo}
 use Rattle.irq_model.specs.Due.{calls_by, entries_by, entries_of_call, due_call}
 use Rattle.irq_model.specs.Kinds.{is_by_driver}
 use Rattle.irq_model.specs.Next.{next_past, next_of_driver}
-use Rattle.irq_steps.proofs.DueSteps.{due_laid, laid_more, laid_done, laid_within, part_at, part_length, entries_more, entries_same}
-use Rattle.irq_steps.specs.Laid.{Laid, with_count}
+use Rattle.irq_model.proofs.DueSteps.{due_laid, laid_more, laid_done, laid_within, part_at, part_length, entries_more, entries_same}
+use Rattle.irq_model.specs.Laid.{Laid, with_count}
 use Rattle.line_scripts.proofs.LastEntry.{last_is}
 use Rattle.line_scripts.specs.Endings.{completes}
 use Rattle.line_marks.proofs.CallGoes.{Goes, GoesBy, goes_by}

@@ -23,7 +23,7 @@ use Rattle.irq_model.specs.Runs.{due_in_run}
 use Rattle.irq_model.specs.Rounds.{has_flow}
 use Rattle.irq_model.specs.Threads.{is_woken, is_running, is_other_unfinished}
 use Rattle.irq_model.specs.Valid.{IsValid, HasDistinctDevices}
-use Rattle.irq_steps.proofs.Same.{dev_from_same}
+use Rattle.irq_model.proofs.Same.{dev_from_same}
 use Rattle.irq_laws.proofs.KeptAlways.{kept}
 use Rattle.device_table.specs.Rows.{table_by}
 use Rattle.device_table.proofs.Tables.{at_device, at_none}

@@ -26,7 +26,7 @@ use Rattle.irq_model.specs.Places.{since, stands}
 use Rattle.irq_model.specs.Reason.{is_being_freed}
 use Rattle.irq_model.specs.Threads.{is_woken, is_running, is_unfinished}
 use Rattle.irq_model.specs.Valid.{IsValid}
-use Rattle.irq_steps.proofs.Same.{same_self, same_both, dev_from_same}
+use Rattle.irq_model.proofs.Same.{same_self, same_both, dev_from_same}
 use Rattle.irq_laws.proofs.ImpliesDriver.{request_due}
 use Rattle.irq_laws.proofs.ImpliesFlow.{return_due}
 use Rattle.irq_laws.proofs.ImpliesThread.{thread_begin_due, thread_return_due, finish_due, done_due}

@@ -26,10 +26,10 @@ use Rattle.irq_model.specs.Next.{is_only}
 use Rattle.irq_model.specs.Places.{some_place, since_place, upto_place, count_of}
 use Rattle.irq_model.specs.Up.{is_up, is_some_entry, is_freed_last}
 use Rattle.irq_model.specs.Valid.{IsValid}
-use Rattle.irq_steps.proofs.LinkSteps.{linked_request, linked_unlink}
-use Rattle.irq_steps.proofs.ListSteps.{linked_refused, linked_not_there}
-use Rattle.irq_steps.proofs.Same.{same_self, same_self_actor, same_both, actor_from_same}
-use Rattle.irq_steps.proofs.Somewhere.{some_ext}
+use Rattle.irq_model.proofs.LinkSteps.{linked_request, linked_unlink}
+use Rattle.irq_model.proofs.ListSteps.{linked_refused, linked_not_there}
+use Rattle.irq_model.proofs.Same.{same_self, same_self_actor, same_both, actor_from_same}
+use Rattle.irq_model.proofs.Somewhere.{some_ext}
 use Rattle.irq_laws.proofs.FreesKept.{freed_is}
 use Rattle.irq_laws.proofs.ImpliesDriver.{unlink_due}
 use Rattle.irq_laws.proofs.KeptAlways.{kept}

@@ -6,19 +6,18 @@ use Rattle.irq_base.specs.declared.numbers.DriverNo.{DriverNo}
 use Rattle.irq_model.specs.Due.{calls_by}
 use Rattle.irq_model.specs.Legal.{IsLegal}
 use Rattle.irq_model.specs.Valid.{IsValid}
-use Rattle.irq_model.specs.ValidRuns.{HasValidRuns, NeverWaits}
+use Rattle.irq_model.specs.ValidRuns.{HasValidRuns}
 use Rattle.line_scripts.specs.Rows.{RowSeen, calls_of, place_of, within_of}
 use Rattle.run_scripts.specs.Runs.{RunsSeen, AreRunsOf}
 use Rattle.line_marks.specs.Scripts.{IsAt}
 use Rattle.line_marks.specs.State.{StateSeen, state_of}
 
--- the definition is valid, and its runs never wait; the history is legal and not too long, and the
--- state, the drivers' places and those of the runs are the history's
+-- the definition and its runs are valid; the history is legal and not too long, and the state, the
+-- drivers' places and those of the runs are the history's
 pub record IsLine (def : LineDef) (entries : List Entry) (s : StateSeen)
     (scripts : List (DriverNo × RowSeen)) (runs : RunsSeen) : Type 0 where
   pub valid : IsValid def
   pub valid_runs : HasValidRuns def
-  pub waits : NeverWaits def
   pub legal : IsLegal def entries
   pub state : s ≡ state_of def (reverse entries)
   pub calls : (r : DriverNo) → calls_of scripts r ≡ calls_by r def.calls

@@ -6,7 +6,7 @@ use Rattle.irq_base.specs.declared.entries.Actor.TheVariants as actors
 use Rattle.irq_base.specs.declared.entries.Entry.{Entry}
 use Rattle.irq_base.specs.declared.lines.LineDef.{LineDef}
 use Rattle.irq_base.specs.declared.numbers.DriverNo.{DriverNo}
-use Rattle.irq_steps.specs.Laid.{with_count}
+use Rattle.irq_model.specs.Laid.{with_count}
 use Rattle.line_scripts.specs.Rows.{RowSeen, call_of, within_of}
 use Rattle.line_marks.specs.CpuDue.{cpu_due}
 use Rattle.line_marks.specs.DriversDue.{driver_due}

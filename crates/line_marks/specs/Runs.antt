@@ -10,7 +10,7 @@ use Rattle.irq_base.specs.declared.lines.LineDef.{LineDef}
 use Rattle.irq_base.specs.declared.numbers.DevNo.{DevNo}
 use Rattle.irq_model.specs.Lines.{told_answers}
 use Rattle.irq_model.specs.Runs.{is_recognised, serves_by_word}
-use Rattle.irq_steps.specs.Laid.{with_count}
+use Rattle.irq_model.specs.Laid.{with_count}
 use Rattle.device_table.specs.Rows.{at}
 use Rattle.ask_counts.specs.Rows.{taken_by}
 use Rattle.ask_counts.specs.declared.rows.AskRow.{AskRow}

@@ -4,7 +4,7 @@ use Rattle.irq_base.specs.declared.entries.Entry.{Entry}
 use Rattle.irq_base.specs.declared.lines.LineDef.{LineDef}
 use Rattle.irq_base.specs.declared.numbers.DriverNo.{DriverNo}
 use Rattle.irq_model.specs.Due.{calls_by, entries_by}
-use Rattle.irq_steps.specs.Laid.{Laid}
+use Rattle.irq_model.specs.Laid.{Laid}
 
 -- the driver's entries make all its calls before `place`, and the first `within` entries of the
 -- next

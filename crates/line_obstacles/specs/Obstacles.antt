@@ -2,8 +2,10 @@
 -- table of steps has no entry for the actor.
 use Rattle.std.specs.Prelude.{ℕ, ◌||◌, ◌&&◌, if◌then◌else◌, is_some, nat_lt, option_map, reverse}
 use Rattle.std.specs.Prelude.{Bool, Option, Some, None, List, [], ◌∷◌}
+use Rattle.std.specs.List.{list_any}
 use Rattle.irq_base.specs.declared.calls.Call.{Call}
 use Rattle.irq_base.specs.declared.devices.DeviceDef.{DeviceDef}
+use Rattle.irq_base.specs.declared.devices.Part.TheVariants as parts
 use Rattle.irq_base.specs.declared.entries.Actor.{Actor}
 use Rattle.irq_base.specs.declared.entries.Actor.TheVariants as actors
 use Rattle.irq_base.specs.declared.entries.Entry.{Entry}
@@ -13,10 +15,13 @@ use Rattle.irq_base.specs.declared.numbers.DevNo.{DevNo}
 use Rattle.irq_base.specs.declared.waiting.WaitFor.{WaitFor}
 use Rattle.irq_base.specs.declared.waiting.WaitFor.TheVariants as waits
 use Rattle.irq_model.specs.Due.{due_call}
+use Rattle.irq_model.specs.Kinds.{is_thread_begin, is_thread_return}
 use Rattle.irq_model.specs.Lines.{has_device}
 use Rattle.irq_model.specs.Masks.{is_masked}
 use Rattle.irq_model.specs.Next.{next_of_thread}
-use Rattle.irq_model.specs.Rounds.{flow, is_cpu}
+use Rattle.irq_model.specs.Places.{since}
+use Rattle.irq_model.specs.Rounds.{at_work, flow, is_cpu}
+use Rattle.irq_model.specs.Runs.{due_in_run}
 use Rattle.irq_model.specs.Signal.{signals, target}
 use Rattle.irq_model.specs.Threads.{is_running, is_woken}
 use Rattle.irq_model.specs.Waiting.{is_soft}
@@ -65,19 +70,36 @@ abbrev pub in_way_of_call : LineDef → List Entry → Option (Call × ℕ) → 
 in_way_of_call def past None = None
 in_way_of_call def past (Some (call, made)) = waited_for def past (block_of call made)
 
--- a run that is over can't be finished within a flow; no run makes a call that waits
+-- a run that is over can't be finished within a flow, and one that isn't may wait in a call
+abbrev pub in_way_of_run : LineDef → List Entry → DevNo → Option Obstacle
+in_way_of_run def past d =
+    if list_any (is_thread_return d) (since (is_thread_begin d) past) then flow_in_way def past
+    else in_way_of_call def past (due_in_run def parts.Thread d past)
+
 abbrev pub in_way_of_thread : LineDef → List Entry → DevNo → Option Obstacle
 in_way_of_thread def past d =
     if has_device def d && is_running past d
-    then (if is_some (next_of_thread def d past) then None else flow_in_way def past) else None
+    then (if is_some (next_of_thread def d past) then None else in_way_of_run def past d) else None
+
+-- a processor that has no entry due in its flow is kept by what its handler's call waits for: its
+-- own flow
+abbrev pub in_way_of_handler : LineDef → List Entry → Option DevNo → Option Obstacle
+in_way_of_handler def past None = None
+in_way_of_handler def past (Some d) =
+    in_way_of_call def past (due_in_run def parts.Primary d past)
 
 -- what comes, or is sent again, goes to one processor; else the mask is said before the signal
-abbrev pub in_way_of_cpu : LineDef → List Entry → CpuNo → Option Obstacle
-in_way_of_cpu def past c =
+abbrev pub in_way_of_take : LineDef → List Entry → CpuNo → Option Obstacle
+in_way_of_take def past c =
     if signals def past || is_soft past
     then (if is_cpu c (target def past) then None
     else option_map obstacles.Target (target def past))
     else (if is_masked def past then Some obstacles.Masked else Some obstacles.NoSignal)
+
+abbrev pub in_way_of_cpu : LineDef → List Entry → CpuNo → Option Obstacle
+in_way_of_cpu def past c =
+    if is_cpu c (flow def past) then in_way_of_handler def past (at_work past)
+    else in_way_of_take def past c
 
 abbrev pub in_way : LineDef → List Entry → Actor → Option Obstacle
 in_way def past (actors.Cpu c) = in_way_of_cpu def past c

@@ -9,11 +9,12 @@ use irq_line::IrqLine;
 #[derive(Clone, Copy, PartialEq, Eq)]
 pub enum Obstacle {
     /// The flow that this processor has in progress: a hard clear waits for its end
-    /// (`__synchronize_hardirq`, `kernel/irq/manage.c`), and so does a thread's finish
-    /// (`irq_finalize_oneshot` there).
+    /// (`__synchronize_hardirq`, `kernel/irq/manage.c`), the one in a handler of the flow for ever,
+    /// and so does a thread's finish (`irq_finalize_oneshot` there).
     Flow(CpuNo),
     /// The thread of this device, which is woken or in a run: a sync waits for it
-    /// (`synchronize_irq`, `kernel/irq/manage.c`), and so does the end of the device's free.
+    /// (`synchronize_irq`, `kernel/irq/manage.c`), and so does the end of the device's free. One
+    /// in a run of the thread itself waits for ever.
     Thread(DevNo),
     /// The request mutex, which this actor holds (`request_mutex` of `struct irq_desc`).
     Mutex(Actor),

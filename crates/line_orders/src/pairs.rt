@@ -44,6 +44,8 @@ impl<L: IrqLine, M: IrqLine> Pair<L, M> {
             && self.line.taker() == self.other.taker()
             && self.line.lowest_thread() == self.other.lowest_thread()
             && self.line.blocks() == self.other.blocks()
+            && self.line.spins() == self.other.spins()
+            && self.line.lowest_hung() == self.other.lowest_hung()
     }
 
     /// Whether both have the same history.

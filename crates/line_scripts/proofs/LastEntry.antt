@@ -21,7 +21,7 @@ use Rattle.irq_model.specs.Due.{finds_nothing, calls_by, entries_by, begins_not_
 use Rattle.irq_model.specs.Kinds.{is_call, is_by_driver, clears, syncs}
 use Rattle.irq_model.specs.Next.{next_step, next_of_call, unlink_answer, hard_clear_of, synced_of, freed_of, next_of_free, next_of_disable}
 use Rattle.irq_model.specs.Next.{next_of_disable_hard, next_of_sync}
-use Rattle.irq_steps.proofs.DueSteps.{entries_more}
+use Rattle.irq_model.proofs.DueSteps.{entries_more}
 use Rattle.irq_laws.proofs.Chosen.{the_same, from_else, from_then}
 use Rattle.irq_laws.proofs.Lists.{both_ways}
 use Rattle.irq_laws.proofs.Progress.{Standing, standing, same_count, due_at, goes_on}

@@ -9,7 +9,7 @@ use Rattle.irq_base.specs.declared.calls.Call.{Call}
 use Rattle.irq_base.specs.declared.numbers.DriverNo.{DriverNo}
 use Rattle.irq_model.specs.Bounds.{is_ask_call}
 use Rattle.irq_model.specs.Kinds.{same_driver}
-use Rattle.irq_steps.proofs.Same.{driver_from_same}
+use Rattle.irq_model.proofs.Same.{driver_from_same}
 use Rattle.line_scripts.specs.Rows.{RowSeen, unbegun, row_of, calls_of, place_of, call_in, call_of, asks_left, is_some_ask}
 use Rattle.line_scripts.proofs.RowSteps.{other_both, row_found, asks_pushed, asks_advanced}
 

@@ -9,7 +9,7 @@ use Rattle.irq_model.specs.Bounds.{is_ask_call}
 use Rattle.irq_model.specs.Due.{calls_by}
 use Rattle.irq_model.specs.Kinds.{same_driver}
 use Rattle.irq_model.specs.Places.{count_of}
-use Rattle.irq_steps.proofs.Same.{driver_from_same}
+use Rattle.irq_model.proofs.Same.{driver_from_same}
 use Rattle.line_scripts.specs.Rows.{RowSeen, unbegun, row_of, asks_in, asks_left, call_in, is_some_ask}
 
 -- the same either way round

@@ -1,7 +1,7 @@
 //! One driver's calls on the line.
 ghost use Rattle.std.specs.Prelude.{◌≡◌, ℕ, ◌+◌, ◌<◌, ◌^◌, ◌++◌, [], ◌∷◌, IsSome, OnOk, IfOk};
 ghost use Rattle.std.specs.Prelude.{if◌then◌else◌};
-ghost use Rattle.irq_steps.specs.Laid.{with_count};
+ghost use Rattle.irq_model.specs.Laid.{with_count};
 ghost use Rattle.line_scripts.specs.Rows.{unbegun, call_in};
 
 use irq_base::{Call, NoMemory};

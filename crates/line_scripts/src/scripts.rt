@@ -7,7 +7,7 @@ ghost use Rattle.irq_model.specs.Bounds.{is_ask_call};
 ghost use Rattle.irq_model.specs.Due.{calls_by};
 ghost use Rattle.irq_model.specs.Kinds.{same_driver};
 ghost use Rattle.irq_model.specs.Places.{count_of};
-ghost use Rattle.irq_steps.specs.Laid.{with_count};
+ghost use Rattle.irq_model.specs.Laid.{with_count};
 ghost use Rattle.line_scripts.specs.Rows.{row_of, calls_of, place_of, within_of, call_of};
 ghost use Rattle.line_scripts.specs.Rows.{asks_left, is_some_ask, gone_to};
 

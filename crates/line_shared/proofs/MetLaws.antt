@@ -11,7 +11,7 @@ use Rattle.irq_base.specs.declared.entries.Actor.{Actor}
 use Rattle.irq_base.specs.declared.entries.Entry.{Entry}
 use Rattle.line_lock.specs.Knows.{is_among, without_of, forked, IsCount, Meets, IsKnown}
 use Rattle.irq_model.specs.Kinds.{same_actor, is_by}
-use Rattle.irq_steps.proofs.Same.{same_self_actor, actor_from_same}
+use Rattle.irq_model.proofs.Same.{same_self_actor, actor_from_same}
 use Rattle.line_lock.specs.Placed.{placed, placed_from, placed_of}
 use Rattle.line_lock.specs.declared.view.Known.{Known}
 use Rattle.line_lock.specs.declared.view.Placed.{Placed}

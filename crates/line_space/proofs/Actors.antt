@@ -25,8 +25,8 @@ use Rattle.irq_model.specs.Next.{next_past, next_of_driver}
 use Rattle.irq_model.specs.Rounds.{is_cpu}
 use Rattle.irq_model.specs.Signal.{lowest_in}
 use Rattle.irq_model.specs.Valid.{IsValid}
-use Rattle.irq_model.specs.ValidRuns.{HasValidRuns, NeverWaits}
-use Rattle.irq_steps.proofs.Same.{dev_from_same, driver_from_same, cpu_from_same}
+use Rattle.irq_model.specs.ValidRuns.{HasValidRuns}
+use Rattle.irq_model.proofs.Same.{dev_from_same, driver_from_same, cpu_from_same}
 use Rattle.irq_line.specs.Queries.{is_some_take}
 use Rattle.act_thread.specs.declared.rows.ThreadRow.{ThreadRow}
 use Rattle.device_table.proofs.Tables.{at_none}
@@ -96,7 +96,7 @@ takes s c e true false true h = ap is_some_take (sym h)
 takes s c e true false false h = cc
 takes s c e false line soft h = cc
 
-module _ (def : LineDef) (valid : IsValid def) (runs : HasValidRuns def) (waits : NeverWaits def) (g : List Entry) (legal : IsLegalPast def g)
+module _ (def : LineDef) (valid : IsValid def) (runs : HasValidRuns def) (g : List Entry) (legal : IsLegalPast def g)
     (scripts : List (DriverNo × RowSeen)) (are : AreScripts def scripts)
     (at_places : (r : DriverNo) → IsAt def g r (place_of scripts r) (within_of scripts r)) where
   abbrev s : StateSeen
@@ -148,7 +148,7 @@ module _ (def : LineDef) (valid : IsValid def) (runs : HasValidRuns def) (waits 
           ∙ takes (state_of def g) c e (is_cpu c (lowest_in (state_of def g).aim.cpus (state_of def g).aim.mask))
           (signals (state_of def g).cell) (state_of def g).desc.soft h in
           behind_flow (actors.Cpu c) (Contains-append_left (cpus_in (taker_of (state_of def g))) (drivers_of (drivers_in def.calls)) (actors.Cpu c)
-          (cpu_there (taker_of (state_of def g)) c ((is_taker def g valid runs waits legal c).1 take)))
+          (cpu_there (taker_of (state_of def g)) c ((is_taker def g valid runs legal c).1 take)))
 
   driver_asked : (r : DriverNo) (e : Entry) → next_past def g (actors.Driver r) ≡ Some e → Asked (actors.Driver r)
   driver_asked r e due = by_there (list_any (same_driver r) (drivers_in def.calls)) refl

@@ -96,7 +96,7 @@ room_canon v h t None room = tt
 room_canon v h t (Some r) room = (room.0, kept_few v r.fresh room.1)
 
 module _ (def : LineDef) (g : List Entry) (t : StateSeen) (again : unbitted t ≡ canon (state_of def g)) where
-  canon_again : canon t ≡ canon (canon (state_of def g))
+  pub canon_again : canon t ≡ canon (canon (state_of def g))
   canon_again = sym (unbitted_canon t) ∙ ap canon again
 
   -- a fact of the canonical state that thread bits don't touch

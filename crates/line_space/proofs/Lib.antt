@@ -2,6 +2,7 @@ pub mod Once
 pub mod ReadAt
 pub mod Beside
 pub mod Again
+pub mod HungAgain
 pub mod Stepped
 pub mod Actors
 pub mod Lists
@@ -9,3 +10,7 @@ pub mod Adding
 pub mod Firsts
 pub mod Pushing
 pub mod Gathering
+pub mod Nodes
+pub mod SearchLaws
+pub mod FirstRows
+pub mod Resting

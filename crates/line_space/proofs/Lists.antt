@@ -10,7 +10,7 @@ use Rattle.irq_base.specs.declared.numbers.DriverNo.{DriverNo}
 use Rattle.irq_model.specs.Legal.{IsDue, IsLegalPast}
 use Rattle.irq_model.specs.Next.{next_past}
 use Rattle.irq_model.specs.Valid.{IsValid}
-use Rattle.irq_model.specs.ValidRuns.{HasValidRuns, NeverWaits}
+use Rattle.irq_model.specs.ValidRuns.{HasValidRuns}
 use Rattle.irq_laws.proofs.OwnLaws.{due_is_own_past}
 use Rattle.line_scripts.specs.Rows.{RowSeen, place_of, within_of}
 use Rattle.line_marks.specs.Scripts.{IsAt}
@@ -101,7 +101,7 @@ module _ (def : LineDef) (g : List Entry) where
       by_due None due rest = rest
       by_due (Some e) due rest = once_more e (entries_in (all_steps def g xs)) (new e due) rest
 
-  module _ (valid : IsValid def) (runs : HasValidRuns def) (waits : NeverWaits def) (legal : IsLegalPast def g)
+  module _ (valid : IsValid def) (runs : HasValidRuns def) (legal : IsLegalPast def g)
       (scripts : List (DriverNo × RowSeen)) (are : AreScripts def scripts)
       (at_places : (r : DriverNo) → IsAt def g r (place_of scripts r) (within_of scripts r)) where
     pub are_steps : AreSteps (IsDue def) (node def) g (all_steps def g
@@ -109,6 +109,6 @@ module _ (def : LineDef) (g : List Entry) where
     are_steps = record {
       each = each_step (actors_by def (state_of def g).desc.flow (taker_of (state_of def g)) (drivers_in def.calls));
       all = λ e due. has_step (actors_by def (state_of def g).desc.flow (taker_of (state_of def g)) (drivers_in def.calls)) (actor_of e) e
-          (asked def valid runs waits g legal scripts are at_places (actor_of e) e due) due;
+          (asked def valid runs g legal scripts are at_places (actor_of e) e due) due;
       once = once_steps (actors_by def (state_of def g).desc.flow (taker_of (state_of def g)) (drivers_in def.calls)) (actors_apart def valid (state_of def g));
     }

@@ -17,7 +17,7 @@ use Rattle.irq_model.specs.Lines.{is_device}
 use Rattle.irq_model.specs.Rounds.{is_cpu}
 use Rattle.irq_model.specs.Signal.{lowest_in}
 use Rattle.irq_model.specs.Valid.{IsValid, HasDistinctDevices}
-use Rattle.irq_steps.proofs.Same.{same_self, same_self_cpu, same_self_driver}
+use Rattle.irq_model.proofs.Same.{same_self, same_self_cpu, same_self_driver}
 use Rattle.line_marks.specs.State.{StateSeen}
 use Rattle.line_state.specs.Seen.{taker_of, unless_in_flow}
 use Rattle.line_words.specs.Node.{drivers_in}

@@ -5,7 +5,7 @@ use Rattle.irq_base.specs.declared.lines.LineDef.{LineDef}
 use Rattle.irq_base.specs.declared.numbers.DriverNo.{DriverNo}
 use Rattle.irq_model.specs.Legal.{IsLegalPast}
 use Rattle.irq_model.specs.Valid.{IsValid}
-use Rattle.irq_model.specs.ValidRuns.{HasValidRuns, NeverWaits}
+use Rattle.irq_model.specs.ValidRuns.{HasValidRuns}
 use Rattle.line_futures.specs.Canon.{canon}
 use Rattle.line_marks.specs.Scripts.{IsAt}
 use Rattle.line_marks.specs.State.{state_of}
@@ -23,7 +23,6 @@ use Rattle.line_space.specs.declared.scratch.Scratch.{Scratch}
 pub record ReadAt (def : LineDef) (g : List Entry) (l : LineStateSeen) (scripts : List (DriverNo × RowSeen)) : Type 0 where
   pub valid : IsValid def
   pub valid_runs : HasValidRuns def
-  pub waits : NeverWaits def
   pub legal : IsLegalPast def g
   pub few : length g < 100000000
   pub again : unbitted l.state ≡ canon (state_of def g)
@@ -33,13 +32,12 @@ pub record ReadAt (def : LineDef) (g : List Entry) (l : LineStateSeen) (scripts 
   pub are : AreScripts def scripts
   pub places : (r : DriverNo) → IsAt def g r (place_of scripts r) (within_of scripts r)
 
-pub read_at : {def : LineDef} {ws : List ℕ} {scratch : Scratch} {g : List Entry} → IsValid def → HasValidRuns def → NeverWaits def
+pub read_at : {def : LineDef} {ws : List ℕ} {scratch : Scratch} {g : List Entry} → IsValid def → HasValidRuns def
     → IsRead def ws scratch → IsLegalPast def g → ws ≡ node def g → length g < 100000000 → ReadAt def g scratch.state scratch.scripts
-read_at {def} {ws} {scratch} {g} valid runs waits read legal same few =
+read_at {def} {ws} {scratch} {g} valid runs read legal same few =
     record {
       valid = valid;
       valid_runs = runs;
-      waits = waits;
       legal = legal;
       few = few;
       again = read.state g legal same;

@@ -12,7 +12,7 @@ use Rattle.irq_model.specs.Kinds.{same_driver}
 use Rattle.irq_model.specs.Legal.{IsDue}
 use Rattle.irq_model.specs.Next.{next, next_past}
 use Rattle.irq_model.specs.Valid.{IsValid}
-use Rattle.irq_steps.specs.Laid.{Laid}
+use Rattle.irq_model.specs.Laid.{Laid}
 use Rattle.irq_laws.proofs.LogLaws.{log_is_no_rule}
 use Rattle.irq_laws.proofs.OwnLaws.{due_is_own_past}
 use Rattle.irq_laws.specs.LogLimit.{with_log}

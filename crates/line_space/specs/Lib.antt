@@ -1,3 +1,4 @@
 pub mod Reading
 pub mod Kept
 pub mod Stepping
+pub mod Found

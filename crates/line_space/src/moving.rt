@@ -4,7 +4,7 @@ ghost use Rattle.std.specs.List.{filter};
 ghost use Rattle.irq_base.specs.declared.entries.Entry.{Entry};
 ghost use Rattle.irq_model.specs.Legal.{IsLegalPast};
 ghost use Rattle.irq_model.specs.Valid.{IsValid};
-ghost use Rattle.irq_model.specs.ValidRuns.{HasValidRuns, NeverWaits};
+ghost use Rattle.irq_model.specs.ValidRuns.{HasValidRuns};
 ghost use Rattle.line_space.specs.Reading.{IsKept, IsRead};
 ghost use Rattle.line_space.specs.Stepping.{IsReached, steps_of, all_steps, actors_by, is_due_in};
 ghost use Rattle.line_space.specs.Stepping.{threads_in, cpus_in, drivers_of};
@@ -32,7 +32,6 @@ pub(crate) fn add_due(
 ) -> Result<(), NoMemory>
     requires valid { IsValid def.now }
     requires runs { HasValidRuns def.now }
-    requires waits { NeverWaits def.now }
     requires more { more ≡ has_more def.now }
     requires drivers { drivers.now ≡ drivers_in def.now.calls }
     requires reached { IsReached def.now words.now }
@@ -64,7 +63,6 @@ pub(crate) fn add_all(
 ) -> Result<(), NoMemory>
     requires valid { IsValid def.now }
     requires runs { HasValidRuns def.now }
-    requires waits { NeverWaits def.now }
     requires more { more ≡ has_more def.now }
     requires drivers { drivers.now ≡ drivers_in def.now.calls }
     requires reached { IsReached def.now words.now }

@@ -3,7 +3,7 @@ ghost use Rattle.std.specs.Prelude.{◌≡◌, IfOk};
 ghost use Rattle.irq_base.specs.declared.numbers.DriverNo.{DriverNo};
 ghost use Rattle.irq_model.specs.Legal.{IsDue};
 ghost use Rattle.irq_model.specs.Valid.{IsValid};
-ghost use Rattle.irq_model.specs.ValidRuns.{HasValidRuns, NeverWaits};
+ghost use Rattle.irq_model.specs.ValidRuns.{HasValidRuns};
 ghost use Rattle.line_scripts.specs.Rows.{place_of, within_of};
 ghost use Rattle.line_words.specs.Node.{node};
 ghost use Rattle.line_words.specs.Scripts.{AreScripts};
@@ -54,7 +54,6 @@ impl LineSpace {
     pub fn new(alloc: Global, def: &LineDef) -> Result<LineSpace, NoMemory>
         requires valid { IsValid def.now }
         requires runs { HasValidRuns def.now }
-        requires waits { NeverWaits def.now }
         ensures { IfOk result (λ space. space ≡ def.now) }
     {
         let more = has_more(def);

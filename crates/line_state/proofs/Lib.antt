@@ -5,3 +5,7 @@ pub mod Idle
 pub mod Owners
 pub mod Targets
 pub mod Unlinking
+pub mod LowestOf
+pub mod Ranks
+pub mod Goes
+pub mod Could

@@ -4,7 +4,7 @@ use Rattle.irq_base.specs.declared.lines.LineDef.{LineDef}
 use Rattle.irq_base.specs.declared.numbers.DevNo.{DevNo}
 use Rattle.irq_model.specs.Kinds.{same_dev}
 use Rattle.irq_model.specs.Lines.{has_device}
-use Rattle.irq_steps.proofs.Same.{same_self}
+use Rattle.irq_model.proofs.Same.{same_self}
 use Rattle.device_table.specs.Rows.{at}
 use Rattle.act_list.specs.Actions.{has}
 use Rattle.act_list.specs.Lists.{begun_at, first_left}

@@ -1,6 +1,6 @@
 -- What is seen of the state of a line, and what is read off it.
-use Rattle.std.specs.Prelude.{◌≡◌, ◌+◌, ◌<◌, ◌^◌, ℕ, Bool, true, not, ◌||◌, if◌then◌else◌, is_some}
-use Rattle.std.specs.Prelude.{IsSome, Option, Some, None}
+use Rattle.std.specs.Prelude.{◌≡◌, ◌+◌, ◌<◌, ◌^◌, ℕ, Bool, true, false, not, ◌||◌, if◌then◌else◌}
+use Rattle.std.specs.Prelude.{is_some, is_none, IsSome, Option, Some, None, List, [], ◌∷◌}
 use Rattle.irq_base.specs.Cell.{signals}
 use Rattle.irq_base.specs.Wiring.{Wiring}
 use Rattle.irq_base.specs.declared.calls.Call.{Call}
@@ -12,15 +12,16 @@ use Rattle.irq_base.specs.declared.numbers.DevNo.{DevNo}
 use Rattle.irq_model.specs.Lines.{has_device}
 use Rattle.irq_model.specs.Rounds.{is_cpu}
 use Rattle.irq_model.specs.Signal.{lowest_in}
-use Rattle.device_table.specs.Rows.{at, lowest_where}
+use Rattle.device_table.specs.Rows.{at, lower}
 use Rattle.act_list.specs.Actions.{has}
-use Rattle.act_thread.specs.Steps.{could_step}
 use Rattle.act_thread.specs.declared.rows.ThreadRow.{ThreadRow}
 use Rattle.affinity.specs.Seen.{AimSeen}
 use Rattle.desc_state.specs.Desc.{DescSeen}
 use Rattle.run_scripts.specs.Groups.{GroupsSeen}
 use Rattle.run_scripts.specs.Places.{place_at}
 use Rattle.run_scripts.specs.Runs.{RunsSeen, AreRunsOf, call_of}
+use Rattle.line_marks.specs.CpuDue.{cpu_due}
+use Rattle.line_marks.specs.Due.{thread_due}
 use Rattle.line_marks.specs.State.{StateSeen}
 
 -- what no step changes: how the chips are wired, and what runs call and answer
@@ -73,9 +74,19 @@ taker_of s =
 abbrev pub may_go_on : DescSeen → Bool
 may_go_on d = not d.oneshot || not (is_some d.flow)
 
+-- the lowest of the devices with a row that pass
+abbrev pub lowest_of : (DevNo → Bool) → List (DevNo × ThreadRow) → Option DevNo
+lowest_of p [] = None
+lowest_of p (e ∷ es) = if p e.0 then Some (lower e.0 (lowest_of p es)) else lowest_of p es
+
 -- the device of the lowest number whose thread has an entry due
-abbrev pub lowest_due : StateSeen → Option DevNo
-lowest_due s = lowest_where (could_step (may_go_on s.desc)) s.threads
+abbrev pub lowest_due : LineDef → StateSeen → Option DevNo
+lowest_due def s = lowest_of (λ d. is_some (thread_due def s d)) s.threads
+
+-- a processor of the flow in progress that has no entry due
+abbrev pub spins_in : LineDef → StateSeen → Option CpuNo → Bool
+spins_in def s None = false
+spins_in def s (Some c) = is_none (cpu_due def s c)
 
 -- the aim is one of the definition's
 pub record IsAimOf (def : LineDef) (a : AimSeen) : Type 0 where

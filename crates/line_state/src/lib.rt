@@ -26,6 +26,7 @@ pub mod run_due;
 pub mod runs;
 pub mod state;
 pub mod thread_due;
+pub mod waits;
 
 pub use due::{CallStep, CpuStep, DriverStep, DueStep, ThreadStep};
 pub use round::Round;

@@ -1,12 +1,14 @@
 //! The parts, and what is read off them.
 ghost use Rattle.std.specs.Prelude.{◌≡◌, ◌≤◌, false, IfOk, OnOk};
+ghost use Rattle.irq_base.specs.declared.lines.LineDef.{LineDef};
 ghost use Rattle.irq_model.specs.Valid.{IsValid};
 ghost use Rattle.irq_model.specs.ValidRuns.{HasValidRuns};
 ghost use Rattle.act_thread.specs.Threads.{active_in, is_idle_at};
 ghost use Rattle.run_scripts.specs.Runs.{AreRunsOf};
 ghost use Rattle.line_marks.specs.Facts.{kind_at};
 ghost use Rattle.line_marks.specs.State.{first_state};
-ghost use Rattle.line_state.specs.Seen.{runs_seen, taker_of, lowest_due, may_go_on};
+ghost use Rattle.line_state.specs.Seen.{IsScripted, runs_seen, taker_of, lowest_due};
+ghost use Rattle.line_state.specs.Seen.{spins_in};
 
 use crate::round::Round;
 use act_list::ActList;
@@ -19,6 +21,9 @@ use run_scripts::RunScripts;
 use spurious::Counts;
 use std::alloc::Global;
 use std::marker::Model;
+
+/// How many devices a line has at most.
+const MOST_DEVICES: u32 = 256;
 
 /// All that a line keeps of its history but its drivers' places in their scripts (`struct
 /// irq_desc`, `include/linux/irqdesc.h`). Contracts see the state that the definitions read off a
@@ -149,12 +154,48 @@ impl<C: Chip> LineState<C> {
         Some(target)
     }
 
-    /// The device of the lowest number whose thread has an entry due, if there is one.
+    /// Whether the processor of the flow in progress has no entry due: a handler of it waits for
+    /// the end of the flow.
+    pub fn spins(&self) -> bool
+        ensures { (def : LineDef) → HasValidRuns def → IsScripted def self.now
+            → result ≡ spins_in def self.now.state self.now.state.desc.flow }
+    {
+        if !self.runs.may_wait() {
+            return false;
+        }
+        match self.desc.flow() {
+            Some(cpu) => self.due_of_cpu(cpu).is_none(),
+            None => false,
+        }
+    }
+
+    /// The device of the lowest number whose thread has an entry due, if there is one. Only where
+    /// runs may wait are other threads looked at than the lowest that could step.
     pub fn lowest_thread(&self) -> Option<DevNo>
-        ensures { result ≡ lowest_due self.now.state }
+        ensures { (def : LineDef) → HasValidRuns def → IsScripted def self.now
+            → result ≡ lowest_due def self.now.state }
     {
         let goes_on = !self.desc.oneshot() || self.desc.flow().is_none();
-        self.threads.lowest(goes_on)
+        let lowest = self.threads.lowest(goes_on)?;
+        if !self.runs.may_wait() || self.due_of_thread(lowest).is_some() {
+            return Some(lowest);
+        }
+        self.lowest_that_moves()
+    }
+
+    /// The same, by a look at each thread in the order of their devices' numbers.
+    #[inline(never)]
+    fn lowest_that_moves(&self) -> Option<DevNo>
+        ensures { (def : LineDef) → IsScripted def self.now
+            → result ≡ lowest_due def self.now.state }
+    {
+        for rank in 0..MOST_DEVICES {
+            let dev = self.threads.device(rank)?;
+            if self.due_of_thread(dev).is_some() {
+                return Some(dev);
+            }
+        }
+        None
     }
 
     /// How many threads are to run, plus how many are in a run: what `synchronize_irq` waits for.

@@ -5,7 +5,7 @@ use Rattle.std.proofs.lemmas.Option.{slice_get_within}
 use Rattle.irq_base.specs.declared.entries.Entry.{Entry}
 use Rattle.irq_base.specs.declared.lines.LineDef.{LineDef}
 use Rattle.irq_model.specs.Legal.{IsLegalPast}
-use Rattle.line_search.specs.Found.{IsShortest as IsShortestBefore}
+use Rattle.line_space.specs.Found.{IsShortest as IsShortestBefore}
 use Rattle.line_wanted.specs.Wanted.{IsShortest}
 use Rattle.line_wanted.specs.declared.wanted.Wanted.TheVariants as wants
 use Rattle.state_search.specs.Seen.{SearchSeen}

@@ -1,19 +1,19 @@
 -- The rows of the ways in which the line is left, state by state.
 use Rattle.std.proofs.Common.{◌≡◌, ◌≤◌, ◌<◌, ◌+◌, ℕ, zero, suc, ◌⊎◌, inl, inr, Bool, true, false, Some, List, [], ◌∷◌, ◌++◌}
-use Rattle.std.proofs.Common.{take, length, reverse, slice_get, slice_set, refl, ap, sym, subst, ◌∙◌, arith, ltb, nat_eq}
+use Rattle.std.proofs.Common.{take, length, slice_get, slice_set, refl, ap, sym, subst, ◌∙◌, arith, ltb, nat_eq}
 use Rattle.std.proofs.lemmas.Bool.Decides.{nat_tests}
 use Rattle.std.proofs.lemmas.Option.{get_or_from_slice_get, slice_get_within}
 use Rattle.irq_base.specs.declared.entries.Entry.{Entry}
 use Rattle.irq_base.specs.declared.lines.LineDef.{LineDef}
-use Rattle.irq_model.specs.Waits.{IsAtRest}
 use Rattle.device_table.proofs.Steps.{take_item}
-use Rattle.line_wanted.specs.Left.{left_of}
+use Rattle.line_wanted.specs.Left.{Leaves}
 use Rattle.line_wanted.specs.declared.left.Left.{Left}
 use Rattle.state_search.proofs.Places.{one_at, there, push_cases, at_old, at_seam}
 use Rattle.line_survey.proofs.Lists.{set_cases, set_here, set_there, taken}
+use Rattle.line_survey.proofs.OneLeft.{one_left}
 use Rattle.line_survey.proofs.Counting.{one_more, no_more, none_pass, at_most}
 use Rattle.line_survey.specs.Growing.{IsRowAt, IsNoted, AreRestsTo}
-use Rattle.line_survey.specs.Rests.{Leaves, LeavesAt, RestsAt, MovesAt, IsFirstAt}
+use Rattle.line_survey.specs.Rests.{IsStill, LeavesAt, RestsAt, MovesAt, IsFirstAt}
 use Rattle.line_survey.specs.Seen.{depth_at}
 use Rattle.line_survey.specs.Surveyed.{AreSoMany}
 use Rattle.line_survey.specs.declared.survey.RestRow.{RestRow}
@@ -35,8 +35,8 @@ module _ (def : LineDef) (paths : List (List Entry)) (n : ℕ) (p : List Entry) 
   one_longer : take (n + 1) paths ≡ take n paths ++ p ∷ []
   one_longer = take_item paths n p here
 
-  -- a state that isn't at rest changes nothing
-  module _ (moves : IsAtRest def (reverse p) → ⊥) (rows : List RestRow) (before : AreRestsTo def paths n rows) where
+  -- a state in which something is due changes nothing
+  module _ (moves : IsStill def p → ⊥) (rows : List RestRow) (before : AreRestsTo def paths n rows) where
     pub not_at_rest : AreRestsTo def paths (n + 1) rows
     not_at_rest = record {
       each = λ k r is. let x = before.each k r is in (x.0, omega (arith, x.1), x.2, x.3);
@@ -44,7 +44,7 @@ module _ (def : LineDef) (paths : List (List Entry)) (n : ℕ) (p : List Entry) 
           subst
           (λ (ps : List (List Entry)). AreSoMany (Leaves def r.left) ps r.states)
           (sym one_longer)
-          (no_more (Leaves def r.left) (take n paths) r.states p (λ leaves. moves leaves.0) (before.states k r is));
+          (no_more (Leaves def r.left) (take n paths) r.states p (λ leaves. moves leaves.still) (before.states k r is));
       all = λ j left lt at. old_place j left at (split j lt);
       once = before.once;
       rising = before.rising;
@@ -52,19 +52,16 @@ module _ (def : LineDef) (paths : List (List Entry)) (n : ℕ) (p : List Entry) 
       where
         old_place : (j : ℕ) (left : Left) → LeavesAt def paths left j → (j < n) ⊎ (j ≡ n) → (k : ℕ) × (r : RestRow) × IsRowAt rows left k r
         old_place j left at (inl lt) = before.all j left lt at
-        old_place j left at (inr same) = absurd (moves (leaves_here left j same at).0)
+        old_place j left at (inr same) = absurd (moves (leaves_here left j same at).still)
 
-  -- a state at rest is counted
-  module _ (rests : IsAtRest def (reverse p)) (left : Left) (left_is : left ≡ left_of def p) (len : ℕ) (len_is : len ≡ depth_at paths n)
+  -- a state in which nothing is due is counted
+  module _ (left : Left) (mine : Leaves def left p) (len : ℕ) (len_is : len ≡ depth_at paths n)
       (rows : List RestRow) (before : AreRestsTo def paths n rows) where
-    mine : Leaves def left p
-    mine = (rests, sym left_is)
-
     mine_at : LeavesAt def paths left n
     mine_at = (p, here, mine)
 
     same_way : (other : Left) → Leaves def other p → left ≡ other
-    same_way other leaves = left_is ∙ leaves.1
+    same_way other leaves = one_left def p left other mine leaves
 
     counts : (other : Left) (m : ℕ) → AreSoMany (Leaves def other) (take n paths ++ p ∷ []) m → AreSoMany (Leaves def other) (take (n + 1) paths) m
     counts other m many = subst (λ (ps : List (List Entry)). AreSoMany (Leaves def other) ps m) (sym one_longer) many
@@ -233,9 +230,9 @@ take_short (suc n) [] = omega arith
 take_short (suc n) (x ∷ xs) = omega (arith, take_short n xs)
 
 module _ (def : LineDef) (paths : List (List Entry)) (n : ℕ) (within : n < length paths) where
-  -- of states at rest alone
+  -- of states in which nothing is due alone
   abbrev Rests : List Entry → Type 0
-  Rests p = IsAtRest def (reverse p)
+  Rests p = IsStill def p
 
   pub rest_next : (m : ℕ) → RestsAt def paths n → AreSoMany Rests (take n paths) m → AreSoMany Rests (take (n + 1) paths) (m + 1)
   rest_next m rests many =
@@ -259,9 +256,9 @@ module _ (def : LineDef) (paths : List (List Entry)) (n : ℕ) (within : n < len
 
   module _ (rising : (j k : ℕ) (p q : List Entry) → j ≤ k → slice_get paths j ≡ Some p → slice_get paths k ≡ Some q → length p ≤ length q) where
     pub rows_count : (rows new : List RestRow) (left : Left) (len : ℕ) → RestsAt def paths n
-        → ((p : List Entry) → slice_get paths n ≡ Some p → left ≡ left_of def p) → len ≡ depth_at paths n
+        → ((p : List Entry) → slice_get paths n ≡ Some p → IsStill def p → Leaves def left p) → len ≡ depth_at paths n
         → AreRestsTo def paths n rows → IsNoted left len rows new → AreRestsTo def paths (n + 1) new
-    rows_count rows new left len rests left_is len_is are noted = by_case noted
+    rows_count rows new left len rests leaves len_is are noted = by_case noted
       where
         p : List Entry
         p = (there paths n within).0
@@ -282,7 +279,7 @@ module _ (def : LineDef) (paths : List (List Entry)) (n : ℕ) (within : n < len
         by_case : IsNoted left len rows new → AreRestsTo def paths (n + 1) new
         by_case (inl old) =
             subst (AreRestsTo def paths (n + 1)) (sym old.3)
-            (again_counted def paths n p here (rests p here) left (left_is p here) len len_is rows are old.0 old.1 old.2.0 old.2.1)
+            (again_counted def paths n p here left (leaves p here (rests p here)) len len_is rows are old.0 old.1 old.2.0 old.2.1)
         by_case (inr first) =
             subst (AreRestsTo def paths (n + 1)) (sym first.1)
-            (first_counted def paths n p here (rests p here) left (left_is p here) len len_is rows are first.0 rises)
+            (first_counted def paths n p here left (leaves p here (rests p here)) len len_is rows are first.0 rises)

@@ -1,10 +1,12 @@
 pub mod Lists
 pub mod Counting
 pub mod Lefts
+pub mod OneLeft
 pub mod Entries
 pub mod Rests
 pub mod Growing
 pub mod Surveys
 pub mod OfLine
 pub mod Meeting
+pub mod Placing
 pub mod Sought

@@ -1,5 +1,5 @@
 -- Which states are wanted, by what is found after them.
-use Rattle.std.proofs.Common.{◌≡◌, ◌<◌, ◌≤◌, ℕ, true, false, Contains, List, ◌∷◌, map, length, reverse}
+use Rattle.std.proofs.Common.{◌≡◌, ◌<◌, ◌≤◌, ℕ, true, false, Contains, List, ◌∷◌, map, length}
 use Rattle.std.proofs.Common.{slice_get, Some, sym, ap, subst, ◌∙◌, arith}
 use Rattle.std.proofs.Common.{true≢false}
 use Rattle.std.proofs.lemmas.List.{length-map}
@@ -8,9 +8,8 @@ use Rattle.irq_base.proofs.SameEntries.{same_entries}
 use Rattle.irq_base.specs.contracts.entries.EntryEq.TheImpl.Laws as entry_laws
 use Rattle.irq_base.specs.declared.entries.Entry.{Entry}
 use Rattle.irq_model.specs.Legal.{IsDue, IsLegalPast}
-use Rattle.irq_model.specs.Waits.{IsAtRest}
-use Rattle.line_search.proofs.Searching.{path_is_legal}
-use Rattle.line_wanted.specs.Left.{left_of}
+use Rattle.line_space.proofs.SearchLaws.{path_is_legal}
+use Rattle.line_wanted.specs.Left.{Leaves}
 use Rattle.line_wanted.specs.contracts.left.LeftEq.TheImpl.Laws as left_laws
 use Rattle.line_wanted.specs.contracts.left.LeftPartialEq.TheImpl as left_eq
 use Rattle.line_wanted.specs.declared.left.Left.{Left}
@@ -19,9 +18,10 @@ use Rattle.line_wanted.specs.declared.wanted.Wanted.TheVariants as wants
 use Rattle.line_words.specs.Node.{node}
 use Rattle.state_search.proofs.Places.{all_at, one_at, contains_at, contains_from, map_at, map_from, there}
 use Rattle.state_search.specs.Paths.{IsPath, AreSteps}
+use Rattle.line_survey.proofs.OneLeft.{one_left}
 use Rattle.line_survey.proofs.Rests.{settled_none, none_settled}
-use Rattle.line_survey.specs.Kept.{same_entry, IsUnwaiting}
-use Rattle.line_survey.specs.Rests.{Leaves}
+use Rattle.line_survey.specs.Kept.{same_entry, IsValidLine}
+use Rattle.line_survey.specs.Rests.{IsStill}
 use Rattle.line_survey.specs.Answers.{IsMetBy}
 use Rattle.line_survey.specs.Wanting.{WantedSeen}
 
@@ -75,7 +75,7 @@ module _ (s : WantedSeen) (words : List ℕ) (found : List (Entry × List ℕ))
       → IsMetBy s.def s.wanted g → ⊥
   row_unmet e is lacks g path same met = lacks ((steps g path same).all e (subst (λ (w : Wanted). IsMetBy s.def w g) is met))
 
-  module _ (asked : IsUnwaiting s.def) (left : Left) (is : s.wanted ≡ wants.Rest left) where
+  module _ (asked : IsValidLine s.def) (left : Left) (is : s.wanted ≡ wants.Rest left) where
     leaves : (g : List Entry) → IsMetBy s.def s.wanted g → Leaves s.def left g
     leaves g met = subst (λ (w : Wanted). IsMetBy s.def w g) is met
 
@@ -83,21 +83,24 @@ module _ (s : WantedSeen) (words : List ℕ) (found : List (Entry × List ℕ))
     pub moves_on : 0 < length found → (g : List Entry) → IsPath (IsDue s.def) g → node s.def g ≡ words → IsMetBy s.def s.wanted g → ⊥
     moves_on some g path same met =
         let f = there found 0 some in
-        settled_none s.def asked g (leaves g met).0 f.0.0 (all_at (IsDueIn g) found 0 f.0 (steps g path same).each f.1).0
+        settled_none s.def asked g (leaves g met).still f.0.0 (all_at (IsDueIn g) found 0 f.0 (steps g path same).each f.1).0
 
     -- nothing is due, and this is how the line is left
     module _ (none : length found ≡ 0) (told : Left)
-        (tells : (past : List Entry) → IsLegalPast s.def past → words ≡ node s.def past → told ≡ left_of s.def past) where
-      still : (g : List Entry) → IsPath (IsDue s.def) g → node s.def g ≡ words → IsAtRest s.def (reverse g)
-      still g path same = none_settled s.def asked g (path_is_legal s.def g path) (λ e due. no_entry e ((steps g path same).all e due))
+        (tells : (past : List Entry) → IsLegalPast s.def past → words ≡ node s.def past → IsStill s.def past → Leaves s.def told past) where
+      still : (g : List Entry) → IsPath (IsDue s.def) g → node s.def g ≡ words → IsStill s.def g
+      still g path same = none_settled s.def asked g (λ e due. no_entry e ((steps g path same).all e due))
         where
           no_entry : (e : Entry) → Contains (labels_of found) e → ⊥
           no_entry e has = absurd (omega (arith, has.1, length-map found (λ (f : Entry × List ℕ). f.0), none))
 
+      said : (g : List Entry) → IsPath (IsDue s.def) g → node s.def g ≡ words → Leaves s.def told g
+      said g path same = tells g (path_is_legal s.def g path) (sym same) (still g path same)
+
       pub rest_met : told ≡ left → (g : List Entry) → IsPath (IsDue s.def) g → node s.def g ≡ words → IsMetBy s.def s.wanted g
       rest_met so g path same =
-          let l : Leaves s.def left g = (still g path same, sym (tells g (path_is_legal s.def g path) (sym same)) ∙ so) in
+          let l : Leaves s.def left g = subst (λ (x : Left). Leaves s.def x g) so (said g path same) in
           subst (λ (w : Wanted). IsMetBy s.def w g) (sym is) l
 
       pub rest_unmet : (told ≡ left → ⊥) → (g : List Entry) → IsPath (IsDue s.def) g → node s.def g ≡ words → IsMetBy s.def s.wanted g → ⊥
-      rest_unmet other g path same met = other (tells g (path_is_legal s.def g path) (sym same) ∙ (leaves g met).1)
+      rest_unmet other g path same met = other (one_left s.def g told left (said g path same) (leaves g met))

@@ -1,76 +1,73 @@
--- What a search says of a line at rest.
+-- What a search says of a line on which nothing more is due.
 use Rattle.std.proofs.Common.{◌≡◌, ◌≤◌, ◌<◌, ◌⊎◌, inl, inr, Contains, ℕ, zero, suc, Bool, true, false, ltb, Option}
 use Rattle.std.proofs.Common.{None, Some, List, map, take, length}
-use Rattle.std.proofs.Common.{reverse, slice_get, refl, ap, sym, subst, ◌∙◌, arith}
+use Rattle.std.proofs.Common.{slice_get, refl, ap, sym, subst, ◌∙◌, arith}
 use Rattle.std.specs.Option.{option_map}
 use Rattle.std.proofs.lemmas.Bool.Decides.{nat_tests}
-use Rattle.std.proofs.lemmas.List.{reverse-reverse}
 use Rattle.std.proofs.lemmas.Option.{slice_get_within, none-some}
 use Rattle.irq_base.specs.Who.{actor_of}
 use Rattle.irq_base.specs.declared.entries.Actor.{Actor}
 use Rattle.irq_base.specs.declared.entries.Entry.{Entry}
 use Rattle.irq_base.specs.declared.lines.LineDef.{LineDef}
 use Rattle.irq_laws.proofs.OwnLaws.{due_is_own_past}
-use Rattle.irq_model.specs.Legal.{IsDue, IsLegal, IsLegalPast}
+use Rattle.irq_model.specs.Legal.{IsDue, IsLegalPast}
 use Rattle.irq_model.specs.Next.{next_past}
-use Rattle.irq_model.specs.Waits.{IsAtRest}
+use Rattle.irq_model.specs.Waits.{IsLowestHungPast}
 use Rattle.line_futures.proofs.Futures.{due_alike}
-use Rattle.line_search.proofs.Nodes.{node_tells}
-use Rattle.line_search.proofs.Searching.{path_is_legal, legal_is_path}
+use Rattle.line_space.proofs.Nodes.{node_tells}
+use Rattle.line_space.proofs.SearchLaws.{path_is_legal, legal_is_path}
+use Rattle.line_space.proofs.HungAgain.{hung_alike}
+use Rattle.line_wanted.specs.Left.{Leaves}
 use Rattle.line_wanted.specs.Wanted.{IsShortest}
 use Rattle.line_wanted.specs.declared.left.Left.{Left}
 use Rattle.line_wanted.specs.declared.wanted.Wanted.TheVariants as wants
 use Rattle.line_words.specs.Node.{node}
-use Rattle.play_laws.proofs.Rest.{unwaiting_rests}
 use Rattle.state_search.proofs.Places.{all_at, one_at, same_some, contains_at, map_at, map_from, there}
 use Rattle.state_search.specs.Paths.{IsPath, IsBelow, IsCount}
 use Rattle.state_search.specs.Seen.{SearchSeen, cut_of}
 use Rattle.line_survey.proofs.Lefts.{left_alike}
 use Rattle.line_survey.proofs.Lists.{taken}
-use Rattle.line_survey.specs.Kept.{IsOfLine, IsUnwaiting}
-use Rattle.line_survey.specs.Rests.{Leaves, LeavesAt, RestsAt, MovesAt, IsFirstAt}
+use Rattle.line_survey.proofs.OneLeft.{one_hung}
+use Rattle.line_survey.specs.Kept.{IsOfLine, IsValidLine}
+use Rattle.line_survey.specs.Rests.{IsStill, LeavesAt, RestsAt, MovesAt, IsFirstAt}
 
-module _ (def : LineDef) (asked : IsUnwaiting def) where
+module _ (def : LineDef) (asked : IsValidLine def) where
   -- nothing is due of anybody
   abbrev NoneDue : List Entry → Type 0
   NoneDue p = (e : Entry) → IsDue def e p → ⊥
 
-  pub settled_none : (p : List Entry) → IsAtRest def (reverse p) → NoneDue p
-  settled_none p settled e due =
-      let none = ap (λ (x : List Entry). next_past def x (actor_of e)) (sym (reverse-reverse p)) ∙ settled.still (actor_of e) in
-      cc
+  pub settled_none : (p : List Entry) → IsStill def p → NoneDue p
+  settled_none p still e due = let none = still (actor_of e) in cc
 
-  at_rest : (p : List Entry) → NoneDue p → (a : Actor) → next_past def p a ≡ None
-  at_rest p none a = by_due (next_past def p a) refl
+  pub none_settled : (p : List Entry) → NoneDue p → IsStill def p
+  none_settled p none a = by_due (next_past def p a) refl
     where
       by_due : (o : Option Entry) → next_past def p a ≡ o → next_past def p a ≡ None
       by_due None is = is
       by_due (Some e) is = absurd (none e (ap (next_past def p) (due_is_own_past def p a e is) ∙ is))
-
-  pub none_settled : (p : List Entry) → IsLegalPast def p → NoneDue p → IsAtRest def (reverse p)
-  none_settled p legal none =
-      let back : IsLegal def (reverse p) = subst (λ (x : List Entry). IsLegalPast def x) (sym (reverse-reverse p)) legal in
-      unwaiting_rests def (reverse p) asked.valid asked.runs asked.waits back
-      (λ a one. ap (λ (x : List Entry). next_past def x a) (reverse-reverse p) ∙ at_rest p none a)
 
   -- a past that is alike leaves the line alike
   pub leaves_alike : (left : Left) (g h : List Entry) → IsLegalPast def g → IsLegalPast def h → node def g ≡ node def h → Leaves def left g → Leaves def left h
   leaves_alike left g h legal other same leaves =
       let like = node_tells def asked.valid g h legal other same in
       let back = node_tells def asked.valid h g other legal (sym same) in
-      let none = settled_none g leaves.0 in (
-        none_settled h other (λ e due. none e (due_alike def asked.valid h g other legal back e due)),
-        sym (left_alike def g h asked.valid legal other like.state) ∙ leaves.1,
-      )
+      let none = settled_none g leaves.still in
+      let hung = hung_alike def g h asked.valid asked.runs legal other like in
+      let one : left.hung ≡ hung.0 = one_hung def g left.hung hung.0 leaves.hung hung.1 in
+      record {
+        still = none_settled h (λ e due. none e (due_alike def asked.valid h g other legal back e due));
+        hung = subst (λ (o : Option Actor). IsLowestHungPast def h o) (sym one) hung.2;
+        left_is = sym (left_alike def g h asked.valid legal other like.state left.hung) ∙ leaves.left_is;
+      }
 
-  -- how many entries are due says whether the past is at rest
-  pub count_settled : (p : List Entry) → IsLegalPast def p → IsCount (IsDue def) p 0 → IsAtRest def (reverse p)
-  count_settled p legal count = none_settled p legal (λ e due. no_entry e (count.all e due))
+  -- how many entries are due says whether nothing more is
+  pub count_settled : (p : List Entry) → IsCount (IsDue def) p 0 → IsStill def p
+  count_settled p count = none_settled p (λ e due. no_entry e (count.all e due))
     where
       no_entry : (e : Entry) → Contains count.labels e → ⊥
       no_entry e has = absurd (omega (arith, has.1, count.many))
 
-  pub count_goes_on : (p : List Entry) (n : ℕ) → IsCount (IsDue def) p (suc n) → IsAtRest def (reverse p) → ⊥
+  pub count_goes_on : (p : List Entry) (n : ℕ) → IsCount (IsDue def) p (suc n) → IsStill def p → ⊥
   count_goes_on p n count settled =
       let first = there count.labels 0 (omega (arith, count.many)) in
       settled_none p settled first.0 (all_at (λ e. IsDue def e p) count.labels 0 first.0 count.each first.1)
@@ -80,12 +77,12 @@ module _ (def : LineDef) (asked : IsUnwaiting def) where
     legal_at k p is = path_is_legal def p (all_at (IsPath (IsDue def)) s.paths k p line.searches.paths_are is)
 
     pub rests_at : (k n : ℕ) → slice_get s.counts k ≡ Some n → n ≡ 0 → RestsAt def s.paths k
-    rests_at k n is none p at = count_settled p (legal_at k p at) (subst (IsCount (IsDue def) p) none (line.counts k p n at is))
+    rests_at k n is none p at = count_settled p (subst (IsCount (IsDue def) p) none (line.counts k p n at is))
 
     pub moves_at : (k n : ℕ) → slice_get s.counts k ≡ Some n → (n ≡ 0 → ⊥) → MovesAt def s.paths k
     moves_at k n is some p at = by_count n refl
       where
-        by_count : (m : ℕ) → n ≡ m → IsAtRest def (reverse p) → ⊥
+        by_count : (m : ℕ) → n ≡ m → IsStill def p → ⊥
         by_count zero same settled = some same
         by_count (suc m) same settled = count_goes_on p m (subst (IsCount (IsDue def) p) same (line.counts k p n at is)) settled
 
@@ -158,8 +155,8 @@ module _ (def : LineDef) (asked : IsUnwaiting def) where
 
     pub rest_found : (k : ℕ) (p : List Entry) → k < s.looked → IsFirstAt def s.paths left k → slice_get s.paths k ≡ Some p → IsShortest def (wants.Rest left) p
     rest_found k p within first is = record {
-      meets = (legal_at s line k p is, mine.0, mine.1);
-      least = λ h meets. shorter h meets.0 (meets.1, meets.2) (cut_cases h);
+      meets = (legal_at s line k p is, mine);
+      least = λ h meets. shorter h meets.0 meets.1 (cut_cases h);
     }
       where
         mine : Leaves def left p

@@ -8,8 +8,8 @@ use Rattle.std.proofs.lemmas.Option.{slice_get_within}
 use Rattle.irq_base.specs.declared.entries.Entry.{Entry}
 use Rattle.irq_base.specs.declared.lines.LineDef.{LineDef}
 use Rattle.irq_model.specs.Legal.{IsDue, IsLegalPast}
-use Rattle.line_survey.specs.Kept.{IsUnwaiting}
-use Rattle.line_search.proofs.Searching.{path_is_legal, legal_is_path}
+use Rattle.line_survey.specs.Kept.{IsValidLine}
+use Rattle.line_space.proofs.SearchLaws.{path_is_legal, legal_is_path}
 use Rattle.line_wanted.specs.Wanted.{Meets, IsShortest, IsNever, IsNotWithin}
 use Rattle.line_wanted.specs.declared.left.Left.{Left}
 use Rattle.line_wanted.specs.declared.wanted.Wanted.{Wanted}
@@ -39,11 +39,11 @@ module _ (def : LineDef) where
   met_by (wants.Row e) h m =
       let legal = subst (λ (x : List Entry). IsLegalPast def x) m.1.1 m.0 in
       record { past = m.1.0; legal = legal.1; met = legal.0; whole = m.1.1 }
-  met_by (wants.Rest left) h m = record { past = h; legal = m.0; met = (m.1, m.2); whole = refl }
+  met_by (wants.Rest left) h m = record { past = h; legal = m.0; met = m.1; whole = refl }
 
   meets : (w : Wanted) (p : List Entry) → IsLegalPast def p → IsMetBy def w p → Meets def w (whole_past w p)
   meets (wants.Row e) p legal met = ((met, legal), (p, refl))
-  meets (wants.Rest left) p legal met = (legal, met.0, met.1)
+  meets (wants.Rest left) p legal met = (legal, met)
 
   longer : (w : Wanted) (p q : List Entry) → length p ≤ length q → length (whole_past w p) ≤ length (whole_past w q)
   longer (wants.Row e) p q le = omega (arith, le)
@@ -70,7 +70,7 @@ module _ (def : LineDef) where
           none.below x.past (legal_is_path def x.past x.legal) (subst B (sym whole) tt) x.met
 
       -- none is met below the cut
-      module _ (asked : IsUnwaiting def) (d : ℕ) (cut : cut_of s ≡ Some d) (left_out : LeavesOut (IsDue def) (node def) s.paths s.looked) where
+      module _ (asked : IsValidLine def) (d : ℕ) (cut : cut_of s ≡ Some d) (left_out : LeavesOut (IsDue def) (node def) s.paths s.looked) where
         far : (p : List Entry) → IsLegalPast def p → IsMetBy def w p → d ≤ length p
         far p legal met = by (cases_lt (length p) d)
           where
@@ -91,7 +91,7 @@ module _ (def : LineDef) where
                 let empty : q ≡ [] = no_items q (omega (arith, same, zero')) in
                 let here : p ≡ [] = no_items p none in
                 let on = left_out q at in
-                settled_none def asked p met.0 on.0 (subst (IsDue def on.0) (empty ∙ sym here) on.1)
+                settled_none def asked p met.still on.0 (subst (IsDue def on.0) (empty ∙ sym here) on.1)
 
         within : (v : Wanted) (p : List Entry) → d ≤ length p
             → (length p ≡ 0 → d ≡ 0 → (left : Left) → v ≡ wants.Rest left → ⊥)
@@ -124,7 +124,7 @@ module _ (def : LineDef) where
             (is_not_within, search, of, none.passed, sym (ap (option_map (known_within w)) cut))
 
       -- what is said where it isn't met
-      pub unmet_said : (most : ℕ) → IsUnwaiting def → length s.paths ≤ most → LeavesOut (IsDue def) (node def) s.paths s.looked
+      pub unmet_said : (most : ℕ) → IsValidLine def → length s.paths ≤ most → LeavesOut (IsDue def) (node def) s.paths s.looked
           → IfSome (cut_of s) (λ d. length s.paths ≡ most) → (cut : Option ℕ) → cut_of s ≡ cut → IsAnswer most def w (unmet_answer w cut)
       unmet_said most asked few left_out all None is = is_never is
       unmet_said most asked few left_out all (Some d) is =

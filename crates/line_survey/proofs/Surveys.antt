@@ -7,9 +7,9 @@ use Rattle.irq_base.proofs.SameEntries.{same_entries}
 use Rattle.irq_base.specs.contracts.entries.EntryEq.TheImpl.Laws as entry_laws
 use Rattle.irq_base.specs.declared.entries.Entry.{Entry}
 use Rattle.irq_base.specs.declared.lines.LineDef.{LineDef}
-use Rattle.line_search.proofs.Searching.{met, legal_is_path}
-use Rattle.line_search.specs.Found.{IsShortest as IsShortestBefore}
-use Rattle.line_wanted.specs.Left.{left_of}
+use Rattle.line_space.proofs.SearchLaws.{met, legal_is_path}
+use Rattle.line_space.specs.Found.{IsShortest as IsShortestBefore}
+use Rattle.line_wanted.specs.Left.{Leaves}
 use Rattle.line_wanted.specs.declared.wanted.Wanted.TheVariants as wants
 use Rattle.state_search.proofs.Places.{all_from, contains_from, map_at, map_from}
 use Rattle.state_search.specs.Seen.{SearchSeen, cut_of}
@@ -17,8 +17,7 @@ use Rattle.state_search.specs.declared.firsts.First.{First}
 use Rattle.line_survey.proofs.Entries.{shortest_of}
 use Rattle.line_survey.proofs.Rests.{rest_found, known}
 use Rattle.line_survey.specs.Growing.{AreRestsTo}
-use Rattle.line_survey.specs.Kept.{same_entry, IsOfLine, IsUnwaiting}
-use Rattle.line_survey.specs.Rests.{Leaves}
+use Rattle.line_survey.specs.Kept.{same_entry, IsOfLine, IsValidLine}
 use Rattle.line_survey.specs.Seen.{depth_at}
 use Rattle.line_survey.specs.Surveyed.{AreSoMany, IsLeast, AreRests, AreEntries, rows_of}
 use Rattle.line_survey.specs.declared.survey.EntryRow.{EntryRow}
@@ -28,15 +27,15 @@ use Rattle.line_survey.specs.declared.survey.RestRow.{RestRow}
 depth_is : (paths : List (List Entry)) (k : ℕ) (p : List Entry) → slice_get paths k ≡ Some p → length p ≡ depth_at paths k
 depth_is paths k p is = ap length (sym (get_or_from_slice_get paths k p [] is))
 
-module _ (def : LineDef) (asked : IsUnwaiting def) (s : SearchSeen Entry) (line : IsOfLine def s) where
+module _ (def : LineDef) (asked : IsValidLine def) (s : SearchSeen Entry) (line : IsOfLine def s) where
   pub rests_are : (rows : List RestRow) → AreRestsTo def s.paths s.looked rows → AreRests def (cut_of s) (take s.looked s.paths) rows
   rests_are rows are = record {
     each = all_from (λ r. IsLeast def (wants.Rest r.left) r.len) rows least_at;
     states = all_from (λ r. AreSoMany (Leaves def r.left) (take s.looked s.paths) r.states) rows are.states;
-    all = λ h legal settled below.
-        let x = known def asked s line (left_of def h) h legal (settled, refl) below in
-        let y = are.all x.place (left_of def h) x.within (x.past, x.there, x.leaves) in
-        contains_from (map (λ r. r.left) rows) y.0 (left_of def h) (map_at (λ r. r.left) rows y.0 y.1 y.2.0 ∙ ap Some y.2.1);
+    all = λ h left legal leaves below.
+        let x = known def asked s line left h legal leaves below in
+        let y = are.all x.place left x.within (x.past, x.there, x.leaves) in
+        contains_from (map (λ r. r.left) rows) y.0 left (map_at (λ r. r.left) rows y.0 y.1 y.2.0 ∙ ap Some y.2.1);
     once = λ j k left ja kb.
         let a = map_from (λ r. r.left) rows j left ja in
         let b = map_from (λ r. r.left) rows k left kb in

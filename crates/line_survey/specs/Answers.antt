@@ -10,7 +10,7 @@ use Rattle.line_wanted.specs.declared.wanted.Wanted.TheVariants as wants
 use Rattle.state_search.specs.Seen.{SearchSeen, cut_of}
 use Rattle.line_survey.specs.declared.answer.Answer.{Answer}
 use Rattle.line_survey.specs.declared.answer.Answer.TheVariants as answers
-use Rattle.line_survey.specs.Rests.{Leaves}
+use Rattle.line_wanted.specs.Left.{Leaves}
 use Rattle.line_survey.specs.Searched.{IsSearchOf}
 use Rattle.line_survey.specs.Seen.{LineSearchSeen}
 

@@ -4,7 +4,8 @@ use Rattle.std.specs.Prelude.{slice_get, slice_set}
 use Rattle.irq_base.specs.declared.entries.Entry.{Entry}
 use Rattle.irq_base.specs.declared.lines.LineDef.{LineDef}
 use Rattle.line_wanted.specs.declared.left.Left.{Left}
-use Rattle.line_survey.specs.Rests.{Leaves, LeavesAt, IsFirstAt}
+use Rattle.line_wanted.specs.Left.{Leaves}
+use Rattle.line_survey.specs.Rests.{LeavesAt, IsFirstAt}
 use Rattle.line_survey.specs.Seen.{depth_at}
 use Rattle.line_survey.specs.Surveyed.{AreSoMany}
 use Rattle.line_survey.specs.declared.survey.RestRow.{RestRow}

@@ -5,7 +5,7 @@ use Rattle.irq_base.specs.declared.entries.Entry.{Entry}
 use Rattle.irq_base.specs.declared.lines.LineDef.{LineDef}
 use Rattle.irq_model.specs.Legal.{IsDue}
 use Rattle.irq_model.specs.Valid.{IsValid}
-use Rattle.irq_model.specs.ValidRuns.{HasValidRuns, NeverWaits}
+use Rattle.irq_model.specs.ValidRuns.{HasValidRuns}
 use Rattle.run_scripts.specs.Runs.{AreRunsOf}
 use Rattle.line_state.specs.Seen.{runs_seen}
 use Rattle.line_words.specs.Words.{has_more}
@@ -33,16 +33,14 @@ pub record IsOfLine (def : LineDef) (s : SearchSeen Entry) : Type 0 where
   pub left_out : LeavesOut (IsDue def) (node def) s.paths s.looked
   pub few : length s.paths ≤ 100000000
 
--- the definition and its runs are valid, and no run waits
-pub record IsUnwaiting (def : LineDef) : Type 0 where
+-- the definition and its runs are valid
+pub record IsValidLine (def : LineDef) : Type 0 where
   pub valid : IsValid def
   pub runs : HasValidRuns def
-  pub waits : NeverWaits def
 
 pub record IsSearch (s : Inside) : Type 0 where
   pub valid : IsValid s.def
   pub valid_runs : HasValidRuns s.def
-  pub waits : NeverWaits s.def
   pub line : IsOfLine s.def s.searched
 
 -- numbers of the line can be read into it

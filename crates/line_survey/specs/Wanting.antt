@@ -3,7 +3,7 @@ use Rattle.std.specs.Prelude.{ℕ, Option, None, Some, List, ◌∷◌}
 use Rattle.irq_base.specs.declared.entries.Entry.{Entry}
 use Rattle.irq_base.specs.declared.lines.LineDef.{LineDef}
 use Rattle.irq_model.specs.Valid.{IsValid}
-use Rattle.irq_model.specs.ValidRuns.{HasValidRuns, NeverWaits}
+use Rattle.irq_model.specs.ValidRuns.{HasValidRuns}
 use Rattle.line_wanted.specs.declared.wanted.Wanted.{Wanted}
 use Rattle.line_wanted.specs.declared.wanted.Wanted.TheVariants as wants
 use Rattle.line_survey.specs.Answers.{known_within}
@@ -29,5 +29,4 @@ unmet_answer wanted (Some cut) = answers.NotWithin (known_within wanted cut)
 pub record IsWantedSpace (s : Inside) : Type 0 where
   pub valid : IsValid s.space
   pub valid_runs : HasValidRuns s.space
-  pub waits : NeverWaits s.space
   pub reader : IsReader s.space s.reader

@@ -1,12 +1,16 @@
 //! How a state leaves the line.
 ghost use Rattle.std.specs.Prelude.{◌≡◌, ◌<◌, ◌^◌};
 ghost use Rattle.irq_model.specs.Valid.{IsValid};
+ghost use Rattle.irq_model.specs.ValidRuns.{HasValidRuns};
 ghost use Rattle.device_table.specs.Rows.{at};
+ghost use Rattle.line_state.specs.Seen.{IsScripted};
 ghost use Rattle.line_survey.specs.LeftSeen.{left_seen, standing_seen, unserved_in, unserved_seen};
 
 use ask_counts::AskRow;
 use irq_base::{LineDef, Trigger};
 use line_cell::Cell;
+use line_core::lowest_hung;
+use line_scripts::Scripts;
 use line_state::LineState;
 use line_wanted::{Left, Standing};
 
@@ -51,13 +55,15 @@ fn unserved(def: &LineDef, state: &LineState<Cell>) -> u64
     sum
 }
 
-/// How the state leaves the line.
-pub(crate) fn left_in(def: &LineDef, state: &LineState<Cell>) -> Left
+/// How the state, and the drivers' places in their scripts, leave the line.
+pub(crate) fn left_in(def: &LineDef, state: &LineState<Cell>, scripts: &Scripts) -> Left
     requires { IsValid def.now }
-    ensures { result ≡ left_seen def.now state.now.state }
+    ensures { HasValidRuns def.now → IsScripted def.now state.now
+        → result ≡ left_seen def.now state.now.state scripts.now }
 {
     let edge = def.trigger == Trigger::Edge;
     Left {
+        hung: lowest_hung(state, scripts),
         standing: standing_in(state),
         unserved: unserved(def, state),
         stored: edge && state.chip().marks().stored,

@@ -11,6 +11,7 @@ pub mod searching;
 pub mod seeking;
 pub mod survey;
 mod surveying;
+mod through;
 mod wanting;
 
 pub use answer::Answer;

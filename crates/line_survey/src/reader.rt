@@ -5,7 +5,8 @@ ghost use Rattle.irq_model.specs.Legal.{IsLegalPast};
 ghost use Rattle.irq_model.specs.Valid.{IsValid};
 ghost use Rattle.irq_model.specs.ValidRuns.{HasValidRuns};
 ghost use Rattle.line_survey.specs.Kept.{IsReader};
-ghost use Rattle.line_wanted.specs.Left.{left_of};
+ghost use Rattle.line_survey.specs.Rests.{IsStill};
+ghost use Rattle.line_wanted.specs.Left.{Leaves};
 ghost use Rattle.line_words.specs.Node.{node};
 
 use crate::leaving::left_in;
@@ -43,15 +44,18 @@ impl Reader {
         })
     }
 
-    /// How the state with these numbers leaves the line. The only error is `NoMemory`.
+    /// How the state with these numbers leaves the line, if nothing is due in it. The only error is
+    /// `NoMemory`.
     pub(crate) fn left(&mut self, def: &LineDef, words: &[u32]) -> Result<Left, NoMemory>
         requires valid { IsValid def.now }
         requires reader { IsReader def.now self.old }
         requires past { (past : List Entry) × IsLegalPast def.now past
             × (words.now ≡ node def.now past) × (length past ≤ 100000000) }
         ensures reader { IsReader def.now self.new }
-        ensures left { IfOk result (λ left. (past : List Entry) → IsLegalPast def.now past
-            → words.now ≡ node def.now past → left ≡ left_of def.now past) }
+        ensures left { IfOk result (λ left. (past : List Entry) → HasValidRuns def.now
+            → IsLegalPast def.now past
+            → words.now ≡ node def.now past → IsStill def.now past
+            → Leaves def.now left past) }
     {
         let drivers = self.drivers.as_slice();
         read_into(
@@ -62,6 +66,6 @@ impl Reader {
             &mut self.scripts,
             words,
         )?;
-        Ok(left_in(def, &self.state))
+        Ok(left_in(def, &self.state, &self.scripts))
     }
 }

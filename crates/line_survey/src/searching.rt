@@ -2,16 +2,17 @@
 ghost use Rattle.std.specs.Prelude.{◌≡◌, ◌≤◌, ◌<◌, IfOk, IfSome, length};
 ghost use Rattle.irq_model.specs.Legal.{IsDue};
 ghost use Rattle.irq_model.specs.Valid.{IsValid};
-ghost use Rattle.irq_model.specs.ValidRuns.{HasValidRuns, NeverWaits};
+ghost use Rattle.irq_model.specs.ValidRuns.{HasValidRuns};
 ghost use Rattle.line_survey.specs.Kept.{IsOfLine};
 ghost use Rattle.line_survey.specs.Seen.{depth_at};
 ghost use Rattle.line_words.specs.Node.{node};
 ghost use Rattle.state_search.specs.Paths.{Searches, AreCounted, LeavesOut};
 ghost use Rattle.state_search.specs.Seen.{cut_of};
 
+use crate::through::search_through;
 use irq_base::{Entry, LineDef, NoMemory};
 use line_space::LineSpace;
-use state_search::{Searched, search};
+use state_search::Searched;
 use std::alloc::Global;
 use std::marker::Model;
 
@@ -39,15 +40,14 @@ impl Model for LineSearch {
 fn search_states(alloc: Global, def: &LineDef, most: usize) -> Result<Searched<Entry>, NoMemory>
     requires valid { IsValid def.now }
     requires runs { HasValidRuns def.now }
-    requires waits { NeverWaits def.now }
     requires some { 1 ≤ most }
     requires most { most ≤ 100000000 }
     ensures line { IfOk result (IsOfLine def.now) }
     ensures within { IfOk result (λ s. length s.paths ≤ most) }
     ensures cut { IfOk result (λ s. IfSome (cut_of s) (λ _. length s.paths ≡ most)) }
 {
-    let mut space = LineSpace::new(alloc, def)?;
-    let sought = search(alloc, &mut space, most)?;
+    let space = LineSpace::new(alloc, def)?;
+    let sought = search_through(alloc, space, most)?;
     Ok(sought.found)
 }
 
@@ -57,7 +57,6 @@ impl LineSearch {
     pub fn new(alloc: Global, def: &LineDef, most: usize) -> Result<LineSearch, NoMemory>
         requires valid { IsValid def.now }
         requires runs { HasValidRuns def.now }
-        requires waits { NeverWaits def.now }
         requires some { 1 ≤ most }
         requires most { most ≤ 100000000 }
         ensures def { IfOk result (λ s. s.def ≡ def.now) }

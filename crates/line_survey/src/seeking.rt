@@ -4,7 +4,7 @@ ghost use Rattle.std.specs.Prelude.{slice_get, true, false};
 ghost use Rattle.irq_base.specs.declared.entries.Entry.{Entry};
 ghost use Rattle.irq_model.specs.Legal.{IsDue};
 ghost use Rattle.irq_model.specs.Valid.{IsValid};
-ghost use Rattle.irq_model.specs.ValidRuns.{HasValidRuns, NeverWaits};
+ghost use Rattle.irq_model.specs.ValidRuns.{HasValidRuns};
 ghost use Rattle.line_survey.specs.Answers.{IsAnswer, IsMetBy, known_within};
 ghost use Rattle.line_survey.specs.Wanting.{unmet_answer, whole_past};
 ghost use Rattle.line_words.specs.Node.{node};
@@ -12,10 +12,11 @@ ghost use Rattle.state_search.specs.Paths.{Searches, LeavesOut, IsNearest, NoneW
 ghost use Rattle.state_search.specs.Seen.{cut_of};
 
 use crate::answer::Answer;
+use crate::through::search_through;
 use crate::wanting::WantedSpace;
 use irq_base::{Entry, LineDef, NoMemory};
 use line_wanted::Wanted;
-use state_search::{Searched, Sought, search};
+use state_search::{Searched, Sought};
 use std::alloc::Global;
 
 /// A shortest legal history as wanted; or that there is none, or none as far as a search through at
@@ -29,7 +30,6 @@ pub fn shortest(
 ) -> Result<Answer, NoMemory>
     requires valid { IsValid def.now }
     requires runs { HasValidRuns def.now }
-    requires waits { NeverWaits def.now }
     requires some { 1 ≤ most }
     requires most { most ≤ 100000000 }
     ensures { IfOk result (IsAnswer most def.now wanted) }
@@ -51,7 +51,6 @@ fn seek(
 ) -> Result<Sought<Entry>, NoMemory>
     requires valid { IsValid def.now }
     requires runs { HasValidRuns def.now }
-    requires waits { NeverWaits def.now }
     requires some { 1 ≤ most }
     requires most { most ≤ 100000000 }
     ensures paths { IfOk result (λ s. Searches (IsDue def.now) (node def.now) s.found.paths
@@ -66,8 +65,8 @@ fn seek(
     ensures cut { IfOk result (λ s. s.is_met ≡ false
         → IfSome (cut_of s.found) (λ _. length s.found.paths ≡ most)) }
 {
-    let mut space = WantedSpace::new(alloc, def, wanted)?;
-    search(alloc, &mut space, most)
+    let space = WantedSpace::new(alloc, def, wanted)?;
+    search_through(alloc, space, most)
 }
 
 /// The history as wanted that comes of the state at which the search stopped. The only error is

@@ -3,7 +3,7 @@
 use irq_base::Entry;
 use line_wanted::Left;
 
-/// One way in which the line can be left at rest.
+/// One way in which the line can be left, where nothing more is due on it.
 #[derive(Clone, Copy)]
 pub struct RestRow {
     /// How it is left.

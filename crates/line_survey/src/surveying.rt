@@ -1,10 +1,10 @@
 //! The survey of a line.
 ghost use Rattle.std.specs.Prelude.{◌≡◌, ◌<◌, ◌+◌, ◌==◌, ℕ, IfOk, IfSome, IfNone, OnOk, Some};
 ghost use Rattle.std.specs.Prelude.{length};
-ghost use Rattle.std.specs.Prelude.{sum, slice_get, take, reverse};
-ghost use Rattle.irq_model.specs.Waits.{IsAtRest};
+ghost use Rattle.std.specs.Prelude.{sum, slice_get, take};
 ghost use Rattle.line_survey.specs.Growing.{IsNoted};
 ghost use Rattle.line_survey.specs.Kept.{IsReader};
+ghost use Rattle.line_survey.specs.Rests.{IsStill};
 ghost use Rattle.line_survey.specs.Surveyed.{AreSoMany, AreRests, IsSurvey};
 ghost use Rattle.line_survey.specs.declared.survey.RestRow.{RestRow};
 ghost use Rattle.state_search.specs.Seen.{cut_of};
@@ -81,7 +81,7 @@ impl LineSearch {
 
     /// In how many states nothing is due.
     fn at_rest(&self) -> u32
-        ensures { AreSoMany (λ p. IsAtRest self.now.def (reverse p))
+        ensures { AreSoMany (IsStill self.now.def)
             (take self.now.searched.looked self.now.searched.paths) result }
     {
         let mut rest = 0;

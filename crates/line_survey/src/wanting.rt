@@ -2,7 +2,7 @@
 ghost use Rattle.std.specs.Prelude.{◌≡◌, true, false, IfOk, map, Contains};
 ghost use Rattle.irq_model.specs.Legal.{IsDue};
 ghost use Rattle.irq_model.specs.Valid.{IsValid};
-ghost use Rattle.irq_model.specs.ValidRuns.{HasValidRuns, NeverWaits};
+ghost use Rattle.irq_model.specs.ValidRuns.{HasValidRuns};
 ghost use Rattle.line_survey.specs.Answers.{IsMetBy};
 ghost use Rattle.line_words.specs.Node.{node};
 
@@ -39,7 +39,6 @@ impl WantedSpace {
     pub(crate) fn new(alloc: Global, def: &LineDef, wanted: Wanted) -> Result<WantedSpace, NoMemory>
         requires valid { IsValid def.now }
         requires runs { HasValidRuns def.now }
-        requires waits { NeverWaits def.now }
         ensures { IfOk result (λ s. s ≡ record { def = def.now; wanted = wanted }) }
     {
         Ok(WantedSpace {

@@ -14,7 +14,7 @@ use Rattle.irq_base.specs.declared.numbers.DriverNo.{DriverNo}
 use Rattle.irq_model.specs.Kinds.{same_dev, same_driver, same_line}
 use Rattle.irq_model.specs.Lines.{is_edge_line, is_level_line, is_edge_flow, is_level_flow, is_eoi_flow, is_device}
 use Rattle.irq_model.specs.Valid.{IsValid, HasDistinctDevices, HasOneOwner, IsFreedBetween, requests_dev, frees_dev, names_one_of}
-use Rattle.irq_steps.proofs.Same.{dev_from_same, driver_from_same}
+use Rattle.irq_model.proofs.Same.{dev_from_same, driver_from_same}
 use Rattle.line_valid.specs.Deciding.{has_distinct, links_dev, shares, agrees, has_one_owner, is_freed_first}
 use Rattle.line_valid.specs.Deciding.{is_freed_after, is_freed_between, fits_numbers, fits_flow, fits_lists, fits}
 

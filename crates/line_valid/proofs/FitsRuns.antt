@@ -2,7 +2,7 @@
 use Rattle.std.proofs.Common.{◌≡◌, ◌+◌, ◌≤◌, Bool, true, false, not, ◌&&◌, ◌||◌, nat_lt, List, [], ◌∷◌, cond, ◌⊎◌, inl, inr}
 use Rattle.std.proofs.Common.{length, refl, sym, ap, subst, ◌∙◌, arith}
 use Rattle.std.specs.List.{list_all, list_any}
-use Rattle.std.proofs.lemmas.Bool.{ltb-true, not-true, false≢true, or_cases}
+use Rattle.std.proofs.lemmas.Bool.{ltb-true, false≢true, or_cases}
 use Rattle.irq_base.specs.declared.calls.Call.{Call}
 use Rattle.irq_base.specs.declared.devices.DeviceDef.{DeviceDef}
 use Rattle.irq_base.specs.declared.devices.Kind.{Kind}
@@ -17,9 +17,9 @@ use Rattle.irq_model.specs.Kinds.{same_dev}
 use Rattle.irq_model.specs.Lines.{is_device, has_device, kind_in, kind_of, same_part}
 use Rattle.irq_model.specs.Lines.{script_in, told_in, run_script, told_answers}
 use Rattle.irq_model.specs.RunBounds.{arms_this, wakes_by_handler}
-use Rattle.irq_model.specs.ValidRuns.{HasValidRuns, NeverWaits, WakesWhatItHas, names_own_device, has_script}
-use Rattle.irq_model.specs.ValidRuns.{may_stand, may_wait, may_answer, is_told}
-use Rattle.irq_steps.proofs.Same.{dev_from_same}
+use Rattle.irq_model.specs.ValidRuns.{HasValidRuns, WakesWhatItHas, names_own_device, has_script}
+use Rattle.irq_model.specs.ValidRuns.{may_stand, may_answer, is_told}
+use Rattle.irq_model.proofs.Same.{dev_from_same}
 use Rattle.line_valid.specs.DecidingRuns.{fits_run, fits_answer, fits_device, fits_runs, same_truth, wakes_what_it_has, arms_unless_told}
 use Rattle.line_valid.proofs.FitsIsValid.{both, each}
 
@@ -139,18 +139,16 @@ IsFit def d = Five (nat_lt (length (run_script def d parts.Primary)) 17) (nat_lt
 
 -- of one call of a run
 abbrev MayRun : LineDef → DevNo × Part × Call → Type 0
-MayRun def c = Five (has_device def c.0) (has_script (kind_of def c.0) c.1) (may_stand (kind_of def c.0) c.1 c.0 c.2)
-    (names_own_device def c.2) (not (may_wait c.2))
+MayRun def c = (has_device def c.0 ≡ true) × (has_script (kind_of def c.0) c.1 ≡ true) × (may_stand (kind_of def c.0) c.1 c.0 c.2 ≡ true)
+    × (names_own_device def c.2 ≡ true)
 
 may_run : (def : LineDef) (c : DevNo × Part × Call) → fits_run def c ≡ true → MayRun def c
 may_run def c h =
     let i = both (has_device def c.0) (has_script (kind_of def c.0) c.1
-    && (may_stand (kind_of def c.0) c.1 c.0 c.2 && (names_own_device def c.2 && not (may_wait c.2)))) h in
-    let j = both (has_script (kind_of def c.0) c.1) (may_stand (kind_of def c.0) c.1 c.0 c.2
-    && (names_own_device def c.2 && not (may_wait c.2))) i.1 in
-    let k = both (may_stand (kind_of def c.0) c.1 c.0 c.2) (names_own_device def c.2 && not (may_wait c.2)) j.1 in
-    let l = both (names_own_device def c.2) (not (may_wait c.2)) k.1 in
-    (i.0, j.0, k.0, l.0, l.1)
+    && (may_stand (kind_of def c.0) c.1 c.0 c.2 && names_own_device def c.2)) h in
+    let j = both (has_script (kind_of def c.0) c.1) (may_stand (kind_of def c.0) c.1 c.0 c.2 && names_own_device def c.2) i.1 in
+    let k = both (may_stand (kind_of def c.0) c.1 c.0 c.2) (names_own_device def c.2) j.1 in
+    (i.0, j.0, k.0, k.1)
 
 module _ (def : LineDef) (h : fits_runs def ≡ true) where
   all : Six (nat_lt (length def.runs) 257) (nat_lt (length def.told) 65537) (list_all (fits_run def) def.runs)
@@ -230,6 +228,3 @@ module _ (def : LineDef) (h : fits_runs def ≡ true) where
     answers = each (fits_answer def) (λ c. may_answer (kind_of def c.0) c.1 c.2 ≡ true) (λ c k. k) def.told all.3;
     threads = of_each (λ d. WakesWhatItHas def (kind_of def d) d) threads none_woken;
   }
-
-  pub fits_never_waits : NeverWaits def
-  fits_never_waits = each (fits_run def) (λ c. may_wait c.2 ≡ false) (λ c k. not-true (may_wait c.2) (may_run def c k).4) def.runs all.2

@@ -12,7 +12,7 @@ use Rattle.irq_base.specs.declared.lines.LineDef.{LineDef}
 use Rattle.irq_base.specs.declared.numbers.DevNo.{DevNo}
 use Rattle.irq_model.specs.Lines.{has_device, kind_of, run_script, told_answers}
 use Rattle.irq_model.specs.RunBounds.{arms_this, wakes_by_handler, is_wake_word}
-use Rattle.irq_model.specs.ValidRuns.{names_own_device, has_script, may_stand, may_wait}
+use Rattle.irq_model.specs.ValidRuns.{names_own_device, has_script, may_stand}
 use Rattle.irq_model.specs.ValidRuns.{may_answer, is_told, is_direct}
 
 -- a handler turns on its own device's interrupt alone, and only a direct device's does
@@ -20,13 +20,12 @@ abbrev pub may_arm : Kind → Part → Bool
 may_arm kind parts.Thread = true
 may_arm kind parts.Primary = is_direct kind
 
--- a call that a run may make, and that never waits
+-- a call that a run may make
 abbrev pub fits_run : LineDef → DevNo × Part × Call → Bool
 fits_run def c =
     has_device def c.0
     && (has_script (kind_of def c.0) c.1
-    && (may_stand (kind_of def c.0) c.1 c.0 c.2
-    && (names_own_device def c.2 && not (may_wait c.2))))
+    && (may_stand (kind_of def c.0) c.1 c.0 c.2 && names_own_device def c.2))
 
 abbrev pub fits_answer : LineDef → DevNo × Part × ToldAnswer → Bool
 fits_answer def c = may_answer (kind_of def c.0) c.1 c.2

@@ -1,7 +1,7 @@
 //! The whole definition.
 ghost use Rattle.std.specs.Prelude.{◌≡◌, ◌&&◌, IsTrue};
 ghost use Rattle.irq_model.specs.Valid.{IsValid};
-ghost use Rattle.irq_model.specs.ValidRuns.{HasValidRuns, NeverWaits};
+ghost use Rattle.irq_model.specs.ValidRuns.{HasValidRuns};
 ghost use Rattle.line_valid.specs.Deciding.{fits, fits_numbers, fits_flow, fits_lists};
 ghost use Rattle.line_valid.specs.DecidingRuns.{fits_runs};
 
@@ -11,14 +11,12 @@ use crate::runs::{all_answers_fit, all_devices_fit, all_own_devices, all_runs_fi
 use affinity::has_processor;
 use irq_base::{FlowKind, LineDef, Trigger};
 
-/// Whether the definition is valid, its runs are, and none of them makes a call that waits. Another
-/// definition is never answered `true`.
-#[tactic(auto, using(crate::proofs::FitsIsValid::fits_is_valid, crate::proofs::FitsRuns::fits_has_valid_runs, crate::proofs::FitsRuns::fits_never_waits))]
+/// Whether the definition is valid, and its runs are. Another definition is never answered `true`.
+#[tactic(auto, using(crate::proofs::FitsIsValid::fits_is_valid, crate::proofs::FitsRuns::fits_has_valid_runs))]
 pub fn is_valid(def: &LineDef) -> bool
     ensures fits { result ≡ (fits def.now && fits_runs def.now) }
     ensures sound { IsTrue result → IsValid def.now }
     ensures runs { IsTrue result → HasValidRuns def.now }
-    ensures waits { IsTrue result → NeverWaits def.now }
 {
     fits(def) && fits_runs(def)
 }

@@ -4,7 +4,7 @@ ghost use Rattle.std.specs.List.{list_all, list_any};
 ghost use Rattle.irq_model.specs.Lines.{has_device, kind_in, kind_of, same_part};
 ghost use Rattle.irq_model.specs.Lines.{script_in, told_in, run_script};
 ghost use Rattle.irq_model.specs.RunBounds.{arms_this, wakes_by_handler, is_wake_word};
-ghost use Rattle.irq_model.specs.ValidRuns.{names_own_device, has_script, may_stand, may_wait};
+ghost use Rattle.irq_model.specs.ValidRuns.{names_own_device, has_script, may_stand};
 ghost use Rattle.irq_model.specs.ValidRuns.{may_answer, is_told};
 ghost use Rattle.line_valid.specs.DecidingRuns.{fits_run, fits_answer, has_short_scripts};
 ghost use Rattle.line_valid.specs.DecidingRuns.{arms_unless_told, wakes_what_it_has, fits_device};
@@ -123,13 +123,6 @@ fn may_arm(kind: Kind, part: Part) -> bool
     }
 }
 
-/// Whether the call may wait for its own run.
-fn may_wait(call: Call) -> bool
-    ensures { result ≡ may_wait call }
-{
-    matches!(call, Call::Disable | Call::Sync | Call::Free { .. })
-}
-
 /// Whether the call may be one of those that runs make.
 fn fits_run(def: &LineDef, dev: DevNo, part: Part, call: Call) -> bool
     ensures { result ≡ fits_run def.now (dev, part, call) }
@@ -139,7 +132,6 @@ fn fits_run(def: &LineDef, dev: DevNo, part: Part, call: Call) -> bool
         && has_script(kind, part)
         && may_stand(kind, part, dev, call)
         && names_own_device(def, call)
-        && !may_wait(call)
 }
 
 fn is_told(kind: Kind) -> bool

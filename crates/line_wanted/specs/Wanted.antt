@@ -1,11 +1,10 @@
 -- Which legal histories are as wanted, and which of them are shortest. A past is a history, the
 -- newest entry first.
-use Rattle.std.specs.Prelude.{◌≡◌, ◌≤◌, ◌<◌, ℕ, List, ◌∷◌, length, reverse}
+use Rattle.std.specs.Prelude.{◌≡◌, ◌≤◌, ◌<◌, ℕ, List, ◌∷◌, length}
 use Rattle.irq_base.specs.declared.entries.Entry.{Entry}
 use Rattle.irq_base.specs.declared.lines.LineDef.{LineDef}
 use Rattle.irq_model.specs.Legal.{IsLegalPast}
-use Rattle.irq_model.specs.Waits.{IsAtRest}
-use Rattle.line_wanted.specs.Left.{left_of}
+use Rattle.line_wanted.specs.Left.{Leaves}
 use Rattle.line_wanted.specs.declared.wanted.Wanted.{Wanted}
 use Rattle.line_wanted.specs.declared.wanted.Wanted.TheVariants as wants
 
@@ -13,12 +12,11 @@ use Rattle.line_wanted.specs.declared.wanted.Wanted.TheVariants as wants
 abbrev pub IsNewest : Entry → List Entry → Type 0
 IsNewest e past = (before : List Entry) × (past ≡ e ∷ before)
 
--- the past is legal and ends with the row; or it is legal, nothing more is due after it, all calls
--- are complete, and it leaves the line so
+-- the past is legal and ends with the row; or it is legal, nothing more is due after it, and it
+-- leaves the line so
 abbrev pub Meets : LineDef → Wanted → List Entry → Type 0
 Meets def (wants.Row e) past = IsLegalPast def past × IsNewest e past
-Meets def (wants.Rest left) past =
-    IsLegalPast def past × IsAtRest def (reverse past) × (left_of def past ≡ left)
+Meets def (wants.Rest left) past = IsLegalPast def past × Leaves def left past
 
 -- the past is as wanted, and none that is so is shorter
 pub record IsShortest (def : LineDef) (wanted : Wanted) (past : List Entry) : Type 0 where

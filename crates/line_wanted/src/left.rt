@@ -1,6 +1,9 @@
 //! How a line is left.
 
-/// How a line that is at rest stands: whether something is linked, and whether it is enabled.
+use irq_base::Actor;
+
+/// How a line stands on which nobody moves any more: whether something is linked, and whether it is
+/// enabled.
 #[derive(Clone, Copy, PartialEq, Eq)]
 pub enum Standing {
     /// No device is linked: the line is shut down (`desc->action` is `NULL`; `irq_shutdown`,
@@ -20,6 +23,9 @@ pub enum Standing {
 /// How a history leaves its line.
 #[derive(Clone, Copy, PartialEq, Eq)]
 pub struct Left {
+    /// Who is hung: the lowest actor that waits for itself, at once or through others, and for
+    /// ever. None: the line is at rest, and all calls are complete.
+    pub hung: Option<Actor>,
     /// How the line stands.
     pub standing: Standing,
     /// How many asks of the line's devices, linked or not, are unserved (Linux doesn't see what its

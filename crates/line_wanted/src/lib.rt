@@ -1,4 +1,5 @@
-//! What one may ask of a line's histories: how a line is left at rest, and what is looked for. The
+//! What one may ask of a line's histories: how a line is left where nobody moves any more, and what
+//! is looked for. The
 //! definitions stand in specs/: `Left` says how a history leaves its line, `Wanted` which histories
 //! are as wanted, and which of them are shortest.
 #![tactic(auto)]

@@ -8,6 +8,6 @@ use irq_base::Entry;
 pub enum Wanted {
     /// A history that ends with the entry.
     Row(Entry),
-    /// A history after which nothing more can happen, and that leaves the line so.
+    /// A history after which nothing more can happen on the line, and that leaves it so.
     Rest(Left),
 }

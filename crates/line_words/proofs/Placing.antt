@@ -13,7 +13,7 @@ use Rattle.irq_model.specs.Due.{calls_by, entries_by, due_of}
 use Rattle.irq_model.specs.Kinds.{same_driver}
 use Rattle.irq_model.specs.Legal.{IsLegalPast}
 use Rattle.irq_laws.specs.Kept.{complete}
-use Rattle.irq_steps.proofs.Same.{driver_from_same}
+use Rattle.irq_model.proofs.Same.{driver_from_same}
 use Rattle.line_scripts.specs.Rows.{RowSeen, row_of, calls_of, place_of, within_of, unbegun, placed, gone_to}
 use Rattle.line_marks.specs.Scripts.{IsAt}
 use Rattle.line_futures.proofs.Placed.{placed as at_place}
@@ -111,7 +111,7 @@ module _ (def : LineDef) (past : List Entry) where
   abbrev Stands : Rows → DriverNo → Type 0
   Stands s q = (calls_of s q ≡ []) ⊎ ((place_of s q ≡ place_by def q past) × (within_of s q ≡ within_by def q past))
 
-  none_placed : (r : DriverNo) → calls_by r def.calls ≡ [] → (place_by def r past ≡ 0) × (within_by def r past ≡ 0)
+  pub none_placed : (r : DriverNo) → calls_by r def.calls ≡ [] → (place_by def r past ≡ 0) × (within_by def r past ≡ 0)
   none_placed r none = (
     ap (λ (cs : List Call). length (complete [] cs (entries_by r past))) none,
     ap (λ (cs : List Call). count_in (due_of cs (entries_by r past))) none,

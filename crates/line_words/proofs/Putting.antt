@@ -12,7 +12,7 @@ use Rattle.irq_base.specs.declared.numbers.DevNo.{DevNo}
 use Rattle.irq_model.specs.Kinds.{same_dev}
 use Rattle.irq_model.specs.Lines.{is_device}
 use Rattle.irq_model.specs.Valid.{HasDistinctDevices}
-use Rattle.irq_steps.proofs.Same.{same_self, same_both}
+use Rattle.irq_model.proofs.Same.{same_self, same_both}
 use Rattle.device_table.specs.Rows.{at, change, changed, table_by}
 use Rattle.device_table.specs.Sums.{one_if}
 use Rattle.act_list.specs.Lists.{cleared}

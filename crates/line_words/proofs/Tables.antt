@@ -6,7 +6,7 @@ use Rattle.irq_base.specs.declared.devices.DeviceDef.{DeviceDef}
 use Rattle.irq_base.specs.declared.numbers.DevNo.{DevNo}
 use Rattle.irq_model.specs.Kinds.{same_dev}
 use Rattle.irq_model.specs.Lines.{is_device}
-use Rattle.irq_steps.proofs.Same.{same_self}
+use Rattle.irq_model.proofs.Same.{same_self}
 use Rattle.device_table.proofs.Tables.{at_device}
 use Rattle.device_table.specs.Rows.{at, table_by}
 use Rattle.line_words.specs.Told.{rows_words}

@@ -13,8 +13,8 @@ use crate::verdict::Verdict;
 use board_def::{Board, Layout};
 use irq_base::NoMemory;
 use irq_line::{IrqLine, MakesLine};
-use kept_rows::KeptRows;
 use log_read::{cut_row, place_of};
+use log_text::KeptRows;
 use std::alloc::Global;
 
 /// Judges the text of a log of the board, row by row. Lines do the judging: `L` is any type of

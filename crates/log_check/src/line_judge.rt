@@ -11,8 +11,8 @@ use crate::judging::step;
 use board_def::Board;
 use irq_base::{Actor, Entry, History, LineNo, NoMemory};
 use irq_line::IrqLine;
-use kept_rows::KeptRows;
 use log_read::{cut_row, may_have, read_row};
+use log_text::KeptRows;
 use std::marker::Model;
 
 /// What has come of a line's rows so far. While each entry was due, the line has them all. There is

@@ -21,7 +21,7 @@ mod threads;
 mod versions;
 mod words;
 
-pub use numbers::number_of;
+pub use numbers::{actor_named, number_of};
 pub use reading::{LogRefused, cut_row, place_of, read_log};
 pub use rows::read_row;
 pub use versions::may_have;

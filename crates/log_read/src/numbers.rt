@@ -32,7 +32,8 @@ pub(crate) fn made_by(words: &mut Words<'_>) -> Actor
     words.fit(actor_named(word), Actor::Cpu(CpuNo(0)))
 }
 
-fn actor_named(word: &[u8]) -> Option<Actor>
+/// The actor that the word names, by a letter and the number right behind it.
+pub fn actor_named(word: &[u8]) -> Option<Actor>
     ensures { Reads HasSmallActor actor_word word.now result }
 {
     let (letter, digits) = word.split_first()?;

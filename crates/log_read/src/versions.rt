@@ -1,5 +1,5 @@
 //! Which rows a log may have, by the version of its board.
-ghost use Rattle.std.specs.Prelude.{◌≡◌};
+ghost use Rattle.std.specs.Prelude.{◌≡◌, false, true};
 ghost use Rattle.log_read.specs.Versions.{is_new_call, may_have, needs_runs};
 
 use board_def::Board;
@@ -12,16 +12,30 @@ use irq_base::{CallEntry, DriverEntry, Entry, ThreadEntry};
 pub fn may_have(board: &Board, entry: &Entry) -> bool
     ensures { result ≡ may_have board.now.version entry.now }
 {
-    // of most rows one test tells
-    matches!(*entry, Entry::Cpu(_, _)) || board.version() >= 3 || !needs_runs(entry)
+    is_old(entry) || board.version() >= 3 || !needs_runs(*entry)
+}
+
+/// Whether a test or two tell that logs of each version have the entry's row: so of most rows.
+#[inline(always)]
+fn is_old(entry: &Entry) -> bool
+    ensures { result ≡ true → needs_runs entry.now ≡ false }
+{
+    matches!(
+        *entry,
+        Entry::Cpu(_, _)
+            | Entry::Thread(
+                _,
+                ThreadEntry::Begin | ThreadEntry::Finish { .. } | ThreadEntry::Done
+            )
+    )
 }
 
 /// Whether the entry's row is one of version 3 alone.
 #[inline(never)]
-fn needs_runs(entry: &Entry) -> bool
-    ensures { result ≡ needs_runs entry.now }
+fn needs_runs(entry: Entry) -> bool
+    ensures { result ≡ needs_runs entry }
 {
-    match *entry {
+    match entry {
         Entry::Cpu(_, _) => false,
         Entry::Thread(_, ThreadEntry::Return { handled, served }) => handled != (served > 0),
         Entry::Driver(_, DriverEntry::Ask { edge, .. }) => !edge,

@@ -16,9 +16,9 @@ use Rattle.irq_model.specs.Legal.{IsDue, IsLegal, IsLegalPast}
 use Rattle.irq_model.specs.Links.{is_none_linked, is_linked, requested, linked, is_empty}
 use Rattle.irq_model.specs.Next.{is_only}
 use Rattle.irq_model.specs.Places.{EachEntry, count_of}
-use Rattle.irq_steps.proofs.LinkSteps.{linked_unlink}
-use Rattle.irq_steps.proofs.ListSteps.{count_filter, requested_once}
-use Rattle.irq_steps.proofs.Same.{same_self, same_both}
+use Rattle.irq_model.proofs.LinkSteps.{linked_unlink}
+use Rattle.irq_model.proofs.ListSteps.{count_filter, requested_once}
+use Rattle.irq_model.proofs.Same.{same_self, same_both}
 use Rattle.irq_laws.proofs.ImpliesDriver.{unlink_due}
 use Rattle.irq_laws.proofs.Requested.{of_linked}
 use Rattle.log_summary.specs.Lasts.{TellsLast, TellsLasts}

@@ -24,9 +24,9 @@ use Rattle.irq_base.specs.EntryKinds.{kind_of_entry, kind_of_call}
 use Rattle.irq_model.specs.Kinds.{is_any_ask, is_take, is_start, is_unlink, is_last_unlink, is_linked_request}
 use Rattle.irq_model.specs.Links.{is_none_linked, is_empty, is_reset, is_deepening, is_lowering}
 use Rattle.irq_model.specs.Places.{EachEntry}
-use Rattle.irq_steps.proofs.LinkSteps.{linked_request}
-use Rattle.irq_steps.proofs.ListSteps.{linked_refused, linked_not_there}
-use Rattle.irq_steps.proofs.DepthSteps.{raised_reset, raised_more}
+use Rattle.irq_model.proofs.LinkSteps.{linked_request}
+use Rattle.irq_model.proofs.ListSteps.{linked_refused, linked_not_there}
+use Rattle.irq_model.proofs.DepthSteps.{raised_reset, raised_more}
 use Rattle.log_summary.specs.Counted.{is_run, is_thread_run, served_by}
 use Rattle.log_summary.specs.Gained.{AreCountsOf, one_if, asks_of, takes_of, runs_of, thread_runs_of, served_of, counts_with}
 use Rattle.log_summary.specs.Lasts.{TellsLast, TellsLasts}

@@ -4,3 +4,4 @@ pub mod Rows
 pub mod Spaced
 pub mod LayoutRows
 pub mod Formed
+pub mod Kept

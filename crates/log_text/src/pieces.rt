@@ -61,8 +61,8 @@ fn push_lettered(row: &mut TextRow, letter: u8, number: u32)
     row.push_number(number);
 }
 
-/// Adds a space and the actor.
-pub(crate) fn push_actor(row: &mut TextRow, actor: Actor)
+/// Adds a space and the actor, a letter with its number.
+pub fn push_actor(row: &mut TextRow, actor: Actor)
     requires { length row.old ≤ 308 }
     ensures text { row.new ≡ row.old ++ spaced (actor_word actor ∷ []) }
     ensures grows { length row.new ≤ length row.old + 12 }

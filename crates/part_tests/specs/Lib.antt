@@ -1,1 +1,2 @@
 pub mod AskedLine
+pub mod Numbers

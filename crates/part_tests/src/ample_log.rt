@@ -8,7 +8,7 @@ use irq_base::{
     FlowKind, Kind, LineDef, LineNo, NoMemory, RunCallList, ToldList, Trigger,
 };
 use irq_line::Stepped;
-use line_storms::step_within_bound;
+use line_orders::step_within_bound;
 use plain_line::PlainLine;
 use std::alloc::Global;
 use std::process::Abort;

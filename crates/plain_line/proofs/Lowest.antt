@@ -10,7 +10,7 @@ use Rattle.irq_base.specs.declared.entries.Entry.{Entry}
 use Rattle.irq_base.specs.declared.lines.LineDef.{LineDef}
 use Rattle.irq_model.specs.Lines.{is_device, has_device}
 use Rattle.irq_model.specs.Next.{next_of_thread}
-use Rattle.irq_steps.proofs.Same.{dev_from_same}
+use Rattle.irq_model.proofs.Same.{dev_from_same}
 use Rattle.plain_line.specs.Looked.{IsLowestAt, IsThreadDueAt, is_thread_due, lower_of}
 
 -- the lowest of so_far and of the devices that count

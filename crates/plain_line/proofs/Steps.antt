@@ -59,7 +59,6 @@ plain_more def entries past more e l k old below is made due looked =
     record {
       valid = old.valid;
       runs = old.runs;
-      waits = old.waits;
       legal = subst (λ (p : List Entry). IsLegalPast def p) all (legal_more def entries past more e is made due old.legal);
       log = omega (arith, long, below);
       looked = subst (λ (p : List Entry). IsLooked def p k) all looked;

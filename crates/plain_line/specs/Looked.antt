@@ -8,7 +8,8 @@ use Rattle.irq_base.specs.declared.entries.Entry.{Entry}
 use Rattle.irq_base.specs.declared.lines.LineDef.{LineDef}
 use Rattle.irq_model.specs.Next.{next_past}
 use Rattle.irq_model.specs.Rounds.{flow}
-use Rattle.irq_line.specs.Queries.{is_some_take, blocks_at}
+use Rattle.irq_model.specs.Waits.{IsLowestHungPast}
+use Rattle.irq_line.specs.Queries.{is_some_take, blocks_at, spins_at}
 use Rattle.plain_line.specs.declared.looking.Looked.{Looked}
 
 -- takes are due of this processor, and of no other
@@ -36,7 +37,9 @@ lower_of None dev true = Some dev
 lower_of (Some lowest) dev true = if nat_le lowest.0 dev.0 then Some lowest else Some dev
 
 pub record IsLooked (def : LineDef) (past : List Entry) (l : Looked) : Type 0 where
+  pub spins : l.spins ≡ spins_at def past (flow def past)
   pub flow : l.flow ≡ flow def past
   pub taker : IsTakerAt def past l.taker
   pub lowest : IsLowestAt def past l.lowest
   pub blocks : l.blocks ≡ blocks_at def past
+  pub hung : IsLowestHungPast def past l.hung

@@ -3,7 +3,7 @@ ghost use Rattle.std.specs.Prelude.{◌≡◌, ◌+◌, ◌<◌, ◌≤◌, [], 
 ghost use Rattle.std.specs.Prelude.{IsTrue, Some, reverse};
 ghost use Rattle.irq_model.specs.Legal.{IsDue};
 ghost use Rattle.irq_model.specs.Valid.{IsValid};
-ghost use Rattle.irq_model.specs.ValidRuns.{HasValidRuns, NeverWaits};
+ghost use Rattle.irq_model.specs.ValidRuns.{HasValidRuns};
 ghost use Rattle.irq_line.specs.Room.{MakesRoom};
 ghost use Rattle.plain_line.specs.Line.{IsPlain};
 ghost use Rattle.plain_line.specs.Looked.{IsLooked};
@@ -47,7 +47,6 @@ impl PlainLine {
     pub fn new(alloc: Global, def: &LineDef) -> Result<PlainLine, NoMemory>
         requires valid { IsValid def.now }
         requires runs { HasValidRuns def.now }
-        requires waits { NeverWaits def.now }
         ensures def { IfOk result (λ line. line.def ≡ def.now) }
         ensures empty { IfOk result (λ line. line.entries ≡ []) }
     {
@@ -184,6 +183,10 @@ impl IrqLine for PlainLine {
         self.looked.flow
     }
 
+    fn spins(&self) -> bool {
+        self.looked.spins
+    }
+
     fn taker(&self) -> Option<CpuNo> {
         self.looked.taker
     }
@@ -194,5 +197,9 @@ impl IrqLine for PlainLine {
 
     fn blocks(&self) -> Blocks {
         self.looked.blocks
+    }
+
+    fn lowest_hung(&self) -> Option<Actor> {
+        self.looked.hung
     }
 }

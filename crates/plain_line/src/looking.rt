@@ -2,12 +2,14 @@
 ghost use Rattle.std.specs.Prelude.{◌≡◌, ◌+◌, ◌<◌, ◌≤◌, ◌∷◌, drop, length, IfOk};
 ghost use Rattle.irq_model.specs.Legal.{IsLegalPast};
 ghost use Rattle.irq_model.specs.Valid.{IsValid};
-ghost use Rattle.irq_line.specs.Queries.{is_some_take, blocks_at};
+ghost use Rattle.irq_line.specs.Queries.{is_some_take, blocks_at, spins_at};
+ghost use Rattle.irq_model.specs.Rounds.{flow};
 ghost use Rattle.plain_line.specs.Looked.{IsLooked, IsTakerAt, IsLowestAt, is_thread_due, lower_of};
 
 use irq_base::{Actor, Blocks, CpuEntry, CpuNo, DevNo, DeviceDef, Entry, LineDef, NoMemory};
 use plain_next::{
-    any_device, flow, holds_mutex, is_being_freed, is_running, is_woken, next_past, target,
+    any_device, flow, holds_mutex, is_being_freed, is_running, is_woken, lowest_hung, next_past,
+    target,
 };
 use std::alloc::Global;
 
@@ -15,9 +17,11 @@ use std::alloc::Global;
 #[derive(Clone, Copy)]
 pub(crate) struct Looked {
     pub(crate) flow: Option<CpuNo>,
+    pub(crate) spins: bool,
     pub(crate) taker: Option<CpuNo>,
     pub(crate) lowest: Option<DevNo>,
     pub(crate) blocks: Blocks,
+    pub(crate) hung: Option<Actor>,
 }
 
 /// Looks the answers up in a past whose newest entry comes first.
@@ -29,10 +33,24 @@ pub(crate) fn look(alloc: Global, def: &LineDef, past: &[Entry]) -> Result<Looke
 {
     Ok(Looked {
         flow: flow(def, past),
+        spins: spins(alloc, def, past)?,
         taker: taker(alloc, def, past)?,
         lowest: lowest_thread(alloc, def, past)?,
         blocks: blocks(def, past),
+        hung: lowest_hung(alloc, def, past)?,
     })
+}
+
+/// Whether the processor of the flow in progress has no entry due.
+fn spins(alloc: Global, def: &LineDef, past: &[Entry]) -> Result<bool, NoMemory>
+    requires valid { IsValid def.now }
+    requires few { length past.now ≤ 100000000 }
+    ensures { IfOk result (λ spins. spins ≡ spins_at def.now past.now (flow def.now past.now)) }
+{
+    match flow(def, past) {
+        Some(cpu) => Ok(next_past(alloc, def, past, Actor::Cpu(cpu))?.is_none()),
+        None => Ok(false),
+    }
 }
 
 /// The one processor that has a take due: the target, if it may take.

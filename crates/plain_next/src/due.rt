@@ -5,6 +5,7 @@ ghost use Rattle.irq_model.specs.Kinds.{is_freed_by};
 ghost use Rattle.irq_model.specs.Reason.{is_being_freed};
 ghost use Rattle.irq_model.specs.Due.{entries_by, begins_not_there, entries_of_call};
 ghost use Rattle.irq_model.specs.Due.{due_of, due_call, is_being_freed_at, holds_mutex};
+ghost use Rattle.irq_model.specs.Waits.{mutex_holder};
 
 use crate::entry_tests::EntryTest;
 use crate::kinds::{call_of, is_unlink};
@@ -38,6 +39,19 @@ pub fn holds_mutex(past: &[Entry]) -> bool
         }
     }
     false
+}
+
+/// Who made the last unlink whose free isn't complete.
+pub fn mutex_holder(past: &[Entry]) -> Option<Actor>
+    ensures { result ≡ mutex_holder past.now }
+{
+    for i in 0..past.len() {
+        let (after, upto) = past.split_at(i);
+        if is_being_freed_at(after, upto) {
+            return Some(upto[0].actor());
+        }
+    }
+    None
 }
 
 /// The device was unlinked, and its free isn't complete.

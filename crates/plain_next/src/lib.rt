@@ -10,6 +10,7 @@ mod asks;
 mod due;
 mod edges;
 mod entry_tests;
+mod hanging;
 mod kinds;
 mod lines;
 mod links;
@@ -29,6 +30,7 @@ mod threads;
 mod waiting;
 
 pub use due::{holds_mutex, is_being_freed};
+pub use hanging::lowest_hung;
 pub use lines::{any_device, does_forget, is_held, kind_of};
 pub use next::{newest_first, next_past, next_slow};
 pub use rounds::flow;

@@ -20,7 +20,7 @@ use std::alloc::Global;
 
 /// The thread's handler returned in this run.
 #[tactic(auto, unfolding(crate::specs::Passes::passes))]
-fn has_returned(past: &[Entry], dev: DevNo) -> bool
+pub(crate) fn has_returned(past: &[Entry], dev: DevNo) -> bool
     ensures { result ≡ list_any (is_thread_return dev) (since (is_thread_begin dev) past.now) }
 {
     let run = since(past, EntryTest::ThreadBegin(dev));

@@ -2,3 +2,4 @@ pub mod Listed
 pub mod NobodyHangs
 pub mod Moves
 pub mod Rest
+pub mod Hanging

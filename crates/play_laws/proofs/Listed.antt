@@ -30,7 +30,7 @@ use Rattle.irq_model.specs.Next.{next_of_thread, next_of_driver, next_past}
 use Rattle.irq_model.specs.Waits.{is_unfinished_actor}
 use Rattle.irq_model.specs.Legal.{IsDue, IsLegalPast}
 use Rattle.irq_model.specs.Valid.{IsValid}
-use Rattle.irq_steps.proofs.Same.{cpu_from_same}
+use Rattle.irq_model.proofs.Same.{cpu_from_same}
 use Rattle.irq_laws.specs.Kept.{Kept}
 use Rattle.irq_laws.proofs.RestKept.{there_named, woken_there, running_there}
 use Rattle.irq_laws.proofs.Chosen.{chosen, the_same}

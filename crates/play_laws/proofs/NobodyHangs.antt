@@ -1,7 +1,7 @@
 -- Where no run of a line waits, nobody hangs. A processor waits for nobody; a thread waits for a processor
 -- alone; who holds the request mutex waits for these, and any other driver for all of these.
-use Rattle.std.proofs.Common.{◌≡◌, ℕ, zero, suc, ◌<◌, Bool, true, false, not, ◌||◌, ◌&&◌, ◌==◌, cond, Option, Some}
-use Rattle.std.proofs.Common.{None, List, [], ◌∷◌, refl, sym, ap, ◌∙◌, subst, arith, eqb-true}
+use Rattle.std.proofs.Common.{◌≡◌, ℕ, zero, suc, ◌<◌, Bool, true, false, not, ◌||◌, ◌&&◌, cond, Option, Some}
+use Rattle.std.proofs.Common.{None, List, [], ◌∷◌, refl, sym, ap, ◌∙◌, subst, arith}
 use Rattle.std.specs.List.{list_any, AllByRecursion}
 use Rattle.std.proofs.lemmas.Bool.{false_from_ne_true}
 use Rattle.std.proofs.lemmas.List.Elements.{recursion_from_All}
@@ -35,9 +35,9 @@ use Rattle.irq_laws.proofs.Chosen.{the_same}
 use Rattle.irq_laws.proofs.KeptAlways.{kept}
 use Rattle.irq_laws.proofs.Mutex.{holder}
 use Rattle.irq_laws.proofs.Requested.{one_of}
-use Rattle.irq_laws.proofs.Standstill.{run_stands, holds_it}
+use Rattle.irq_laws.proofs.Standstill.{run_stands, holds_it, free_wants}
 use Rattle.irq_laws.proofs.WithinFree.{within_free}
-use Rattle.irq_steps.proofs.Same.{actor_from_same, same_self_actor}
+use Rattle.irq_model.proofs.Same.{actor_from_same, same_self_actor}
 
 -- ---- a run wants nothing
 
@@ -72,23 +72,12 @@ wants_nothing kind part d calls.SyncHard n may h = cc
 wants_nothing kind part d calls.DisableHard n may h = cc
 wants_nothing kind part d c n may h = refl
 
-none_stands : (def : LineDef) (past : List Entry) (b : Actor) → StandsIn def past nothing_wanted b → ⊥
+pub none_stands : (def : LineDef) (past : List Entry) (b : Actor) → StandsIn def past nothing_wanted b → ⊥
 none_stands def past (actors.Thread d) h = h
 none_stands def past (actors.Cpu c) h = h
 none_stands def past (actors.Driver r) h = h
 
 -- ---- who holds the mutex doesn't want it
-
-free_wants : (x : DevNo) (n : ℕ) → wanted_by (calls.Free x, suc n) ≡ mutex_free → ⊥
-free_wants x n h = by_tests (suc n == 0) (suc n == 1) not_zero h
-  where
-    not_zero : (suc n == 0) ≡ false
-    not_zero = false_from_ne_true (suc n == 0) (λ is. let z = eqb-true (suc n) 0 is in omega (arith, z))
-
-    by_tests : (z o : Bool) → z ≡ false → cond z mutex_free (cond o flow_ends (thread_rests x)) ≡ mutex_free → ⊥
-    by_tests true o i h = cc
-    by_tests false true i h = cc
-    by_tests false false i h = cc
 
 held_at : (P : List Entry → List Entry → Bool) (past : List Entry) (a : Actor) → maker_of (last_place P past) ≡ Some a → some_place P past ≡ true
 held_at P [] a h = cc
@@ -103,7 +92,8 @@ held_at P (e ∷ past) a h = by_test (P [] (e ∷ past)) h (held_at (λ after up
 same_maker : (o : Option Actor) (a b : Actor) → o ≡ Some a → o ≡ Some b → a ≡ b
 same_maker o a b h k = the_same a b (sym h ∙ k)
 
-holder_wants_not : (def : LineDef) (past : List Entry) (a : Actor) → IsValid def → IsLegalPast def past → mutex_holder past ≡ Some a
+-- who holds the mutex is within its free
+pub holder_wants_not : (def : LineDef) (past : List Entry) (a : Actor) → IsValid def → IsLegalPast def past → mutex_holder past ≡ Some a
     → (d : DevNo) × (n : ℕ) × (due_of_actor def a past ≡ Some (calls.Free d, suc n))
 holder_wants_not def past a valid legal held =
     let o = holder past (held_at is_being_freed_at past a held) in
@@ -166,7 +156,7 @@ module _ (def : LineDef) (past : List Entry) (valid : IsValid def) (runs : HasVa
       by_holder (Some b) is = false_from_ne_true (same_actor (actors.Driver r) b) (λ same.
           let mine : mutex_holder past ≡ Some (actors.Driver r) = is ∙ ap Some (sym (actor_from_same (actors.Driver r) b same)) in
           let w = holder_wants_not def past (actors.Driver r) valid legal mine in
-          free_wants w.0 w.1 (sym (ap wanted_of w.2) ∙ wants))
+          (free_wants w.0 w.1).1 (sym (ap wanted_of w.2) ∙ wants))
 
   holder_rank : (b : Actor) → mutex_holder past ≡ Some b → rank b < 3
   holder_rank (actors.Cpu c) held = omega arith

@@ -8,6 +8,8 @@ use Rattle.irq_base.specs.declared.entries.Actor.{Actor}
 use Rattle.irq_base.specs.declared.entries.Entry.{Entry}
 use Rattle.irq_base.specs.declared.numbers.LineNo.{LineNo}
 use Rattle.irq_model.specs.Next.{next_past}
+use Rattle.board_core.specs.Hung.{IsEndOf}
+use Rattle.board_core.specs.declared.ends.PlayEnd.{PlayEnd}
 use Rattle.board_def.specs.Rules.{IsBoard}
 use Rattle.board_def.specs.Seen.{BoardSeen}
 use Rattle.board_play.specs.Kept.{AreKept}
@@ -17,7 +19,7 @@ use Rattle.board_play.proofs.Parts.{due_of}
 use Rattle.board_report.specs.Moving.{AreAtRest}
 use Rattle.board_report.proofs.Printable.{printable, turned}
 use Rattle.log_text.specs.EntryWords.{IsPrintable}
-use Rattle.play_orders.specs.Orders.{IsMade, IsPlayed, Order, moves_in}
+use Rattle.board_play.specs.Orders.{IsMade, IsPlayed, Order, moves_in}
 use Rattle.play_report.specs.Ordered.{lines_after}
 use Rattle.play_report.specs.Printing.{StepHasRow}
 
@@ -36,9 +38,10 @@ module _ {S E : Type 0} (b : BoardSeen) (o : Order S E) where
   MovesDue = (g : List E) (at after : S) (e : E) (m : Move) → o.next g at ≡ Some (e, after) → o.told e ≡ Some m
       → IsOn (lines_of b (moves_in o g)) m.0 m.1
 
-  -- how a play ended: done or full as was answered; a full one says the length; if memory was refused a further step is due
-  abbrev pub IsEnd : S → List E → Result Unit StepRefused → Type 0
-  IsEnd first g (Ok _) = IsPlayed o first (reverse g) Done
+  -- how a play ended: done or full as was answered; a done one says who hangs, a full one the length; if memory was refused a
+  -- further step is due
+  abbrev pub IsEnd : S → List E → Result PlayEnd StepRefused → Type 0
+  IsEnd first g (Ok e) = IsPlayed o first (reverse g) Done × IsEndOf (lines_after b o g) e
   IsEnd first g (Err (refusals.Full line len)) = IsPlayed o first (reverse g) (Full line) × (length (part line (moves_in o (reverse g))) ≡ len)
   IsEnd first g (Err refusals.NoMemory) = (at : S) × IsMade o first (reverse g) at × IsSome (o.next (reverse g) at)
 

@@ -7,6 +7,7 @@ ghost use Rattle.play_report.specs.Answers.{Answers, Prints};
 ghost use Rattle.play_report.specs.Failing.{is_printing, is_write_fault};
 
 use crate::failing::PlayFailed;
+use board_core::PlayEnd;
 use board_def::{Board, Layout};
 use board_report::{ReportRoom, hand_on, print_layout};
 use irq_base::Reports;
@@ -19,14 +20,15 @@ use text_row::TextRow;
 #[derive(Drop)]
 pub struct PlayedBoard {
     /// How the play and its printing ended.
-    pub end: Result<(), PlayFailed>,
+    pub end: Result<PlayEnd, PlayFailed>,
     /// One report for each line of the board, in its order; none if there was no memory to begin.
     pub reports: Reports,
 }
 
 /// A board's play that has ended.
 pub trait EndedPlay {
-    ghost use Rattle.std.specs.Prelude.{◌≡◌, ℕ, List, Result, length};
+    ghost use Rattle.std.specs.Prelude.{◌≡◌, ℕ, List, Result, IsOk, length};
+    ghost use Rattle.board_core.specs.declared.ends.PlayEnd.{PlayEnd};
     ghost use Rattle.irq_base.specs.declared.reporting.LineReport.{LineReport};
     ghost use Rattle.irq_io.specs.Faults.{Counts};
     ghost use Rattle.irq_io.specs.Whole.{WritesAll, writing_failed};
@@ -39,16 +41,16 @@ pub trait EndedPlay {
     ghost board_of: { Self → BoardSeen };
 
     /// How the play ended.
-    ghost ended: { Self → Result Unit StepRefused };
+    ghost ended: { Self → Result PlayEnd StepRefused };
 
     /// What is printed of it after the layout.
     ghost text: { Self → List ℕ };
 
     /// What reports hand out of it, by how it ended.
-    ghost hands_out: { Self → Result Unit StepRefused → List LineReport → Type 0 };
+    ghost hands_out: { Self → Result PlayEnd StepRefused → List LineReport → Type 0 };
 
     /// How the play ended. The only error is that of the step that was refused.
-    fn end(&self) -> Result<(), StepRefused>
+    fn end(&self) -> Result<PlayEnd, StepRefused>
         ensures { result ≡ ended self.now };
 
     /// The board's layout.
@@ -57,7 +59,7 @@ pub trait EndedPlay {
 
     /// Prints the rows of a play that came to its end.
     fn print<O: Sink>(&self, out: &mut O) -> Result<(), WriteFailed>
-        requires { ended self.now ≡ Ok tt }
+        requires { IsOk (ended self.now) }
         ensures content { WritesAll (O.written out.old) (O.written out.new) (text self.now) result }
         ensures cause { Counts (O.faults out.old) (O.faults out.new) (writing_failed result) };
 
@@ -93,7 +95,7 @@ fn print_ended<O: Sink, P: EndedPlay>(
     board: &Board,
     play: &P,
     out: &mut O,
-) -> Result<(), PlayFailed>
+) -> Result<PlayEnd, PlayFailed>
     requires { P.board_of play.now ≡ board.now }
     ensures prints { Prints (layout_rows board.now ++ P.text play.now) (P.ended play.now)
         (O.written out.old) (O.written out.new) result }
@@ -101,12 +103,12 @@ fn print_ended<O: Sink, P: EndedPlay>(
     ensures write_fault { Counts (O.faults out.old) (O.faults out.new) (is_write_fault result) }
     ensures silent { is_printing result ≡ false → out.new ≡ out.old }
 {
-    play.end()?;
+    let end = play.end()?;
     let mut row = TextRow::new();
     print_layout(out, &mut row, board, play.layout())?;
     play.print(out)?;
     hand_on(out)?;
-    Ok(())
+    Ok(end)
 }
 
 /// The result of a play that was refused memory for anything but a step.

@@ -9,7 +9,7 @@ ghost use Rattle.play_report.specs.Report.{moves_text};
 use board_core::Moves;
 use irq_io::{Sink, WriteFailed, write_all};
 use irq_line::IrqLine;
-use kept_rows::KeptRows;
+use log_text::KeptRows;
 use text_row::TextRow;
 
 /// Prints the rows of the moves that are left, the oldest first.

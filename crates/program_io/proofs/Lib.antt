@@ -1,2 +1,4 @@
+pub mod Forms
 mod Stated
+pub mod Streams
 mod Telling

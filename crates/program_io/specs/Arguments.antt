@@ -33,3 +33,8 @@ IsNotText (Err error) = error_kind error ≡ kinds.InvalidData
 abbrev pub IsRefusal : Arguments → ArgumentsRefused → Type 0
 IsRefusal args refused = (IsNotText args × (refused ≡ refusals.NotText))
     ⊎ ((IsNotText args → ⊥) × (refused ≡ refusals.NoMemory))
+
+-- the arguments are the program's name and words that ask for this
+abbrev pub IsForm : {A : Type 0} → (List (List ℕ) → A → Type 0) → Arguments → A → Type 0
+IsForm Asks (Ok args) asked = Asks (map string_bytes (after_name (into_iter_items args))) asked
+IsForm Asks (Err error) asked = ⊥

@@ -1,10 +1,11 @@
 //! Rows that say on an error sink what went wrong.
 ghost use Rattle.std.specs.Prelude.{◌≡◌, ◌≤◌, ◌++◌, length};
-ghost use Rattle.program_io.specs.ErrorRows.{Tells, fault_row, full_row};
+ghost use Rattle.program_io.specs.ErrorRows.{Tells, fault_row, full_row, hung_row};
 
 use board_text::BoardFault;
-use irq_base::LineNo;
+use irq_base::{Actor, LineNo};
 use irq_io::{Sink, write_all};
+use log_text::push_actor;
 use text_row::TextRow;
 
 /// Adds a fault of an input.
@@ -29,6 +30,17 @@ pub fn push_full_log(row: &mut TextRow, line: LineNo, len: u32)
     row.push_bytes(b" at ");
     row.push_number(len);
     row.push_bytes(b" entries\n");
+}
+
+/// Adds that the actor hangs on the line.
+pub fn push_hung(row: &mut TextRow, line: LineNo, actor: Actor)
+    requires { length row.old ≤ 200 }
+    ensures { row.new ≡ row.old ++ hung_row line actor }
+{
+    row.push_bytes(b"hung: line ");
+    row.push_number(line.0);
+    push_actor(row, actor);
+    row.push(b'\n');
 }
 
 /// Writes the row, and hands it on.

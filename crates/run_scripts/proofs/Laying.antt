@@ -9,7 +9,7 @@ use Rattle.irq_base.specs.declared.devices.Part.TheVariants as parts
 use Rattle.irq_base.specs.declared.numbers.DevNo.{DevNo}
 use Rattle.irq_model.specs.Kinds.{same_dev}
 use Rattle.irq_model.specs.Lines.{is_device}
-use Rattle.irq_steps.proofs.Same.{dev_from_same}
+use Rattle.irq_model.proofs.Same.{dev_from_same}
 use Rattle.device_table.specs.Rows.{at}
 use Rattle.run_scripts.specs.Groups.{group_in, items_at, span_in, span_of, spans_from, AreWithin}
 use Rattle.run_scripts.specs.declared.groups.Spans.{Spans}

@@ -1,12 +1,14 @@
 -- The scripts and the answers of a line's runs, and how far they are.
-use Rattle.std.specs.Prelude.{◌≡◌, ℕ, true, Option, Some, List, [], slice_get}
+use Rattle.std.specs.Prelude.{◌≡◌, ℕ, Bool, true, Option, Some, List, [], slice_get}
+use Rattle.std.specs.List.{list_any}
 use Rattle.irq_base.specs.declared.calls.Call.{Call}
 use Rattle.irq_base.specs.declared.devices.Part.{Part}
 use Rattle.irq_base.specs.declared.devices.ToldAnswer.{ToldAnswer}
 use Rattle.irq_base.specs.declared.lines.LineDef.{LineDef}
 use Rattle.irq_base.specs.declared.numbers.DevNo.{DevNo}
 use Rattle.irq_model.specs.Lines.{has_device, run_script, told_answers}
-use Rattle.irq_steps.specs.Laid.{with_count}
+use Rattle.irq_model.specs.ValidRuns.{may_wait}
+use Rattle.irq_model.specs.Laid.{with_count}
 use Rattle.device_table.specs.Rows.{at}
 use Rattle.run_scripts.specs.Groups.{GroupsSeen, group_of}
 use Rattle.run_scripts.specs.Places.{PlacesSeen, first_place, first_row, place_at, turn_at}
@@ -53,3 +55,9 @@ pub record IsBare (calls : List Call) (answers : List ToldAnswer) (work : RunPla
   pub untold : answers ≡ []
   pub idle : work ≡ first_place
   pub first : (d : DevNo) (r : RunRow) → at rows d ≡ Some r → r ≡ first_row
+
+-- the two marks: nothing is called and nothing told; some call may wait for its own run
+pub record IsKept (bare waits : Bool) (calls : List Call) (answers : List ToldAnswer)
+    (work : RunPlace) (rows : List (DevNo × RunRow)) : Type 0 where
+  pub bare_is : bare ≡ true → IsBare calls answers work rows
+  pub waits_is : waits ≡ list_any may_wait calls

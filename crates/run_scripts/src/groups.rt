@@ -76,6 +76,13 @@ impl<T: Copy> Groups<T> {
         Ok(Groups { items, spans })
     }
 
+    /// All of them, by device and part.
+    pub(crate) fn items(&self) -> &[T]
+        ensures { result.now ≡ self.now.items }
+    {
+        self.items.as_slice()
+    }
+
     /// Whether there are none at all.
     pub(crate) fn is_empty(&self) -> bool
         ensures { result ≡ true → self.now.items ≡ [] }

@@ -1,6 +1,8 @@
 //! The scripts and the answers of a line's runs.
 ghost use Rattle.std.specs.Prelude.{◌≡◌, ◌+◌, ◌^◌, ◌<◌, ◌≤◌, true, [], length, IsSome, IfOk};
+ghost use Rattle.std.specs.List.{list_any};
 ghost use Rattle.irq_model.specs.Valid.{HasDistinctDevices};
+ghost use Rattle.irq_model.specs.ValidRuns.{may_wait};
 ghost use Rattle.device_table.specs.Rows.{change, all_with};
 ghost use Rattle.run_scripts.specs.Places.{first_place, first_row, row_at, place_at, turn_at};
 ghost use Rattle.run_scripts.specs.Places.{after_begin, after_return, after_call, placed};
@@ -21,6 +23,8 @@ use std::marker::Model;
 pub struct RunScripts {
     // Nothing is called and nothing told, so that nothing ever changes.
     bare: bool,
+    // Some call may wait for its own run.
+    waits: bool,
     calls: Groups<Call>,
     answers: Groups<ToldAnswer>,
     work: RunPlace,
@@ -28,8 +32,7 @@ pub struct RunScripts {
 }
 
 impl Model for RunScripts {
-    ghost use Rattle.std.specs.Prelude.{◌≡◌, true};
-    ghost use Rattle.run_scripts.specs.Runs.{RunsSeen, IsBare};
+    ghost use Rattle.run_scripts.specs.Runs.{RunsSeen, IsKept};
 
     ghost Value = { RunsSeen };
 
@@ -39,7 +42,7 @@ impl Model for RunScripts {
       places = record { work = s.work; rows = s.rows };
     } };
 
-    ghost invariant = { λ s. s.bare ≡ true → IsBare s.calls.items s.answers.items s.work s.rows };
+    ghost invariant = { λ s. IsKept s.bare s.waits s.calls.items s.answers.items s.work s.rows };
 }
 
 impl RunScripts {
@@ -57,13 +60,23 @@ impl RunScripts {
         let answers = Groups::new(alloc, &def.devices, &def.told)?;
         let rows = DeviceTable::new(alloc, &def.devices, RunRow::FIRST)?;
         let bare = are_bare(&calls, &answers);
+        let waits = may_any_wait(calls.items());
         Ok(RunScripts {
             bare,
+            waits,
             calls,
             answers,
             work: RunPlace::FIRST,
             rows,
         })
+    }
+
+    /// Whether some call of a run may wait for its own run.
+    #[inline(always)]
+    pub fn may_wait(&self) -> bool
+        ensures { result ≡ list_any may_wait self.now.calls.items }
+    {
+        self.waits
     }
 
     /// The first call that isn't complete of the run that is there, and how many entries it has
@@ -304,6 +317,25 @@ impl RunScripts {
             self.rows.set(dev, row);
         }
     }
+}
+
+/// Whether one of the calls may wait for its own run.
+fn may_any_wait(calls: &[Call]) -> bool
+    ensures { result ≡ list_any may_wait calls.now }
+{
+    for call in calls {
+        if may_wait(*call) {
+            return true;
+        }
+    }
+    false
+}
+
+/// Whether the call may wait for its own run.
+fn may_wait(call: Call) -> bool
+    ensures { result ≡ may_wait call }
+{
+    matches!(call, Call::Disable | Call::Sync | Call::Free { .. })
 }
 
 /// Whether nothing is called and nothing told.

@@ -4,6 +4,7 @@ use Rattle.std.proofs.Common.{reverse, slice_get, refl, sym, ap, ◌∙◌, subs
 use Rattle.std.proofs.lemmas.Bool.{and_parts}
 use Rattle.std.proofs.lemmas.List.{reverse-reverse}
 use Rattle.irq_base.specs.declared.devices.Run.{Run}
+use Rattle.irq_base.specs.declared.entries.Actor.{Actor}
 use Rattle.irq_base.specs.declared.entries.Entry.{Entry}
 use Rattle.irq_base.specs.declared.numbers.LineNo.{LineNo}
 use Rattle.irq_base.specs.declared.reporting.LineReport.{LineReport}
@@ -18,9 +19,13 @@ use Rattle.board_def.specs.Rules.{IsBoard, has_driver}
 use Rattle.board_def.specs.Seen.{BoardSeen}
 use Rattle.board_def.specs.declared.rows.LineRow.{LineRow}
 use Rattle.board_driver.specs.Longer.{last_driver}
+use Rattle.board_core.specs.Hung.{IsEndOf, SaysEnd, stop_of}
 use Rattle.board_core.specs.Runs.{runs_of}
 use Rattle.board_core.specs.Seen.{board_lines}
 use Rattle.board_core.specs.Wanted.{HasSpare}
+use Rattle.board_core.specs.declared.ends.PlayEnd.{PlayEnd}
+use Rattle.board_core.specs.declared.ends.PlayEnd.TheVariants as ends
+use Rattle.board_play.specs.Hanging.{IsFirstHung}
 use Rattle.board_play.specs.Kept.{AreKept}
 use Rattle.board_play.specs.Lines.{BoardLine, Move, defs_of, lines_of, part}
 use Rattle.board_play.specs.Order.{actors_of}
@@ -30,13 +35,13 @@ use Rattle.board_play.proofs.Members.{past_at}
 use Rattle.board_report.specs.Moving.{AreAtRest}
 use Rattle.board_report.specs.Reporting.{IsHandedRoom, KeepRoom, entries_in}
 use Rattle.board_report.proofs.Laid.{its_entries, line_laid}
-use Rattle.play_orders.specs.Orders.{IsMade, Order}
+use Rattle.board_play.specs.Orders.{IsMade, Order}
 use Rattle.log_text.specs.LayoutRows.{layout_rows}
 use Rattle.play_report.specs.Answers.{Answers, HandsOutStep}
 use Rattle.play_report.specs.declared.failing.PlayFailed.{PlayFailed}
 use Rattle.play_report.proofs.Answered as answered
 use Rattle.play_report.proofs.Answered.{answers_as, of_some, with_step, without_step}
-use Rattle.play_report.specs.Ordered.{lines_after}
+use Rattle.play_report.specs.Ordered.{HandsOut, lines_after}
 use Rattle.play_report.proofs.Handed.{Reported, handed_out}
 use Rattle.play_report.proofs.Scenario.{IsEnd, IsScenario, log_has_rows}
 use Rattle.play_report.specs.Printing.{StepHasRow}
@@ -45,6 +50,7 @@ use Rattle.irq_pm.specs.SleepLog.{moves_of, told}
 use Rattle.irq_pm.specs.Slept.{Sleeps, SleepsThrough}
 use Rattle.irq_pm.specs.SleptBoard.{are_runs_calm, can_all_wake, has_room_for_sleep, is_for_sleep, slept}
 use Rattle.irq_pm.specs.declared.entries.SleepEntry.{SleepEntry}
+use Rattle.irq_pm.proofs.Calm.{calm_boards_settle}
 use Rattle.irq_pm.proofs.Order.{first_is}
 use Rattle.irq_pm.proofs.Through.{comes_to_rest, moves_are, names_waker, state, through}
 use Rattle.irq_sleeper.specs.Seen.{SleeperSeen, log_of}
@@ -172,13 +178,15 @@ module _ (b : BoardSeen) (armed : List LineNo) (s : SleeperSeen) (of : IsSleepOf
   of_board : (P : BoardSeen → List LineNo → Type 0) → P s.system.board s.watch.armed → P (slept b) armed
   of_board P p = subst (λ (c : BoardSeen). P c armed) of.longer.slept (subst (P s.system.board) of.watched p)
 
-  as_end : (end : Result Unit StepRefused) → IsSleep s s.system.board.picks end → IsEnd (slept b) order (Picking b.picks) (log_of s) end
-  as_end (Ok _) p = of_board (λ c a. Sleeps c a c.picks (reverse (log_of s)) Done) p
-  as_end (Err (refusals.Full line len)) p = (
+  as_end : (end : Result PlayEnd StepRefused) → IsSleep s s.system.board.picks (stop_of end) → SaysEnd (board_lines s.system.lines) end
+      → IsEnd (slept b) order (Picking b.picks) (log_of s) end
+  as_end (Ok e) p says =
+      (of_board (λ c a. Sleeps c a c.picks (reverse (log_of s)) Done) p, subst (λ (ls : List BoardLine). IsEndOf ls e) are says)
+  as_end (Err (refusals.Full line len)) p says = (
     of_board (λ c a. Sleeps c a c.picks (reverse (log_of s)) (Full line)) p.0,
     ap (λ (ms : List Move). length (part line ms)) (moves_are (slept b) armed (reverse (log_of s)) ∙ t.told) ∙ p.1,
   )
-  as_end (Err refusals.NoMemory) p =
+  as_end (Err refusals.NoMemory) p says =
       let made : IsMade order (Picking b.picks) (reverse (log_of s)) p.0 =
       of_board (λ c a. IsMade (sleep_order c a) (Picking c.picks) (reverse (log_of s)) p.0) p.1 in (
         p.0,
@@ -188,13 +196,29 @@ module _ (b : BoardSeen) (armed : List LineNo) (s : SleeperSeen) (of : IsSleepOf
             (subst (λ (ls : List BoardLine). IsSome (first_move s.system.board ls (actors_of s.system.board))) (are ∙ sym same_lines) p.2)),
       )
 
-  -- the reports of the lines that were taken out of it
-  pub hands_out : (end : Result Unit StepRefused) → IsSleep s s.system.board.picks end → (lines : List LineSeen) → lines ≡ s.system.lines
-      → (reports : List LineReport) → Reported s.system.board (board_lines lines) reports → SleepHandsOut b armed (log_of s) end reports
+  -- no run waits, so nobody hangs at the end
+  never_hung : IsSleep s s.system.board.picks (Ok tt) → (line : LineNo) (actor : Actor) → IsFirstHung (board_lines s.system.lines) line actor → ⊥
+  never_hung p line actor f =
+      let q = of_board (λ c a. Sleeps c a c.picks (reverse (log_of s)) Done) p in
+      calm_boards_settle b long (is_calm b armed of.longer.fits) (board_lines s.system.lines)
+      (subst (AreKept (slept b)) (sym are) (scenario.kept q.0 q.1)) f.place f.of actor f.at f.lowest.0
+
+  by_end : (end : Result PlayEnd StepRefused) (reports : List LineReport) → IsSleep s s.system.board.picks (stop_of end)
+      → SaysEnd (board_lines s.system.lines) end
+      → HandsOut (slept b) order (Picking b.picks) (KeepsSleep b armed) (log_of s) end reports → SleepHandsOut b armed (log_of s) end reports
   unfolding SleepHandsOut
-  hands_out end sleep lines out reports told =
-      handed_out (slept b) order (Picking b.picks) (KeepsSleep b armed) (log_of s) scenario (board_lines lines) (ap board_lines out ∙ are) reports
-      (subst (λ (c : BoardSeen). Reported c (board_lines lines) reports) of.longer.slept told) end (as_end end sleep)
+  by_end (Ok ends.Settled) reports sleep says h = h
+  by_end (Ok (ends.Hung line actor)) reports sleep says h = never_hung sleep line actor says
+  by_end (Err refused) reports sleep says h = h
+
+  -- the reports of the lines that were taken out of it
+  pub hands_out : (end : Result PlayEnd StepRefused) → IsSleep s s.system.board.picks (stop_of end) → SaysEnd (board_lines s.system.lines) end
+      → (lines : List LineSeen) → lines ≡ s.system.lines → (reports : List LineReport) → Reported s.system.board (board_lines lines) reports
+      → SleepHandsOut b armed (log_of s) end reports
+  hands_out end sleep says lines out reports told =
+      by_end end reports sleep says
+      (handed_out (slept b) order (Picking b.picks) (KeepsSleep b armed) (log_of s) scenario (board_lines lines) (ap board_lines out ∙ are) reports
+      (subst (λ (c : BoardSeen). Reported c (board_lines lines) reports) of.longer.slept told) end (as_end end sleep says))
 
 -- ---- which step was refused memory
 
@@ -224,13 +248,14 @@ module _ (may_want : Option Entry → Type 0) where
       spare number (i, report, at, its, room) k x at_x same =
           subst (λ (n : ℕ). 1 ≤ n) (keep k i x report (subst (λ (ls : List LineSeen). slice_get ls k ≡ Some x) (sym out) at_x) at (its ∙ sym same)) room
 
-  pub hands_out_step : (b : BoardSeen) (armed : List LineNo) (s : SleeperSeen) → IsSleepOf b armed s → (end : Result Unit StepRefused)
-      → PlayWants may_want s s.system.board.picks end → (taken : List LineSeen) → taken ≡ s.system.lines → (reports : List LineReport)
+  pub hands_out_step : (b : BoardSeen) (armed : List LineNo) (s : SleeperSeen) → IsSleepOf b armed s → (end : Result PlayEnd StepRefused)
+      → PlayWants may_want s s.system.board.picks (stop_of end) → (taken : List LineSeen) → taken ≡ s.system.lines → (reports : List LineReport)
       → KeepRoom taken reports → SleepHandsOut b armed (log_of s) end reports
       → HandsOutStep (SleepHandsOut b armed (log_of s)) (RefusedStep may_want b armed (log_of s)) end reports
   hands_out_step b armed s of end wants taken out reports keep h =
       with_step (SleepHandsOut b armed (log_of s)) (RefusedStep may_want b armed (log_of s)) end reports h
-      (λ is. step_done b armed s of taken out reports keep (subst (λ (e : Result Unit StepRefused). PlayWants may_want s s.system.board.picks e) is wants))
+      (λ is. step_done b armed s of taken out reports keep
+      (subst (λ (e : Result PlayEnd StepRefused). PlayWants may_want s s.system.board.picks (stop_of e)) is wants))
 
   cut_of : (b : BoardSeen) (armed : List LineNo) (g : List SleepEntry) (reports : List LineReport)
       → SleepHandsOut b armed g (Err refusals.NoMemory) reports → SleepCut b armed g reports
@@ -238,7 +263,7 @@ module _ (may_want : Option Entry → Type 0) where
   cut_of b armed g reports h = h
 
   module _ (b : BoardSeen) (armed : List LineNo) (s : SleeperSeen) (of : IsSleepOf b armed s) (reports : List LineReport)
-      (before after : Option (List ℕ)) (end : Result Unit PlayFailed) where
+      (before after : Option (List ℕ)) (end : Result PlayEnd PlayFailed) where
     -- what is answered of the longer board tells the step
     pub tells_step : (text : List ℕ) → Answers text (HandsOutSleep may_want s) reports before after end → TellsStep may_want b armed reports end
     tells_step text told =

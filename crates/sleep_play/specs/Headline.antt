@@ -1,10 +1,12 @@
 -- What holds of a board's sleep, and of the reports that hand it out. The steps and marks of a log
 -- stand oldest first here; the definition of a sleep has the newest first.
-use Rattle.std.specs.Prelude.{◌≡◌, ℕ, true, Option, Result, List, reverse}
+use Rattle.std.specs.Prelude.{◌≡◌, ℕ, true, Option, Result, Ok, List, reverse}
 use Rattle.irq_base.specs.declared.entries.Entry.{Entry}
 use Rattle.irq_base.specs.declared.numbers.LineNo.{LineNo}
 use Rattle.irq_base.specs.declared.reporting.LineReport.{LineReport}
 use Rattle.irq_line.specs.declared.answers.StepRefused.{StepRefused}
+use Rattle.board_core.specs.declared.ends.PlayEnd.{PlayEnd}
+use Rattle.board_core.specs.declared.ends.PlayEnd.TheVariants as ends
 use Rattle.board_def.specs.Seen.{BoardSeen}
 use Rattle.board_play.specs.Lines.{lines_of}
 use Rattle.board_report.specs.Headline.{EachMapped, Histories}
@@ -48,11 +50,14 @@ abbrev pub SleepCut : BoardSeen → List LineNo → List SleepEntry → List Lin
 SleepCut b armed =
     IsCut (slept b) (sleep_order (slept b) armed) (Picking b.picks) (KeepsSleep b armed)
 
--- what the reports hand out, by how the play ended: one of these three
+-- what the reports hand out, by how the play ended: one of these three. No run waits, so no actor is
+-- hung at the end.
 unfoldable pub SleepHandsOut : BoardSeen → List LineNo → List SleepEntry
-    → Result Unit StepRefused → List LineReport → Type 0
-SleepHandsOut b armed =
-    HandsOut (slept b) (sleep_order (slept b) armed) (Picking b.picks) (KeepsSleep b armed)
+    → Result PlayEnd StepRefused → List LineReport → Type 0
+SleepHandsOut b armed g (Ok (ends.Hung line actor)) reports = ⊥
+SleepHandsOut b armed g end reports =
+    HandsOut (slept b) (sleep_order (slept b) armed) (Picking b.picks) (KeepsSleep b armed) g end
+    reports
 
 -- The step that was refused memory: whose it was, and on which line. If there was room for one more
 -- entry, in the history that is handed out for the line and in the log, then the line may want

@@ -18,6 +18,9 @@ use Rattle.irq_pm.specs.SleptBoard.{is_for_sleep, slept}
 use Rattle.irq_pm.specs.declared.entries.SleepEntry.{SleepEntry}
 use Rattle.irq_sleeper.specs.Seen.{SleeperSeen, log_of}
 use Rattle.irq_sleeper.specs.Steps.{IsSleep, IsTold}
+use Rattle.board_core.specs.Hung.{SaysEnd, stop_of}
+use Rattle.board_core.specs.Seen.{board_lines}
+use Rattle.board_core.specs.declared.ends.PlayEnd.{PlayEnd}
 use Rattle.play_report.specs.Answers.{AnswersOfSome, HandsOutStep, TellsOfSome}
 use Rattle.play_report.specs.declared.failing.PlayFailed.{PlayFailed}
 use Rattle.sleep_play.specs.Headline.{RefusedStep, SleepCut, SleepHandsOut}
@@ -30,26 +33,27 @@ runs_of_steps b g = runs_of (slept b) (moves_of (reverse g))
 -- What the sleep answers and prints, by how it ended, and for which runs handlers were called;
 -- `heard` says of runs that it is these. Nothing is printed unless the sleep came to its end.
 abbrev pub SleepsBoard : BoardSeen → List LineNo → (List Run → Type 0) → List LineReport
-    → Option (List ℕ) → Option (List ℕ) → Result Unit PlayFailed → Type 0
+    → Option (List ℕ) → Option (List ℕ) → Result PlayEnd PlayFailed → Type 0
 SleepsBoard b armed heard =
     AnswersOfSome (sleep_text b) (SleepHandsOut b armed) (runs_of_steps b) heard
 
 -- If a step was refused memory, it is told which step it was; `may_want` says for which entry that
 -- is due a line may want memory though there is room.
 abbrev pub TellsStep : (Option Entry → Type 0) → BoardSeen → List LineNo → List LineReport
-    → Result Unit PlayFailed → Type 0
+    → Result PlayEnd PlayFailed → Type 0
 TellsStep may_want b armed = TellsOfSome (SleepCut b armed) (RefusedStep may_want b armed)
 
 -- what is seen of a sleep that has ended
 pub record SleepPlaySeen : Type 0 where
   pub sleeper : SleeperSeen
-  pub end : Result Unit StepRefused
+  pub end : Result PlayEnd StepRefused
 
 -- a sleeper in which its board, which has the system's driver, was played, and how the play ended
-pub record IsPlayedSleeper (s : SleeperSeen) (end : Result Unit StepRefused) : Type 0 where
+pub record IsPlayedSleeper (s : SleeperSeen) (end : Result PlayEnd StepRefused) : Type 0 where
   pub layout : s.system.layout ≡ layout_of s.system.board
   pub told : IsTold s
-  pub sleep : IsSleep s s.system.board.picks end
+  pub sleep : IsSleep s s.system.board.picks (stop_of end)
+  pub says : SaysEnd (board_lines s.system.lines) end
 
 -- the longer board is board b with the system's driver, which can sleep with these lines armed
 pub record IsLongerOf (b : BoardSeen) (armed : List LineNo) (longer : BoardSeen) : Type 0 where
@@ -70,7 +74,7 @@ pub record IsSleepOf (b : BoardSeen) (armed : List LineNo) (s : SleeperSeen) : T
 
 -- what the reports hand out, and of a step that was refused memory which it was, whichever board it
 -- is
-abbrev pub HandsOutSleep : (Option Entry → Type 0) → SleeperSeen → Result Unit StepRefused
+abbrev pub HandsOutSleep : (Option Entry → Type 0) → SleeperSeen → Result PlayEnd StepRefused
     → List LineReport → Type 0
 HandsOutSleep may_want s end reports =
     (b : BoardSeen) (armed : List LineNo) → IsSleepOf b armed s

@@ -1,6 +1,7 @@
 //! A sleep that has ended.
 
 use crate::printing::SleepRows;
+use board_core::PlayEnd;
 use board_def::{Board, Layout};
 use board_report::{ReportRoom, hand_out};
 use irq_base::Reports;
@@ -14,10 +15,11 @@ use std::marker::Model;
 #[derive(Drop)]
 pub struct SleepPlay<'b, L: IrqLine> {
     pub(crate) sleeper: Sleeper<'b, L>,
-    pub(crate) end: Result<(), StepRefused>,
+    pub(crate) end: Result<PlayEnd, StepRefused>,
 }
 
 impl<'b, L: IrqLine> Model for SleepPlay<'b, L> {
+    ghost use Rattle.board_core.specs.Hung.{stop_of};
     ghost use Rattle.irq_sleeper.specs.Wanted.{PlayWants};
     ghost use Rattle.sleep_play.specs.Played.{SleepPlaySeen, IsPlayedSleeper};
 
@@ -26,7 +28,8 @@ impl<'b, L: IrqLine> Model for SleepPlay<'b, L> {
     ghost view = { λ p. record { sleeper = p.sleeper; end = p.end } };
 
     ghost invariant = { λ p. IsPlayedSleeper p.sleeper p.end
-        × PlayWants L.may_want p.sleeper p.sleeper.system.board.picks p.end };
+        × PlayWants L.may_want p.sleeper p.sleeper.system.board.picks
+        (stop_of p.end) };
 }
 
 impl<'b, L: IrqLine> EndedPlay for SleepPlay<'b, L> {
@@ -42,7 +45,7 @@ impl<'b, L: IrqLine> EndedPlay for SleepPlay<'b, L> {
 
     ghost hands_out = { λ p. HandsOutSleep L.may_want p.sleeper };
 
-    fn end(&self) -> Result<(), StepRefused> {
+    fn end(&self) -> Result<PlayEnd, StepRefused> {
         self.end
     }
 

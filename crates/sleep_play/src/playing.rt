@@ -141,6 +141,7 @@ fn play_sleep<'b, L: IrqLine, M: MakesLine<L>, H: Handler>(
 {
     let room = ReportRoom::new(alloc, board)?;
     let mut sleeper = Sleeper::new(alloc, board, layout, armed, maker)?;
-    let end = sleeper.play(board.picks(), handlers);
+    let stop = sleeper.play(board.picks(), handlers);
+    let end = sleeper.end_after(stop);
     Ok((SleepPlay { sleeper, end }, room))
 }

@@ -1,8 +1,8 @@
 //! The body of `main` over readers and writers of std, and arguments that can't be read.
 use board_lines::MakesChainLine;
 use callbacks::ByKind;
-use irq_command::{Ended, command, run};
 use irq_io::{MemSink, MemSource};
+use irq_top::{Ended, Outcome, command, run};
 use notifiers::ByProcessor;
 use std::alloc::Global;
 use std::env::Args;
@@ -85,7 +85,7 @@ fn play<T: Threads + Wait + Sync, R: Read + Drop, O: Write + Drop, E: Write + Dr
     input: R,
     output: O,
     error: E,
-) -> Result<Ended<R, O, E>, Fail> {
+) -> Result<Ended<Outcome, R, O, E>, Fail> {
     let mut args: Vec<String> = Vec::new(alloc);
     for word in ["genirq", "play"] {
         args.push(String::from_str(alloc, word)?)?;

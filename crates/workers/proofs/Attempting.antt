@@ -11,7 +11,7 @@ use Rattle.line_lock.specs.declared.view.Known.{Known}
 use Rattle.workers.specs.Fit.{IsPost, ArePosted}
 use Rattle.workers.specs.Seen.{PostSeen, JobSeen}
 use Rattle.workers.specs.Tries.{IsIdle, Tries, rests_after}
-use Rattle.workers.specs.Attempts.{FlowMoves, StepsPost}
+use Rattle.workers.specs.Attempts.{StepsPost}
 use Rattle.workers.proofs.Lists.{at_set, there, there_or, within}
 use Rattle.workers.specs.Terms.{Terms}
 
@@ -62,7 +62,6 @@ pub record Stepped (terms : Terms) (line : LockSeen) (post : PostSeen)
   pub actor : after.pass.knows.actor ≡ post.pass.knows.actor
   pub rests : after.rests ≡ rests_after tried
   pub tries : (who : Actor) → post.pass.knows.actor ≡ Some who → Tries terms line.def who post.pass.knows tried after.pass.knows
-  pub flows : post.rests ≡ false → FlowMoves line.def post.pass.knows tried
 
 -- The code's own lines and its own job, where the job tries the pass at index `place`: they are those that contracts
 -- see, and the line and the pass at that place are these.
@@ -144,7 +143,6 @@ module _ {lines : List LockSeen} {j : JobSeen} {place : ℕ} (h : AtHand lines j
           };
           tries = t;
           rests = s.rests;
-          flows = s.flows;
         }
 
 -- ---- what a try keeps

@@ -13,7 +13,7 @@ use Rattle.irq_base.specs.declared.numbers.LineNo.{LineNo}
 use Rattle.irq_model.specs.Due.{calls_by, entries_by, due_of, due_call}
 use Rattle.irq_model.specs.Kinds.{same_line, same_driver, is_driver, is_by_driver}
 use Rattle.irq_model.specs.Next.{next, next_of_driver}
-use Rattle.irq_steps.proofs.Same.{driver_from_same, line_from_same, same_self_line, same_self_driver}
+use Rattle.irq_model.proofs.Same.{driver_from_same, line_from_same, same_self_line, same_self_driver}
 use Rattle.irq_laws.proofs.Chosen.{the_same}
 use Rattle.irq_laws.proofs.OwnLaws.{due_is_own}
 use Rattle.board_def.specs.LineOf.{with_driver}

@@ -2,15 +2,18 @@
 use Rattle.std.proofs.Common.{◌≡◌, ℕ, suc, ◌+◌, ◌<◌, inl, inr, Bool, true, false, cond, IsSomeAnd, Option, Some, None}
 use Rattle.std.proofs.Common.{Result, Ok, Err, IfOk, List, [], ◌∷◌, ◌++◌, map, filter, length, get_or, take, reverse}
 use Rattle.std.proofs.Common.{◌&&◌, slice_get, IsPermutation, ◌||◌, refl, sym, ap, ◌∙◌, subst, arith, append-nil}
-use Rattle.std.proofs.Common.{append_assoc, nat_le, nat_lt, ◌-◌, ◌≤◌, ◌⊎◌}
+use Rattle.std.proofs.Common.{append_assoc, nat_eq, nat_le, nat_lt, ◌-◌, ◌≤◌, ◌⊎◌, is_some}
 use Rattle.std.proofs.lemmas.Bool.{and_parts, false≢true, false_from_ne_true}
+use Rattle.std.proofs.lemmas.Bool.Decides.{nat_tests}
 use Rattle.std.proofs.lemmas.List.{reverse-append, reverse-reverse}
+use Rattle.std.proofs.Math.ListN.{length-map}
 use Rattle.irq_base.specs.declared.calls.Call.{Call}
 use Rattle.irq_base.specs.declared.devices.DeviceDef.{DeviceDef}
 use Rattle.irq_base.specs.declared.entries.Actor.{Actor}
 use Rattle.irq_base.specs.declared.entries.Actor.TheVariants as actors
 use Rattle.irq_base.specs.declared.entries.Entry.{Entry}
 use Rattle.irq_base.specs.declared.lines.LineDef.{LineDef}
+use Rattle.irq_base.specs.declared.numbers.CpuNo.{CpuNo}
 use Rattle.irq_base.specs.declared.numbers.DriverNo.{DriverNo}
 use Rattle.irq_line.specs.Seen.{LineSeen, IsSound}
 use Rattle.irq_base.specs.declared.numbers.LineNo.{LineNo}
@@ -18,16 +21,18 @@ use Rattle.irq_laws.specs.Kept.{complete as complete_of}
 use Rattle.irq_model.specs.Due.{calls_by, entries_by, due_of, due_call}
 use Rattle.irq_model.specs.Kinds.{same_line, same_driver, same_actor}
 use Rattle.irq_model.specs.Legal.{IsLegalPast}
-use Rattle.irq_steps.proofs.Same.{actor_from_same, driver_from_same, same_self_actor}
+use Rattle.irq_model.specs.Rounds.{flow}
+use Rattle.irq_model.proofs.Same.{actor_from_same, driver_from_same, same_self_actor}
 use Rattle.std.specs.List.{list_any}
 use Rattle.std.proofs.lemmas.List.Sorted.{list_any-IsPermutation}
 use Rattle.irq_laws.proofs.Chosen.{the_same}
 use Rattle.irq_laws.proofs.Lists.{both_ways}
+use Rattle.irq_laws.proofs.Standstill.{is_its_cpu}
 use Rattle.board_def.specs.Rules.{IsBoard, has_driver}
 use Rattle.board_def.specs.Seen.{BoardSeen}
 use Rattle.board_def.specs.declared.rows.ScriptCall.{ScriptCall}
 use Rattle.board_play.specs.Current.{calls_on}
-use Rattle.board_play.specs.Kept.{IsCallOn, IsUpTo, AreKept}
+use Rattle.board_play.specs.Kept.{IsCallOn, IsUpTo, HaveOneFlow, AreKept}
 use Rattle.board_play.specs.Lines.{BoardLine, defs_of}
 use Rattle.board_play.specs.Order.{cpus_of, drivers_of}
 use Rattle.board_play.proofs.Counting.{completed}
@@ -36,11 +41,12 @@ use Rattle.board_play.proofs.OfBoard.{calls_fit}
 use Rattle.line_lock.specs.Knows.{BeginsWith, IsKnown, is_among}
 use Rattle.line_lock.specs.Placed.{placed}
 use Rattle.line_lock.specs.Passes.{LockSeen, PassSeen}
-use Rattle.workers.specs.Fit.{AreFirsts, IsFirst, actors_on, works_on, has_worker, workers_of, Fit}
+use Rattle.workers.specs.Fit.{AreFirsts, IsFirst, IsManned, own_past, actors_on, works_on, has_worker, workers_of, Fit}
 use Rattle.workers.specs.Gathers.{AreKnown, HasPass, board_line, board_lines, IsHome, AreHome, seen_line, seen_lines}
 use Rattle.workers.specs.Gathers.{AreOut, Gathers, IsFinal, AreFinal, AreSound}
 use Rattle.workers.specs.Gathers.{IsMetIn, HasAllOf, IsSeenIn, AreBack, IsSeenBy, AreGathered}
 use Rattle.workers.specs.Seen.{PostSeen, JobSeen, JobsSeen}
+use Rattle.workers.proofs.InFlow.{own_by_flow}
 use Rattle.workers.proofs.Lists.{at_map, at_snoc, of_map, there, there_or, within, none_left, length_snoc}
 use Rattle.workers.proofs.Manning.{map_more}
 
@@ -193,12 +199,13 @@ are_final board lines firsts home g = record { as_many = home.as_many; each = λ
 pub are_kept : (board : BoardSeen) (locks : List LockSeen) (firsts : List PassSeen) (lines : List LineSeen)
     → IsBoard board → map (λ (l : LockSeen). l.def) locks ≡ defs_of board → AreHome locks firsts
     → Gathers board locks [] firsts
-    → board_lines lines ≡ seen_lines firsts → AreSound lines → AreKept board (board_lines lines)
-are_kept board locks firsts lines isb defs home g are sound =
+    → board_lines lines ≡ seen_lines firsts → AreSound lines → HaveOneFlow (board_lines lines) → AreKept board (board_lines lines)
+are_kept board locks firsts lines isb defs home g are sound one_flow =
     record {
       defs = ap (map (λ (x : BoardLine). x.def)) are ∙ (seen_defs firsts locks home.as_many home.each ∙ defs);
       legal = legal;
       in_order = λ r. in_order r (has_driver board.drivers r) refl;
+      one_flow = one_flow;
     }
   where
     seen_defs : (ps : List PassSeen) (ls : List LockSeen) → length ps ≡ length ls
@@ -394,6 +401,62 @@ module _ (s : JobsSeen) (firsts : List PassSeen) (lines : List LineSeen) (are : 
     drivers = λ i j r at is. subst (λ (ls : List BoardLine). IsUpTo s.board.calls ls r j.at) (sym are) (b.drivers i j r at is).1;
   }
 
+-- ---- each processor has one flow
+
+-- a place is named, or it isn't
+is_named : (o : Option ℕ) (i : ℕ) → ((o ≡ Some i → ⊥) → ⊥) → o ≡ Some i
+is_named None i not = absurd (not (λ h. cc))
+is_named (Some k) i not = by_test (nat_eq k i) refl
+  where
+    by_test : (t : Bool) → nat_eq k i ≡ t → Some k ≡ Some i
+    by_test true same = ap (λ (n : ℕ). Some n) (grind (arith, nat_tests, same))
+    by_test false other = absurd (not (λ h. let e : k ≡ i = the_same k i h in grind (arith, nat_tests, other, e)))
+
+module _ (locks : List LockSeen) (s : JobsSeen) (lines : List LineSeen) (fit : Fit locks s) (as_many : length lines ≡ length locks)
+    (g : AreGathered s lines) where
+  -- a processor's flow is on the line that its job names
+  named : (c : CpuNo) (n : ℕ) (j : JobSeen) → slice_get s.jobs n ≡ Some j → j.actor ≡ actors.Cpu c → (i : ℕ) (x : LineSeen)
+      → slice_get lines i ≡ Some x → flow x.def (reverse x.entries) ≡ Some c → j.flow ≡ Some i
+  named c n j at_job its i x at is =
+      is_named j.flow i (λ none. false≢true (sym (manned.2 i t.0 t.1 none) ∙ ap (λ (o : Option CpuNo). is_some o) own))
+    where
+      manned : IsManned s.board locks j (actors.Cpu c)
+      manned = subst (λ (a : Actor). IsManned s.board locks j a) its (fit.each n j at_job).manned
+
+      t : (t : PostSeen) × (slice_get j.posts i ≡ Some t)
+      t = there j.posts i (let w = within lines i x at in let m = manned.1 in omega (arith, w, m, as_many))
+
+      all : HasAllOf x.def x.entries j.actor t.0.pass
+      all = subst (λ (o : Option LineSeen). IsSomeAnd o (λ y. HasAllOf y.def y.entries j.actor t.0.pass))
+          (ap (λ (k : ℕ). slice_get lines k) (let z = manned.0 in omega (arith, z)) ∙ at) (g.each n i j t.0 at_job t.1)
+
+      own : flow t.0.pass.def (own_past t.0.pass.knows.mine) ≡ Some c
+      own = ap (λ (d : LineDef). flow d (own_past t.0.pass.knows.mine)) all.of_line
+          ∙ own_by_flow x.def c x.entries t.0.pass.knows.mine (sym all.own ∙ ap (λ (a : Actor). placed a x.entries) its) is
+
+  pub one_flow : HaveOneFlow (board_lines lines)
+  one_flow c i k x y at_i at_k on_i on_k = by_pass (g.made i a.0 (actors.Cpu c) a.1)
+    where
+      a : (l : LineSeen) × (slice_get lines i ≡ Some l) × (board_line l ≡ x)
+      a = of_map board_line lines i x at_i
+
+      b : (l : LineSeen) × (slice_get lines k ≡ Some l) × (board_line l ≡ y)
+      b = of_map board_line lines k y at_k
+
+      flow_a : flow a.0.def (reverse a.0.entries) ≡ Some c
+      flow_a = ap (λ (z : BoardLine). flow z.def z.past) a.2 ∙ is_its_cpu c (flow x.def x.past) on_i
+
+      flow_b : flow b.0.def (reverse b.0.entries) ≡ Some c
+      flow_b = ap (λ (z : BoardLine). flow z.def z.past) b.2 ∙ is_its_cpu c (flow y.def y.past) on_k
+
+      no_flow : None ≡ Some c → ⊥
+      no_flow h = cc
+
+      by_pass : HasPass s.jobs i (actors.Cpu c) ⊎ (placed (actors.Cpu c) a.0.entries ≡ []) → i ≡ k
+      by_pass (inl h) = the_same i k (sym (named c h.number h.job h.at_job h.actor i a.0 a.1 flow_a)
+          ∙ named c h.number h.job h.at_job h.actor k b.0 b.1 flow_b)
+      by_pass (inr none) = absurd (no_flow (own_by_flow a.0.def c a.0.entries [] (sym none) flow_a))
+
 -- ---- the same, as the code has it
 
 -- lines and jobs that fit, taken apart: the lines are at hand as the slice `here`, the jobs as their parts
@@ -420,16 +483,25 @@ module _ {lines here : List LockSeen} {inside s : JobsSeen} (t : TakenApart line
         → AreBack s.board s.jobs s.firsts new
     back_of on = subst (λ (x : JobsSeen). AreBack s.board x.jobs x.firsts new) t.jobs_are (on s.board gathers_at)
 
+    gathered_ok : (lines : List LineSeen) → AreHome here new → AreBack s.board s.jobs s.firsts new → board_lines lines ≡ seen_lines new → AreKnown new
+        → AreGathered s lines
+    gathered_ok lines home back are known =
+        are_gathered s new lines are back here (subst (λ (ls : List LockSeen). AreFirsts ls s.jobs s.firsts) (sym t.lines_are) t.fit.firsts) home known
+        (t.fit.firsts.as_many ∙ (ap (λ (ls : List LockSeen). length ls) (sym t.lines_are) ∙ sym home.as_many))
+
     pub kept_result : {A E : Type 0} (f : A → List LineSeen) (r : Result A E) → IsBoard inside.board → AreHome here new → Gathers s.board here [] new
-        → IfOk r (λ all. board_lines (f all) ≡ seen_lines new) → IfOk r (λ all. AreSound (f all)) → IfOk r (λ all. AreKept s.board (board_lines (f all)))
-    kept_result f (Ok all) isb home g are sound =
+        → AreBack s.board s.jobs s.firsts new → IfOk r (λ all. board_lines (f all) ≡ seen_lines new) → IfOk r (λ all. AreSound (f all))
+        → IfOk r (λ all. AreKnown new) → IfOk r (λ all. AreKept s.board (board_lines (f all)))
+    kept_result f (Ok all) isb home g back are sound known =
         are_kept s.board here new (f all) (subst (λ (x : JobsSeen). IsBoard x.board) t.jobs_are isb)
         (ap (map (λ (l : LockSeen). l.def)) t.lines_are ∙ t.fit.defs) home g are sound
-    kept_result f (Err e) isb home g are sound = tt
+        (one_flow here s (f all) (subst (λ (ls : List LockSeen). Fit ls s) (sym t.lines_are) t.fit) as_many (gathered_ok (f all) home back are known))
+      where
+        as_many : length (f all) ≡ length here
+        as_many = sym (length-map (f all) board_line) ∙ (ap (λ (xs : List BoardLine). length xs) are ∙ (length-map new seen_line ∙ home.as_many))
+    kept_result f (Err e) isb home g back are sound known = tt
 
     pub gathered_result : {A E : Type 0} (f : A → List LineSeen) (r : Result A E) → AreHome here new → AreBack s.board s.jobs s.firsts new
         → IfOk r (λ all. board_lines (f all) ≡ seen_lines new) → IfOk r (λ all. AreKnown new) → IfOk r (λ all. AreGathered s (f all))
-    gathered_result f (Ok all) home back are known =
-        are_gathered s new (f all) are back here (subst (λ (ls : List LockSeen). AreFirsts ls s.jobs s.firsts) (sym t.lines_are) t.fit.firsts) home known
-        (t.fit.firsts.as_many ∙ (ap (λ (ls : List LockSeen). length ls) (sym t.lines_are) ∙ sym home.as_many))
+    gathered_result f (Ok all) home back are known = gathered_ok (f all) home back are known
     gathered_result f (Err e) home back are known = tt

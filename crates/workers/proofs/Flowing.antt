@@ -27,7 +27,7 @@ use Rattle.workers.specs.Fit.{IsPost, ArePosted, own_past, HasOneFlow, IsInFlow,
 use Rattle.workers.specs.Grown.{PostsGrow}
 use Rattle.workers.specs.Seen.{PostSeen, JobSeen}
 use Rattle.workers.specs.Tries.{Gains, IsFull, Tries, rests_after}
-use Rattle.workers.specs.Attempts.{StepsPost, flow_after, KeepsPosts, IsRefusedOn, StepsCpu, AttemptsCpu}
+use Rattle.workers.specs.Attempts.{StepsPost, flow_after, KeepsPosts, IsRefusedOn, StepsCpu, RestsInFlow, AttemptsCpu}
 use Rattle.workers.proofs.InFlow.{flow_by, handle_cpu}
 use Rattle.workers.proofs.Lists.{at_set, set_there, two, within}
 use Rattle.workers.proofs.Manning.{map_more}
@@ -63,12 +63,6 @@ post_now terms lines place tried old new s i t at = at_set old.posts place s.aft
 pub post_there : (terms : Terms) (lines : List LockSeen) (place : ℕ) (tried : Result (Option Entry) StepRefused) (old new : JobSeen)
     (s : StepsPost terms lines place tried old new) → slice_get new.posts place ≡ Some s.after
 post_there terms lines place tried old new s = ap (λ (j : JobSeen). slice_get j.posts place) s.is ∙ set_there old.posts place s.after s.post s.at_post
-
--- a post rests only if nothing was due
-never_rests : (tried : Result (Option Entry) StepRefused) → (tried ≡ Ok None → ⊥) → rests_after tried ≡ false
-never_rests (Ok (Some e)) not = refl
-never_rests (Ok None) not = absurd (not refl)
-never_rests (Err refused) not = refl
 
 pub refused_is_so : (terms : Terms) (lines : List LockSeen) (place : ℕ) (tried : Result (Option Entry) StepRefused) (old new : JobSeen)
     → StepsPost terms lines place tried old new → IfErr tried (IsRefusedOn terms new)
@@ -145,9 +139,6 @@ module _ (terms : Terms) (lines : List LockSeen) (place : ℕ) (old mid : JobSee
     post_def : s.post.pass.def ≡ s.line.def
     post_def = (subst (λ (o : Option LockSeen). IsSomeAnd o (λ l. IsPost l old.actor s.post)) s.at_line (posted place s.post s.at_post)).of_line.1
 
-    post_actor : s.post.pass.knows.actor ≡ Some old.actor
-    post_actor = (subst (λ (o : Option LockSeen). IsSomeAnd o (λ l. IsPost l old.actor s.post)) s.at_line (posted place s.post s.at_post)).actor
-
     -- when no entry was added
     pub cpu_rests : ((e : Entry) → tried ≡ Ok (Some e) → ⊥) → StepsCpu terms lines place tried old mid
     cpu_rests not =
@@ -155,7 +146,6 @@ module _ (terms : Terms) (lines : List LockSeen) (place : ℕ) (old mid : JobSee
           keeps = keeps_posts terms lines place tried old mid posted s;
           flow = one_flow;
           its = still_its;
-          moves = due;
           rests = rests;
           still = λ is. ap (λ (j : JobSeen). j.flow) s.is;
           others = others;
@@ -174,14 +164,6 @@ module _ (terms : Terms) (lines : List LockSeen) (place : ℕ) (old mid : JobSee
           | inr other ↦ others_flow i t other.0 other.1
         ]
 
-        -- on the line of the flow something was due
-        due : old.flow ≡ Some place → tried ≡ Ok None → ⊥
-        due was none =
-            let f = its place was in
-            let same : f.1 ≡ s.post = the_same f.1 s.post (sym f.3 ∙ s.at_post) in
-            s.flows (ap (λ (x : PostSeen). x.rests) (sym same) ∙ f.4) f.0 (post_actor ∙ ap (λ (a : Actor). Some a) f.2)
-            (subst (λ (d : LineDef). IsInFlow d f.0 s.post.pass.knows) post_def (subst (λ (x : PostSeen). IsInFlow x.pass.def f.0 x.pass.knows) same f.5)) none
-
         still_its : HasItsFlow mid
         still_its i is =
             let was : old.flow ≡ Some i = sym (ap (λ (j : JobSeen). j.flow) s.is) ∙ is in
@@ -194,10 +176,9 @@ module _ (terms : Terms) (lines : List LockSeen) (place : ℕ) (old mid : JobSee
               s.after,
               ap (λ (j : JobSeen). j.actor) s.is ∙ f.2,
               ap (λ (k : ℕ). slice_get mid.posts k) here ∙ post_there terms lines place tried old mid s,
-              s.rests ∙ never_rests tried (due at_place),
               ap (λ (d : LineDef). flow d (own_past s.after.pass.knows.mine)) (s.is_post.of_line.1 ∙ sym post_def)
                   ∙ (ap (λ (ps : List Placed). flow s.post.pass.def (own_past ps)) mine
-                  ∙ subst (λ (x : PostSeen). IsInFlow x.pass.def f.0 x.pass.knows) same f.5),
+                  ∙ subst (λ (x : PostSeen). IsInFlow x.pass.def f.0 x.pass.knows) same f.4),
             )
 
         rests : tried ≡ Ok None → (t : PostSeen) → slice_get mid.posts place ≡ Some t → t.rests ≡ true
@@ -225,7 +206,6 @@ module _ (terms : Terms) (lines : List LockSeen) (place : ℕ) (old mid : JobSee
         };
         flow = one_flow;
         its = new_its;
-        moves = λ was h. cc;
         rests = λ h. cc;
         still = λ h. cc;
         others = others;
@@ -274,14 +254,13 @@ module _ (terms : Terms) (lines : List LockSeen) (place : ℕ) (old mid : JobSee
       -- the pass that was tried, with such a flow
       its_at : (c : CpuNo) (i : ℕ) → i ≡ place → old.actor ≡ actors.Cpu c → flow s.after.pass.def (own_past s.after.pass.knows.mine) ≡ Some c
           → (c : CpuNo) × (t : PostSeen) × (new.actor ≡ actors.Cpu c) × (slice_get new.posts i ≡ Some t)
-          × (t.rests ≡ false) × IsInFlow t.pass.def c t.pass.knows
+          × IsInFlow t.pass.def c t.pass.knows
       its_at c i here actor its_flow = (
         c,
         s.after,
         ap (λ (j : JobSeen). j.actor) is ∙ (ap (λ (j : JobSeen). j.actor) s.is ∙ actor),
         ap (λ (j : JobSeen). slice_get j.posts i) is ∙
             (ap (λ (k : ℕ). slice_get mid.posts k) here ∙ post_there terms lines place (Ok (Some e)) old mid s),
-        s.rests,
         its_flow,
       )
 
@@ -290,7 +269,7 @@ module _ (terms : Terms) (lines : List LockSeen) (place : ℕ) (old mid : JobSee
         where
           by_tests : (h c : Bool) → is_handle e ≡ h → closes s.post.pass.def e ≡ c
               → (c : CpuNo) × (t : PostSeen) × (new.actor ≡ actors.Cpu c) × (slice_get new.posts i ≡ Some t)
-              × (t.rests ≡ false) × IsInFlow t.pass.def c t.pass.knows
+              × IsInFlow t.pass.def c t.pass.knows
           by_tests true c is_h is_c =
               let f = handle_cpu e is_h in
               its_at f.0 i (the_same i place (sym at ∙ flow_is true c is_h is_c))
@@ -302,7 +281,7 @@ module _ (terms : Terms) (lines : List LockSeen) (place : ℕ) (old mid : JobSee
               let here : i ≡ place = free i was in
               let f = its i was in
               let same : f.1 ≡ s.post = the_same f.1 s.post (sym f.3 ∙ (ap (λ (k : ℕ). slice_get old.posts k) here ∙ s.at_post)) in
-              its_at f.0 i here f.2 (flow_now false false is_h is_c ∙ subst (λ (x : PostSeen). IsInFlow x.pass.def f.0 x.pass.knows) same f.5)
+              its_at f.0 i here f.2 (flow_now false false is_h is_c ∙ subst (λ (x : PostSeen). IsInFlow x.pass.def f.0 x.pass.knows) same f.4)
 
       one_flow : HasOneFlow new
       one_flow i t at none = elim (post_at i t at) [
@@ -354,6 +333,18 @@ cpu_after terms lines tried old mid now new place k stay s not same =
       room = room_from tried old mid now stay s.room;
     })
 
+-- a processor's attempt on the line of its flow
+pub cpu_in_flow : (terms : Terms) (lines : List LockSeen) (tried : Result (Option Entry) StepRefused) (old new : JobSeen) (place : ℕ)
+    → old.flow ≡ Some place → StepsCpu terms lines place tried old new → AttemptsCpu terms lines tried old new
+cpu_in_flow terms lines tried old new place was s =
+    record { keeps = s.keeps; flow = s.flow; its = s.its; rests = λ is. inr (rests is); refused = s.refused; room = s.room }
+  where
+    rests : tried ≡ Ok None → RestsInFlow terms new
+    rests is =
+        let now : new.flow ≡ Some place = s.still is ∙ was in
+        let f = s.its place now in
+        record { place = place; post = f.1; in_flow = now; at = f.3; rests = s.rests is f.1 f.3 }
+
 -- a processor's attempt when nothing was due on any line
 pub cpu_done : (terms : Terms) (lines : List LockSeen) (old now : JobSeen) (place : ℕ)
     → KeepsPosts terms lines old now → HasOneFlow now → now.flow ≡ None
@@ -364,7 +355,7 @@ cpu_done terms lines old now place k flow none rest all stay =
       keeps = k;
       flow = flow;
       its = λ i is. absurd (no_place i (sym none ∙ is));
-      rests = λ is i s at. rest i s (let w = within now.posts i s at in omega (arith, w, all)) at;
+      rests = λ is. inl (λ i s at. rest i s (let w = within now.posts i s at in omega (arith, w, all)) at);
       refused = tt;
       room = stay;
     }

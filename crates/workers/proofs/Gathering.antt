@@ -10,7 +10,7 @@ use Rattle.irq_base.specs.declared.entries.Entry.{Entry}
 use Rattle.irq_laws.proofs.Chosen.{the_same}
 use Rattle.irq_model.specs.Due.{entries_by}
 use Rattle.irq_model.specs.Kinds.{same_actor}
-use Rattle.irq_steps.proofs.Same.{same_self_actor}
+use Rattle.irq_model.proofs.Same.{same_self_actor}
 use Rattle.board_def.specs.Rules.{has_driver}
 use Rattle.board_def.specs.Seen.{BoardSeen}
 use Rattle.board_play.specs.Kept.{IsUpTo}

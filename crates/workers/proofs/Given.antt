@@ -9,7 +9,7 @@ use Rattle.irq_base.specs.declared.entries.Actor.{Actor}
 use Rattle.irq_base.specs.declared.entries.Entry.{Entry}
 use Rattle.irq_base.specs.declared.lines.LineDef.{LineDef}
 use Rattle.irq_model.specs.Kinds.{is_by}
-use Rattle.irq_steps.proofs.Same.{same_self_actor}
+use Rattle.irq_model.proofs.Same.{same_self_actor}
 use Rattle.irq_laws.proofs.Chosen.{the_same}
 use Rattle.irq_line.specs.Given.{AreGiven}
 use Rattle.irq_line.specs.Seen.{LineSeen}

@@ -1,4 +1,4 @@
--- A processor that is within a flow by its own entries is so by all of them, and has an entry due.
+-- A processor is within a flow by its own entries exactly if it is so by all of them.
 use Rattle.std.proofs.Common.{◌≡◌, ℕ, suc, Bool, true, false, ◌||◌, ◌&&◌, cond, Option, Some, None, is_some}
 use Rattle.std.proofs.Common.{List, [], ◌∷◌, map, filter, reverse, refl, sym, ap, ◌∙◌, subst}
 use Rattle.irq_base.specs.Who.{actor_of}
@@ -11,17 +11,15 @@ use Rattle.irq_base.specs.declared.entries.TakeAnswer.TheVariants as takes
 use Rattle.irq_base.specs.declared.lines.LineDef.{LineDef}
 use Rattle.irq_base.specs.declared.numbers.CpuNo.{CpuNo}
 use Rattle.irq_laws.proofs.ImpliesFlow.{take_due, end_due}
+use Rattle.irq_laws.proofs.Chosen.{the_same}
 use Rattle.irq_laws.proofs.Lists.{both_ways}
 use Rattle.irq_model.specs.Kinds.{same_cpu, is_by, is_handle}
 use Rattle.irq_model.specs.Legal.{IsDue, IsLegalPast, IsLegal}
 use Rattle.irq_model.specs.Lines.{is_eoi_flow}
 use Rattle.irq_model.specs.Links.{is_disabled, is_none_linked}
-use Rattle.irq_model.specs.Next.{next}
 use Rattle.irq_model.specs.Places.{last_of}
 use Rattle.irq_model.specs.Rounds.{closes, cpu_of_handle, flow, has_flow, is_cpu}
-use Rattle.irq_model.specs.ValidRuns.{HasValidRuns, NeverWaits}
-use Rattle.irq_steps.proofs.Same.{cpu_from_same, same_self_cpu}
-use Rattle.play_laws.proofs.Moves.{flow_goes_on}
+use Rattle.irq_model.proofs.Same.{cpu_from_same, same_self_cpu}
 use Rattle.line_lock.specs.Placed.{placed, placed_from}
 use Rattle.line_lock.specs.declared.view.Placed.{Placed}
 use Rattle.workers.specs.Fit.{own_past}
@@ -78,21 +76,43 @@ own_flow def c (e ∷ past) legal is = by_tests (is_by (actors.Cpu c) e) (is_han
     by_tests false true mine marks now deeper = both_ways (is_handle e || closes def e) marks (others_stay def c e past legal.0 (deeper now) mine)
     by_tests false false mine marks now deeper = deeper now
 
--- within a flow the processor has an entry due, since no run waits
-pub moves_within : (def : LineDef) (c : CpuNo) (h : List Entry) (mine : List Placed) → HasValidRuns def
-    → NeverWaits def → IsLegal def h → mine ≡ placed (actors.Cpu c) h → flow def (own_past mine) ≡ Some c → next def h (actors.Cpu c) ≡ None → ⊥
-moves_within def c h mine runs waits legal are own none =
-    nothing (next def h (actors.Cpu c)) (flow_goes_on def (reverse h) runs waits c (ap (is_cpu c) in_flow ∙ same_self_cpu c)) none
+-- a take that may begin the processor's flow is its own
+take_is_own : (e : Entry) (c : CpuNo) → cpu_of_handle (Some e) ≡ Some c → is_by (actors.Cpu c) e ≡ true
+take_is_own (by.Cpu cpu (cpus.Take way answer)) c is = subst (λ (x : CpuNo). same_cpu c x ≡ true) (sym (the_same cpu c is)) (same_self_cpu c)
+take_is_own e c is = absurd (no_cpu is)
   where
-    same : own_past mine ≡ filter (is_by (actors.Cpu c)) (reverse h)
-    same = ap own_past are ∙ (ap reverse (by_actor (actors.Cpu c) 0 h) ∙ sym (filter-reverse (is_by (actors.Cpu c)) h))
+    no_cpu : None ≡ Some c → ⊥
+    no_cpu h = cc
 
-    in_flow : flow def (reverse h) ≡ Some c
-    in_flow = own_flow def c (reverse h) legal (ap (λ (es : List Entry). flow def es) (sym same) ∙ own)
+-- its flow is told by its own entries
+flow_own : (def : LineDef) (c : CpuNo) (past : List Entry) → flow def past ≡ Some c
+    → flow def (filter (is_by (actors.Cpu c)) past) ≡ Some c
+flow_own def c [] is = is
+flow_own def c (e ∷ past) is = by_tests (is_by (actors.Cpu c) e) (is_handle e || closes def e) refl refl is (flow_own def c past)
+  where
+    own : List Entry
+    own = filter (is_by (actors.Cpu c)) past
 
-    nothing : (o : Option Entry) → is_some o ≡ true → o ≡ None → ⊥
-    nothing None some is = cc
-    nothing (Some e) some is = cc
+    last : List Entry → Option Entry
+    last es = last_of (λ f. is_handle f || closes def f) es
+
+    by_tests : (b t : Bool) → is_by (actors.Cpu c) e ≡ b → (is_handle e || closes def e) ≡ t
+        → cpu_of_handle (cond t (Some e) (last past)) ≡ Some c → (flow def past ≡ Some c → flow def own ≡ Some c)
+        → flow def (cond b (e ∷ own) own) ≡ Some c
+    by_tests true true mine marks now deeper = ap (λ (t : Bool). cpu_of_handle (cond t (Some e) (last own))) marks ∙ now
+    by_tests true false mine marks now deeper = ap (λ (t : Bool). cpu_of_handle (cond t (Some e) (last own))) marks ∙ deeper now
+    by_tests false true other marks now deeper = both_ways (is_by (actors.Cpu c) e) (take_is_own e c now) other
+    by_tests false false other marks now deeper = deeper now
+
+module _ (def : LineDef) (c : CpuNo) (h : List Entry) (mine : List Placed) (are : mine ≡ placed (actors.Cpu c) h) where
+  same_past : own_past mine ≡ filter (is_by (actors.Cpu c)) (reverse h)
+  same_past = ap own_past are ∙ (ap reverse (by_actor (actors.Cpu c) 0 h) ∙ sym (filter-reverse (is_by (actors.Cpu c)) h))
+
+  pub flow_by_own : IsLegal def h → flow def (own_past mine) ≡ Some c → flow def (reverse h) ≡ Some c
+  flow_by_own legal own = own_flow def c (reverse h) legal (ap (λ (es : List Entry). flow def es) (sym same_past) ∙ own)
+
+  pub own_by_flow : flow def (reverse h) ≡ Some c → flow def (own_past mine) ≡ Some c
+  own_by_flow its = ap (λ (es : List Entry). flow def es) same_past ∙ flow_own def c (reverse h) its
 
 -- ---- what an entry makes of the flow
 

@@ -15,7 +15,7 @@ use Rattle.irq_base.specs.declared.numbers.DevNo.{DevNo}
 use Rattle.irq_base.specs.declared.numbers.DriverNo.{DriverNo}
 use Rattle.irq_base.specs.declared.numbers.LineNo.{LineNo}
 use Rattle.irq_model.specs.Kinds.{same_line, same_actor}
-use Rattle.irq_steps.proofs.Same.{line_from_same, actor_from_same, same_self_actor}
+use Rattle.irq_model.proofs.Same.{line_from_same, actor_from_same, same_self_actor}
 use Rattle.irq_laws.proofs.Chosen.{the_same}
 use Rattle.irq_laws.proofs.Lists.{both_ways}
 use Rattle.play_laws.specs.Actors.{count_up}

@@ -1,7 +1,7 @@
 -- What an attempt of each kind of actor leaves of its job.
 use Rattle.std.proofs.Common.{◌≡◌, ℕ, suc, ◌+◌, ◌<◌, ◌≤◌, inl, inr, Bool, true, false, ◌&&◌, nat_le, nat_lt, ltb-true, Result, Ok, Err, IfErr, IsOk, is_ok}
 use Rattle.std.proofs.Common.{ltb-false, cond, All, IsSomeAnd, Option, Some, None, List, [], ◌∷◌, ◌++◌, map, filter}
-use Rattle.std.proofs.Common.{take, drop, length, get_or, slice_get, IsPermutation, refl, sym, ap, ◌∙◌, subst, arith}
+use Rattle.std.proofs.Common.{take, drop, length, reverse, get_or, slice_get, IsPermutation, refl, sym, ap, ◌∙◌, subst, arith}
 use Rattle.irq_line.specs.declared.answers.StepRefused.TheVariants as refusals
 use Rattle.irq_line.specs.declared.answers.StepRefused.{StepRefused}
 use Rattle.workers.specs.declared.job.Work.{Work}
@@ -14,11 +14,14 @@ use Rattle.irq_base.specs.declared.numbers.CpuNo.{CpuNo}
 use Rattle.irq_base.specs.declared.numbers.DevNo.{DevNo}
 use Rattle.irq_base.specs.declared.numbers.DriverNo.{DriverNo}
 use Rattle.irq_base.specs.declared.numbers.LineNo.{LineNo}
+use Rattle.irq_model.specs.Legal.{IsLegal}
+use Rattle.irq_model.specs.Rounds.{flow}
 use Rattle.board_def.specs.Seen.{BoardSeen}
 use Rattle.irq_laws.proofs.Chosen.{the_same}
 use Rattle.board_play.specs.Lines.{defs_of}
 use Rattle.line_lock.specs.Passes.{LockSeen, PassSeen}
-use Rattle.workers.specs.Fit.{IsPost, ArePosted, IsPlaceOfDevice, IsManned, IsJob, works_on, actors_on, workers_of, IsFirst, AreFirsts, Fit}
+use Rattle.line_lock.specs.Placed.{placed}
+use Rattle.workers.specs.Fit.{IsPost, ArePosted, IsInFlow, IsPlaceOfDevice, IsManned, IsJob, works_on, actors_on, workers_of, IsFirst, AreFirsts, Fit}
 use Rattle.workers.specs.Room.{RoomAfterPart, room_of_jobs}
 use Rattle.workers.specs.Grown.{JobsGrow, made_by}
 use Rattle.workers.specs.Shifts.{IsAtRest, WorksOn, ComesTo, AttemptsJob, EndIsSo, WorksJob, KeepsJobs}
@@ -26,9 +29,10 @@ use Rattle.workers.specs.Shifts.{IsSomeEnd, NoneFull, NoneRefused, MadeNone}
 use Rattle.workers.specs.Shifts.{EachEndedSo, worse, IsLowestFull, SumsUp, Ends}
 use Rattle.workers.specs.Seen.{PostSeen, JobSeen, JobsSeen}
 use Rattle.workers.specs.Tries.{IsIdle, rests_after}
-use Rattle.workers.specs.Attempts.{StepsPost, KeepsPosts, IsRefusedOn, AttemptsCpu, IsDriven, AttemptsDriver}
+use Rattle.workers.specs.Attempts.{StepsPost, KeepsPosts, IsRefusedOn, RestsInFlow, AttemptsCpu, IsDriven, AttemptsDriver}
 use Rattle.workers.proofs.Flowing.{keeps_posts, post_now, refused_is_so}
 use Rattle.workers.proofs.Growing.{posts_self, posts_more, jobs_grew}
+use Rattle.workers.proofs.InFlow.{flow_by_own}
 use Rattle.workers.proofs.Lists.{within, there_or, two}
 use Rattle.workers.proofs.Rooms.{room_after, room_after_part, all_no_more, some_less}
 use Rattle.workers.specs.Terms.{Terms}
@@ -47,6 +51,20 @@ idle_of lines j posted i s at rests = by_line (slice_get lines (j.first + i)) (p
     by_line : (o : Option LockSeen) → IsSomeAnd o (λ l. IsPost l j.actor s) → IsIdle s.pass.def j.actor s.pass.knows
     by_line None is = absurd is
     by_line (Some l) is = subst (λ (d : LineDef). IsIdle d j.actor s.pass.knows) (sym is.of_line.1) (is.rests rests)
+
+-- a pass with which a processor has a flow in progress by its own entries has seen that flow
+flow_seen : (lines : List LockSeen) (j : JobSeen) → ArePosted lines j → (i : ℕ) (s : PostSeen) → slice_get j.posts i ≡ Some s
+    → (c : CpuNo) → j.actor ≡ actors.Cpu c → IsInFlow s.pass.def c s.pass.knows → flow s.pass.def (reverse s.pass.knows.seen) ≡ Some c
+flow_seen lines j posted i s at c is own = by_line (slice_get lines (j.first + i)) (posted i s at)
+  where
+    by_line : (o : Option LockSeen) → IsSomeAnd o (λ l. IsPost l j.actor s) → flow s.pass.def (reverse s.pass.knows.seen) ≡ Some c
+    by_line None p = absurd p
+    by_line (Some l) p =
+        flow_by_own s.pass.def c s.pass.knows.seen s.pass.knows.mine (p.own ∙ ap (λ (a : Actor). placed a s.pass.knows.seen) is)
+        (subst (λ (d : LineDef). IsLegal d s.pass.knows.seen) (sym p.of_line.1) p.legal) own
+
+the_cpu : (a b : CpuNo) → actors.Cpu a ≡ actors.Cpu b → a ≡ b
+the_cpu a b is = cc
 
 module _ (terms : Terms) (board : BoardSeen) (lines : List LockSeen)
     (tried : Result (Option Entry) StepRefused) (old new : JobSeen) (job : IsJob board lines old) where
@@ -110,12 +128,23 @@ module _ (terms : Terms) (board : BoardSeen) (lines : List LockSeen)
       m : IsManned board lines old (actors.Cpu c)
       m = manned_as (actors.Cpu c) is
 
+      idle : (i : ℕ) (s : PostSeen) → slice_get new.posts i ≡ Some s → s.rests ≡ true → IsIdle s.pass.def (actors.Cpu c) s.pass.knows
+      idle i s at rests = subst (λ (a : Actor). IsIdle s.pass.def a s.pass.knows) (t.keeps.actor ∙ is) (idle_of lines new t.keeps.posted i s at rests)
+
       rest : tried ≡ Ok None → IsAtRest board new new.actor
-      rest not = subst (λ (a : Actor). IsAtRest board new a) (sym (t.keeps.actor ∙ is)) each
+      rest not = subst (λ (a : Actor). IsAtRest board new a) (sym (t.keeps.actor ∙ is)) (elim (t.rests not) [
+        | inl all ↦ inl (λ i s at. idle i s at (all i s at))
+        | inr f ↦ inr (record { place = f.place; post = f.post; at = f.at; flow_is = in_flow f; idle = idle f.place f.post f.at f.rests })
+      ])
         where
-          each : (i : ℕ) (s : PostSeen) → slice_get new.posts i ≡ Some s → IsIdle s.pass.def (actors.Cpu c) s.pass.knows
-          each i s at = subst (λ (a : Actor). IsIdle s.pass.def a s.pass.knows) (t.keeps.actor ∙ is)
-              (idle_of lines new t.keeps.posted i s at (t.rests not i s at))
+          in_flow : (f : RestsInFlow terms new) → flow f.post.pass.def (reverse f.post.pass.knows.seen) ≡ Some c
+          in_flow f =
+              let its = t.its f.place f.in_flow in
+              let same : its.1 ≡ f.post = the_same its.1 f.post (sym its.3 ∙ f.at) in
+              let cpu : its.0 ≡ c = the_cpu its.0 c (sym its.2 ∙ (t.keeps.actor ∙ is)) in
+              flow_seen lines new t.keeps.posted f.place f.post f.at c (t.keeps.actor ∙ is)
+              (subst (λ (x : CpuNo). IsInFlow f.post.pass.def x f.post.pass.knows) cpu
+              (subst (λ (x : PostSeen). IsInFlow x.pass.def its.0 x.pass.knows) same its.4))
 
   pub driven : (r : DriverNo) → old.actor ≡ actors.Driver r → IsDriven board lines r old
   driven r is =
@@ -173,7 +202,10 @@ module _ (board : BoardSeen) (lines : List LockSeen) (now : JobSeen) (end : Resu
 
   rest_ended : (a : Actor) → IsAtRest board now a → IsAtRest board (record now { end = end }) a
   rest_ended (actors.Thread dev) r = r
-  rest_ended (actors.Cpu c) r = r
+  rest_ended (actors.Cpu c) rest = elim rest [
+    | inl all ↦ inl all
+    | inr spins ↦ inr (record { place = spins.place; post = spins.post; at = spins.at; flow_is = spins.flow_is; idle = spins.idle })
+  ]
   rest_ended (actors.Driver r) rest = elim rest [
     | inl past ↦ inl past
     | inr w ↦ inr (record {

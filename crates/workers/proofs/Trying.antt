@@ -5,13 +5,10 @@ use Rattle.std.proofs.lemmas.Bool.Decides.{nat_tests}
 use Rattle.irq_base.specs.declared.devices.Answer.{Answer}
 use Rattle.irq_base.specs.declared.devices.Run.{Run}
 use Rattle.irq_base.specs.declared.entries.Actor.{Actor}
-use Rattle.irq_base.specs.declared.entries.Actor.TheVariants as actors
 use Rattle.irq_base.specs.declared.entries.Entry.{Entry}
 use Rattle.irq_base.specs.declared.lines.LineDef.{LineDef}
-use Rattle.irq_base.specs.declared.numbers.CpuNo.{CpuNo}
 use Rattle.irq_model.specs.Legal.{IsLegal}
 use Rattle.irq_model.specs.Next.{next}
-use Rattle.irq_model.specs.ValidRuns.{HasValidRuns, NeverWaits}
 use Rattle.callbacks.specs.Heard.{Heard, one_run}
 use Rattle.callbacks.specs.Seen.{IsSaidFor, SaidSeen, answer_to}
 use Rattle.callbacks.proofs.Calls.{was_heard}
@@ -27,11 +24,9 @@ use Rattle.line_lock.specs.Placed.{placed}
 use Rattle.line_lock.specs.declared.view.Known.{Known}
 use Rattle.line_lock.proofs.Placing.{begins_self, begins_more}
 use Rattle.line_shared.specs.Stepping.{Steps}
-use Rattle.workers.specs.Fit.{IsInFlow}
 use Rattle.workers.specs.Given.{IsGiven}
 use Rattle.workers.specs.Tries.{CameTo, Glances, IsIdle, Tries, with_looks}
 use Rattle.workers.specs.Terms.{Terms, terms_of}
-use Rattle.workers.proofs.InFlow.{moves_within}
 
 -- what stays while answers are asked for
 pub record Waits (line : LockSeen) (old now : PassSeen) : Type 0 where
@@ -139,15 +134,6 @@ module _ {T E : Type 0} (seen_of : T → LineSeen) (may_want : Option Entry → 
             },
           );
         }
-
-    -- within a flow something was due
-    pub flow_not_yet : StepsSo (Ok stepped.NotYet) → (c : CpuNo)
-        → who ≡ actors.Cpu c → IsInFlow line.def c old.knows → ⊥
-    flow_not_yet s c same own =
-        moves_within line.def c s.line.entries old.knows.mine (subst HasValidRuns s.def s.sound.runs)
-        (subst NeverWaits s.def s.sound.waits) (subst (λ (d : LineDef). IsLegal d s.line.entries) s.def s.sound.legal)
-        (sym w.mine ∙ (s.mine ∙ ap (λ (a : Actor). placed a s.line.entries) same)) own
-        (ap (λ (a : Actor). next line.def s.line.entries a) (sym same) ∙ subst (λ (d : LineDef). next d s.line.entries who ≡ None) s.def s.answer.0)
 
     pub tries_refused : (refused : StepRefused) → StepsSo (Err refused) → Tries (terms_of seen_of may_want gave) line.def who old.knows (Err refused) new.knows
     tries_refused (refusals.Full number len) s =

@@ -1,12 +1,10 @@
 -- What a worker's attempt comes to.
-use Rattle.std.specs.Prelude.{◌≡◌, ℕ, ◌+◌, ◌≤◌, ◌⊎◌, true, false, ◌&&◌, ◌||◌, Option, Some}
+use Rattle.std.specs.Prelude.{◌≡◌, ℕ, ◌+◌, ◌≤◌, ◌⊎◌, true, ◌&&◌, ◌||◌, Option, Some}
 use Rattle.std.specs.Prelude.{None, Result, Ok, IfErr, List, length, slice_get, slice_set}
 use Rattle.std.specs.Prelude.{if◌then◌else◌}
 use Rattle.irq_base.specs.declared.entries.Actor.TheVariants as actors
 use Rattle.irq_base.specs.declared.entries.Entry.{Entry}
 use Rattle.irq_base.specs.declared.lines.FlowKind.{FlowKind}
-use Rattle.irq_base.specs.declared.lines.LineDef.{LineDef}
-use Rattle.irq_base.specs.declared.numbers.CpuNo.{CpuNo}
 use Rattle.irq_base.specs.declared.numbers.DriverNo.{DriverNo}
 use Rattle.irq_base.specs.declared.numbers.LineNo.{LineNo}
 use Rattle.irq_line.specs.declared.answers.StepRefused.{StepRefused}
@@ -16,19 +14,13 @@ use Rattle.irq_model.specs.Lines.{is_eoi_flow}
 use Rattle.board_def.specs.Seen.{BoardSeen}
 use Rattle.board_def.specs.declared.rows.ScriptCall.{ScriptCall}
 use Rattle.line_lock.specs.Passes.{LockSeen}
-use Rattle.line_lock.specs.declared.view.Known.{Known}
 use Rattle.board_play.specs.Kept.{IsUpTo}
-use Rattle.workers.specs.Fit.{IsPost, ArePosted, HasOneFlow, IsInFlow, HasItsFlow, own_lines}
+use Rattle.workers.specs.Fit.{IsPost, ArePosted, HasOneFlow, HasItsFlow, own_lines}
 use Rattle.workers.specs.Grown.{PostsGrow}
 use Rattle.workers.specs.Room.{RoomAfter}
 use Rattle.workers.specs.Seen.{PostSeen, JobSeen}
 use Rattle.workers.specs.Tries.{IsIdle, IsFull, Tries, rests_after}
 use Rattle.workers.specs.Terms.{Terms}
-
--- if a processor has its flow on the line, its try there never answers that nothing is due
-abbrev pub FlowMoves : LineDef → Known → Result (Option Entry) StepRefused → Type 0
-FlowMoves def k tried = (c : CpuNo) → k.actor ≡ Some (actors.Cpu c) → IsInFlow def c k
-    → tried ≡ Ok None → ⊥
 
 -- the pass with which a processor has a flow in progress, after it added the entry with the pass at
 -- index `place`
@@ -94,7 +86,6 @@ module _ (terms : Terms) where
     pub is_post : IsPost line old.actor after
     pub tries : Tries terms line.def old.actor post.pass.knows tried after.pass.knows
     pub rests : after.rests ≡ rests_after tried
-    pub flows : post.rests ≡ false → FlowMoves line.def post.pass.knows tried
 
   -- memory was refused to the actor on what one of the passes has seen
   pub record IsWantedOn (j : JobSeen) : Type 0 where
@@ -109,14 +100,12 @@ module _ (terms : Terms) where
   IsRefusedOn j refusals.NoMemory = IsWantedOn j
 
   -- a processor's try: it has a flow on at most one line; if nothing was due, the post says so, and
-  -- the flow is as it was; the other passes are as they were; on the line of its flow something was
-  -- due
+  -- the flow is as it was; the other passes are as they were
   pub record StepsCpu (lines : List LockSeen) (place : ℕ)
       (tried : Result (Option Entry) StepRefused) (old new : JobSeen) : Type 0 where
     pub keeps : KeepsPosts terms lines old new
     pub flow : HasOneFlow new
     pub its : HasItsFlow new
-    pub moves : old.flow ≡ Some place → tried ≡ Ok None → ⊥
     pub rests : tried ≡ Ok None → (s : PostSeen) → slice_get new.posts place ≡ Some s
         → s.rests ≡ true
     pub still : tried ≡ Ok None → new.flow ≡ old.flow
@@ -136,14 +125,25 @@ module _ (terms : Terms) where
     pub refused : IfErr tried (IsRefusedOn new)
     pub room : RoomAfter tried old new
 
-  -- a processor's attempt: if nothing was due, all its posts say so
+  -- nothing was due on what any of its posts has seen; or it has a flow, and nothing was due on its
+  -- line: it spins there, and looks at no other line
+  abbrev pub RestsAll : JobSeen → Type 0
+  RestsAll j = (i : ℕ) (s : PostSeen) → slice_get j.posts i ≡ Some s → s.rests ≡ true
+
+  pub record RestsInFlow (j : JobSeen) : Type 0 where
+    pub place : ℕ
+    pub post : PostSeen
+    pub in_flow : j.flow ≡ Some place
+    pub at : slice_get j.posts place ≡ Some post
+    pub rests : post.rests ≡ true
+
+  -- a processor's attempt: if nothing was due, all its posts say so, or that of its flow's line
   pub record AttemptsCpu (lines : List LockSeen) (tried : Result (Option Entry) StepRefused)
       (old new : JobSeen) : Type 0 where
     pub keeps : KeepsPosts terms lines old new
     pub flow : HasOneFlow new
     pub its : HasItsFlow new
-    pub rests : tried ≡ Ok None → (i : ℕ) (s : PostSeen) → slice_get new.posts i ≡ Some s
-        → s.rests ≡ true
+    pub rests : tried ≡ Ok None → RestsAll new ⊎ RestsInFlow new
     pub refused : IfErr tried (IsRefusedOn new)
     pub room : RoomAfter tried old new
 

@@ -84,11 +84,10 @@ HasOneFlow j = (i : ℕ) (s : PostSeen) → slice_get j.posts i ≡ Some s → (
 abbrev pub IsInFlow : LineDef → CpuNo → Known → Type 0
 IsInFlow def c k = flow def (own_past k.mine) ≡ Some c
 
--- on the line that its job names (`flow`) a processor has a flow in progress, and the post doesn't
--- rest
+-- on the line that its job names (`flow`) a processor has a flow in progress
 abbrev pub HasItsFlow : JobSeen → Type 0
 HasItsFlow j = (i : ℕ) → j.flow ≡ Some i → (c : CpuNo) × (s : PostSeen) × (j.actor ≡ actors.Cpu c)
-    × (slice_get j.posts i ≡ Some s) × (s.rests ≡ false) × IsInFlow s.pass.def c s.pass.knows
+    × (slice_get j.posts i ≡ Some s) × IsInFlow s.pass.def c s.pass.knows
 
 -- a thread has a pass of its device's line; a processor has a pass of each line, and a flow on at
 -- most one; a driver has a pass of each line, and its calls are made up to its place: its own

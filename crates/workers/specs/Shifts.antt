@@ -1,6 +1,7 @@
 -- What attempts, workers and shifts leave of jobs.
 use Rattle.std.specs.Prelude.{◌≡◌, ℕ, ◌+◌, ◌<◌, ◌≤◌, ◌⊎◌, IsOk, Option, Some, None, Result, Ok, Err}
-use Rattle.std.specs.Prelude.{List, length, slice_get, slice_index_or, nat_lt, if◌then◌else◌}
+use Rattle.std.specs.Prelude.{List, length, reverse, slice_get, slice_index_or, nat_lt}
+use Rattle.std.specs.Prelude.{if◌then◌else◌}
 use Rattle.irq_line.specs.declared.answers.StepRefused.TheVariants as refusals
 use Rattle.irq_line.specs.declared.answers.StepRefused.{StepRefused}
 use Rattle.workers.specs.declared.job.Work.{Work}
@@ -8,7 +9,9 @@ use Rattle.workers.specs.declared.job.Work.TheVariants as works
 use Rattle.irq_base.specs.declared.entries.Entry.{Entry}
 use Rattle.irq_base.specs.declared.entries.Actor.{Actor}
 use Rattle.irq_base.specs.declared.entries.Actor.TheVariants as actors
+use Rattle.irq_base.specs.declared.numbers.CpuNo.{CpuNo}
 use Rattle.irq_base.specs.declared.numbers.LineNo.{LineNo}
+use Rattle.irq_model.specs.Rounds.{flow}
 use Rattle.board_def.specs.Seen.{BoardSeen}
 use Rattle.line_lock.specs.Passes.{LockSeen}
 use Rattle.workers.specs.Fit.{IsJob}
@@ -19,13 +22,26 @@ use Rattle.workers.specs.Tries.{IsIdle}
 use Rattle.workers.specs.Attempts.{WaitsAt, IsFullOn, IsRefusedOn, IsWantedOn}
 use Rattle.workers.specs.Terms.{Terms}
 
--- Nothing is due of the actor. For a thread or a processor: on what each of its passes has seen.
--- For a driver: it is past all calls, or nothing is due on what its pass of the current call's line
--- has seen.
+-- nothing is due of the actor on what each of its passes has seen
+abbrev pub IsIdleOnAll : JobSeen → Actor → Type 0
+IsIdleOnAll j who =
+    (i : ℕ) (s : PostSeen) → slice_get j.posts i ≡ Some s → IsIdle s.pass.def who s.pass.knows
+
+-- nothing is due of the processor on what the pass of its flow's line has seen: it spins there
+pub record SpinsOn (j : JobSeen) (c : CpuNo) : Type 0 where
+  pub place : ℕ
+  pub post : PostSeen
+  pub at : slice_get j.posts place ≡ Some post
+  pub flow_is : flow post.pass.def (reverse post.pass.knows.seen) ≡ Some c
+  pub idle : IsIdle post.pass.def (actors.Cpu c) post.pass.knows
+
+-- Nothing is due of the actor. For a thread: on what its passes have seen. For a processor: the
+-- same, or it spins. For a driver: it is past all calls, or nothing is due on what its pass of the
+-- current call's line has seen.
 abbrev pub IsAtRest : BoardSeen → JobSeen → Actor → Type 0
 IsAtRest board j (actors.Driver r) = (length board.calls ≤ j.at) ⊎ WaitsAt board j r
-IsAtRest board j who =
-    (i : ℕ) (s : PostSeen) → slice_get j.posts i ≡ Some s → IsIdle s.pass.def who s.pass.knows
+IsAtRest board j (actors.Cpu c) = IsIdleOnAll j (actors.Cpu c) ⊎ SpinsOn j c
+IsAtRest board j (actors.Thread d) = IsIdleOnAll j (actors.Thread d)
 
 -- the job is right; it has the same actor, and passes of the same lines, which have seen as much or
 -- more

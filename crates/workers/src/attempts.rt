@@ -58,9 +58,9 @@ impl<L: IrqLine> Job<L> {
         Ok(moved)
     }
 
-    /// A processor's attempt. If it has a flow in progress, it steps on the flow's line, where
-    /// something is always due of it; else on the line of its last step, if an entry of it is due
-    /// there, or on the first within reach on which one is.
+    /// A processor's attempt. If it has a flow in progress, it steps on the flow's line alone,
+    /// where nothing is due of it only while it spins; else on the line of its last step, if an
+    /// entry of it is due there, or on the first within reach on which one is.
     pub(crate) fn attempt_cpu<R: Wait, H: SharedHandler>(
         &mut self,
         rt: &R,

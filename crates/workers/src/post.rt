@@ -3,7 +3,6 @@ ghost use Rattle.std.specs.Prelude.{◌≡◌, true, false, Some, IsSome, IsTrue
 ghost use Rattle.irq_base.specs.declared.entries.Actor.{Actor};
 ghost use Rattle.line_lock.specs.Passes.{IsPassOf};
 ghost use Rattle.workers.specs.Tries.{Glances, IsIdle, Tries, rests_after};
-ghost use Rattle.workers.specs.Attempts.{FlowMoves};
 ghost use Rattle.workers.specs.Terms.{terms_of};
 
 use callbacks::{Before, Said, SharedHandler};
@@ -61,7 +60,6 @@ impl<L: IrqLine> Post<L> {
         ensures tries { (who : Actor) → self.old.pass.knows.actor ≡ Some who
             → Tries (terms_of L.seen L.may_want (H.gave handlers.now))
             line.now.def who self.old.pass.knows result self.new.pass.knows }
-        ensures flows { self.old.rests ≡ false → FlowMoves line.now.def self.old.pass.knows result }
     {
         if self.is_still(line) {
             return Ok(None);
@@ -126,7 +124,6 @@ fn step_heard<L: IrqLine, R: Wait, H: SharedHandler>(
     ensures tries { (who : Actor) → pass.old.knows.actor ≡ Some who
         → Tries (terms_of L.seen L.may_want (H.gave handlers.now))
         line.now.def who pass.old.knows result pass.new.knows }
-    ensures flows { FlowMoves line.now.def pass.old.knows result }
 {
     let mut before = Before { said: None };
     for _ in rt.forever() {

@@ -2,7 +2,7 @@ use Rattle.std.proofs.Common.{List, map, subst}
 use Rattle.irq_line.specs.Seen.{LineSeen}
 use Rattle.board_core.specs.Making.{AreSound}
 use Rattle.board_report.specs.Reporting.{KeepRoom}
-use Rattle.board_report.proofs.Handed.{done, few_told, full, of_its_board, rows_told, so_far, summable_told}
+use Rattle.board_report.proofs.Handed.{done, few_told, full, hung, of_its_board, rows_told, so_far, summable_told}
 use Rattle.board_report.proofs.handing.hand_out.Goals as goal
 
 pub fill-requires-clause-lines : goal.fill-requires-clause-lines
@@ -17,6 +17,11 @@ returns-clause-so_far g c =
 pub returns-clause-done : goal.returns-clause-done
 returns-clause-done g c =
     done c.args.board.now c.args.system c.requires.board c.is_kept.ensures c.is_board.ensures.board
+    (map g.L.IrqLine.seen c.take_lines.result.items) c.take_lines.ensures c.fill.result.reports c.fill.ensures.told
+
+pub returns-clause-hung : goal.returns-clause-hung
+returns-clause-hung g c =
+    hung c.args.board.now c.args.system c.requires.board c.is_kept.ensures c.is_board.ensures.board
     (map g.L.IrqLine.seen c.take_lines.result.items) c.take_lines.ensures c.fill.result.reports c.fill.ensures.told
 
 pub returns-clause-full : goal.returns-clause-full

@@ -4,8 +4,8 @@ use Rattle.irq_base.specs.declared.devices.Run.{Run}
 use Rattle.board_core.specs.Runs.{runs_of}
 use Rattle.board_play.specs.Lines.{Move}
 use Rattle.callbacks.specs.Heard.{Heard}
-use Rattle.explore_play.specs.Made.{IsMade}
-use Rattle.explore_picks.proofs.Playing.{prints}
+use Rattle.explore_picks.specs.Made.{IsMade}
+use Rattle.explore_picks.proofs.MadePlays.{prints}
 use Rattle.explore_picks.proofs.Printable.{moves_have_rows, some_is}
 use Rattle.explore_picks.specs.Small.{HasSmallMove}
 use Rattle.explore_picks.proofs.making.play_to_and_print.Goals as goal

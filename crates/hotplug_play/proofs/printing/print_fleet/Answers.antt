@@ -4,7 +4,7 @@ use Rattle.std.proofs.lemmas.Result.{err_from_is_err_and}
 use Rattle.board_report.proofs.Writing.{items_failed}
 use Rattle.irq_hotplug.specs.declared.rows.FleetRow.{FleetRow}
 use Rattle.irq_hotplug.specs.declared.rows.FleetRow.TheVariants as rows
-use Rattle.hotplug_rows.specs.Texts.{row_text}
+use Rattle.hotplug_play.specs.Rows.{row_text}
 use Rattle.hotplug_play.proofs.printing.print_fleet.Goals as goal
 
 -- what an index beyond the end would read

@@ -1,7 +1,7 @@
 use Rattle.std.proofs.Common.{◌≡◌, take, Ok}
 use Rattle.std.specs.List.{flat_map}
 use Rattle.irq_io.specs.Whole.{WritesAll}
-use Rattle.hotplug_rows.specs.Texts.{row_text}
+use Rattle.hotplug_play.specs.Rows.{row_text}
 use Rattle.hotplug_play.proofs.printing.print_fleet.Given as goal
 
 abbrev pub invariant-loop-i : goal.invariant-loop-i

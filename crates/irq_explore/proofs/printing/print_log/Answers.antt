@@ -1,7 +1,7 @@
 use Rattle.std.proofs.lemmas.Result.{err_from_is_err_and}
 use Rattle.log_text.specs.Rows.{entry_text}
 use Rattle.board_report.proofs.Writing.{items_failed}
-use Rattle.irq_explore.proofs.Rows.{at_index}
+use Rattle.irq_explore.proofs.ByIndex.{at_index}
 use Rattle.irq_explore.proofs.printing.print_log.Goals as goal
 
 pub returns-in_err-write_all-clause-content : goal.returns-in_err-write_all-clause-content

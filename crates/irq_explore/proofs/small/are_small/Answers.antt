@@ -1,7 +1,7 @@
 use Rattle.std.proofs.Common.{All, subst, arith}
 use Rattle.std.proofs.lemmas.List.{take_all}
 use Rattle.log_text.specs.Formed.{HasSmallNumbers}
-use Rattle.irq_explore.proofs.Rows.{more_of}
+use Rattle.irq_explore.proofs.ByIndex.{more_of}
 use Rattle.irq_explore.proofs.small.are_small.Goals as goal
 
 pub loop-i-preserved : goal.loop-i-preserved

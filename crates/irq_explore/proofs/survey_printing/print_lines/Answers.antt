@@ -3,7 +3,7 @@ use Rattle.std.proofs.lemmas.Result.{err_from_is_err_and}
 use Rattle.board_report.proofs.Writing.{items_done, items_failed}
 use Rattle.irq_explore.specs.Surveyed.{line_text}
 use Rattle.irq_explore.specs.declared.surveying.LineSurvey.{LineSurvey}
-use Rattle.irq_explore.proofs.Rows.{at_index}
+use Rattle.irq_explore.proofs.ByIndex.{at_index}
 use Rattle.irq_explore.proofs.survey_printing.print_lines.Goals as goal
 
 pub returns-in_err-print_line-clause-content : goal.returns-in_err-print_line-clause-content

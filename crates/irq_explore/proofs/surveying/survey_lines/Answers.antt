@@ -1,7 +1,7 @@
 use Rattle.std.proofs.Common.{List, Some, slice_get, sym, ap, ◌∙◌, arith}
 use Rattle.domain_rules.specs.declared.layouts.Placement.{Placement}
 use Rattle.irq_base.specs.declared.lines.LineDef.{LineDef}
-use Rattle.irq_explore.proofs.Rows.{at_index}
+use Rattle.irq_explore.proofs.ByIndex.{at_index}
 use Rattle.irq_explore.proofs.Taken.{all_taken, next, rows_next}
 use Rattle.irq_explore.specs.Surveying.{is_surveyed}
 use Rattle.irq_explore.proofs.surveying.survey_lines.Goals as goal

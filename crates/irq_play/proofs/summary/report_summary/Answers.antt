@@ -1,4 +1,5 @@
 use Rattle.std.proofs.Common.{Result, ◌++◌, map, sym, subst}
+use Rattle.board_core.specs.declared.ends.PlayEnd.{PlayEnd}
 use Rattle.board_report.specs.Headline.{told_by}
 use Rattle.board_report.specs.Totals.{totals_text}
 use Rattle.log_text.specs.LayoutRows.{layout_rows}
@@ -22,12 +23,12 @@ returns-clause-plays g c =
     (elim c.match-laid.branch [
       | in-Ok w ↦
           subst (λ out. Prints (layout ++ totals) ended before (sink out) c.match-laid.end) (sym w.out-is)
-          (subst (λ (end : Result Unit PlayFailed). Prints (layout ++ totals) ended before (sink w.print_sums-end.new.out) end) (sym w.end-is)
-          (prints_more layout totals ended before mid (sink w.print_sums-end.new.out) w.print_sums-end.result w.in-Ok.ensures.prints
+          (subst (λ (end : Result PlayEnd PlayFailed). Prints (layout ++ totals) ended before (sink w.print_sums-end.new.out) end) (sym w.end-is)
+          (prints_more layout totals ended before mid (sink w.print_sums-end.new.out) w.in-Ok.end w.print_sums-end.result w.in-Ok.ensures.prints
           w.print_sums-end.ensures.prints))
       | in-Err w ↦
           subst (λ out. Prints (layout ++ totals) ended before (sink out) c.match-laid.end) (sym w.out-is)
-          (subst (λ (end : Result Unit PlayFailed). Prints (layout ++ totals) ended before mid end) (sym w.end-is)
+          (subst (λ (end : Result PlayEnd PlayFailed). Prints (layout ++ totals) ended before mid end) (sym w.end-is)
           (prints_part layout totals ended before mid w.in-Err.failed w.in-Err.ensures.prints))
     ])
     c.take_reports-reports.ensures.handed_out

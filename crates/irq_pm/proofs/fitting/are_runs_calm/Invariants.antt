@@ -1,6 +1,6 @@
 use Rattle.std.proofs.Common.{◌≡◌, not, drop}
 use Rattle.std.specs.List.{list_any}
-use Rattle.sleep_laws.specs.Sleeping.{moves_or_waits}
+use Rattle.irq_pm.specs.Sleeping.{moves_or_waits}
 use Rattle.irq_pm.specs.SleptBoard.{are_runs_calm}
 use Rattle.irq_pm.proofs.fitting.are_runs_calm.Given as goal
 

@@ -4,6 +4,7 @@ use Rattle.irq_base.specs.declared.devices.Run.{Run}
 use Rattle.board_gen.specs.Generated.{generated}
 use Rattle.callbacks.specs.Heard.{Heard}
 use Rattle.irq_top.specs.Commands.{PlaysAs}
+use Rattle.irq_top.proofs.Outcomes.{keeps_without_memory}
 use Rattle.irq_top.proofs.commands.play_generated.Goals as goal
 
 pub returns-in-Ok-clause-generates : goal.returns-in-Ok-clause-generates
@@ -17,3 +18,7 @@ returns-in-Ok-clause-generates g c =
 pub returns-in-Err-clause-generates : goal.returns-in-Err-clause-generates
 returns-in-Err-clause-generates g c =
     (Err plays.NoMemory, c.without_reports.ensures.ending, (c.without_reports.ensures.reports, refl))
+
+pub returns-in-Err-clause-keeps : goal.returns-in-Err-clause-keeps
+returns-in-Err-clause-keeps g c =
+    keeps_without_memory g.O.Sink.kept g.O.Sink.faults c.args.out.now c.without_reports.result.ending c.without_reports.ensures.ending

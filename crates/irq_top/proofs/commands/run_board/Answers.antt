@@ -1,5 +1,5 @@
 use Rattle.irq_run.specs.Ran.{RunsBoard, TellsStep}
-use Rattle.irq_top.proofs.Outcomes.{of_printed, ends_as_any_play, tells_as_played}
+use Rattle.irq_top.proofs.Outcomes.{ends_as_any_play, keeps_as_played, tells_as_played}
 use Rattle.irq_top.proofs.commands.run_board.Goals as goal
 
 pub returns-clause-runs : goal.returns-clause-runs
@@ -14,5 +14,7 @@ returns-clause-wanted g c =
     c.of_play.result.reports.reports c.run_and_print.result.end c.of_play.result.ending c.of_play.ensures.ending c.of_play.ensures.reports
     c.run_and_print.ensures.step
 
-pub returns-clause-emptied : goal.returns-clause-emptied
-returns-clause-emptied g c = of_printed c.run_and_print.result.end c.of_play.ensures.printed c.run_and_print.ensures.emptied
+pub returns-clause-keeps : goal.returns-clause-keeps
+returns-clause-keeps g c =
+    keeps_as_played c.run_and_print.result.end c.of_play.result.ending c.of_play.ensures.ending
+    c.run_and_print.ensures.emptied c.run_and_print.ensures.write_fault c.run_and_print.ensures.silent

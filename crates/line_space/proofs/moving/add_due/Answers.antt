@@ -25,14 +25,14 @@ due_at : (c : After-due_by) (past : List Entry) → IsLegalPast c.args.def.now p
     → length past < 100000000
     → DueAt c.args.def.now past c.args.scratch.now.state c.args.scratch.now.scripts c.args.actor c.due_by.result
 due_at c past legal same few =
-    let read = read_at c.requires.valid c.requires.runs c.requires.waits c.requires.read legal same few in
+    let read = read_at c.requires.valid c.requires.runs c.requires.read legal same few in
     record { read = read; told = c.due_by.ensures.due c.args.def.now (scripted_again read) }
 
 made : (c : After-advance) (past : List Entry) → IsLegalPast c.args.def.now past → c.args.words.now ≡ node c.args.def.now past
     → length past < 100000000
     → MadeAt c.args.def.now past c.args.scratch.now.state c.args.scratch.now.scripts c.args.actor c.make-entry.result c.advance.new.scripts
 made c past legal same few =
-    let read = read_at c.requires.valid c.requires.runs c.requires.waits c.requires.read legal same few in
+    let read = read_at c.requires.valid c.requires.runs c.requires.read legal same few in
     let due : DueAt c.args.def.now past c.args.scratch.now.state c.args.scratch.now.scripts c.args.actor c.due_by.result
     = record { read = read; told = c.due_by.ensures.due c.args.def.now (scripted_again read) } in
     made_at due c.in-Some.is c.make-entry.ensures.entry c.advance.ensures
@@ -44,17 +44,17 @@ returns-in_default-clause-found c = λ past legal same few.
 pub make-entry-requires-clause-is_of : goal.make-entry-requires-clause-is_of
 make-entry-requires-clause-is_of c =
     let p = c.requires.reached in
-    is_of_again (read_at c.requires.valid c.requires.runs c.requires.waits c.requires.read p.1 p.2 p.3)
+    is_of_again (read_at c.requires.valid c.requires.runs c.requires.read p.1 p.2 p.3)
 
 pub make-entry-requires-clause-scripted : goal.make-entry-requires-clause-scripted
 make-entry-requires-clause-scripted c =
     let p = c.requires.reached in
-    scripted_again (read_at c.requires.valid c.requires.runs c.requires.waits c.requires.read p.1 p.2 p.3)
+    scripted_again (read_at c.requires.valid c.requires.runs c.requires.read p.1 p.2 p.3)
 
 pub make-entry-requires-clause-activated : goal.make-entry-requires-clause-activated
 make-entry-requires-clause-activated c =
     let p = c.requires.reached in
-    activated_again (read_at c.requires.valid c.requires.runs c.requires.waits c.requires.read p.1 p.2 p.3)
+    activated_again (read_at c.requires.valid c.requires.runs c.requires.read p.1 p.2 p.3)
 
 pub make-entry-requires-clause-about : goal.make-entry-requires-clause-about
 make-entry-requires-clause-about c =

@@ -10,20 +10,22 @@ use Rattle.line_survey.proofs.seeking.seek.Goals as goal
 
 pub returns-clause-paths : goal.returns-clause-paths
 returns-clause-paths c =
-    subst (λ (v : WantedSeen). IfOk c.search.result (λ s. Searches (IsDue v.def) (node v.def) s.found.paths s.found.looked (cut_of s.found)))
-    c.in_ok-space.ensures c.search.ensures.paths
+    subst (λ (v : WantedSeen). IfOk c.search_through.result (λ s. Searches (IsDue v.def) (node v.def) s.found.paths s.found.looked (cut_of s.found)))
+    c.in_ok-space.ensures c.search_through.ensures.paths
 
 pub returns-clause-met : goal.returns-clause-met
 returns-clause-met c =
-    subst (λ (v : WantedSeen). IfOk c.search.result (λ s. s.is_met ≡ true → IsNearest (IsDue v.def) (IsMetBy v.def v.wanted) s.found.paths s.found.looked))
-    c.in_ok-space.ensures c.search.ensures.met
+    subst (λ (v : WantedSeen). IfOk c.search_through.result
+    (λ s. s.is_met ≡ true → IsNearest (IsDue v.def) (IsMetBy v.def v.wanted) s.found.paths s.found.looked))
+    c.in_ok-space.ensures c.search_through.ensures.met
 
 pub returns-clause-none : goal.returns-clause-none
 returns-clause-none c =
-    subst (λ (v : WantedSeen). IfOk c.search.result (λ s. NoneWanted (IsDue v.def) (IsMetBy v.def v.wanted) s.found.paths s.found.looked (cut_of s.found)))
-    c.in_ok-space.ensures c.search.ensures.none
+    subst (λ (v : WantedSeen). IfOk c.search_through.result
+    (λ s. NoneWanted (IsDue v.def) (IsMetBy v.def v.wanted) s.found.paths s.found.looked (cut_of s.found)))
+    c.in_ok-space.ensures c.search_through.ensures.none
 
 pub returns-clause-left_out : goal.returns-clause-left_out
 returns-clause-left_out c =
-    subst (λ (v : WantedSeen). IfOk c.search.result (λ s. s.is_met ≡ false → LeavesOut (IsDue v.def) (node v.def) s.found.paths s.found.looked))
-    c.in_ok-space.ensures c.search.ensures.left_out
+    subst (λ (v : WantedSeen). IfOk c.search_through.result (λ s. s.is_met ≡ false → LeavesOut (IsDue v.def) (node v.def) s.found.paths s.found.looked))
+    c.in_ok-space.ensures c.search_through.ensures.left_out

@@ -33,5 +33,5 @@ returns c =
     let unmet = c.if-sought.false in
     subst (λ (a : Answer). IsAnswer c.args.most c.args.def.now c.args.wanted a) (sym c.unmet.ensures)
     (unmet_said c.args.def.now c.args.wanted s e.paths e.none c.args.most
-    (record { valid = c.requires.valid; runs = c.requires.runs; waits = c.requires.waits })
+    (record { valid = c.requires.valid; runs = c.requires.runs })
     e.within (e.left_out unmet) (e.cut unmet) (cut_of s) refl)

@@ -9,8 +9,8 @@ use Rattle.sleep_play.proofs.playing.play_sleep.Goals as goal
 
 pub returns-clause-heard : goal.returns-clause-heard
 returns-clause-heard g c =
-    let s = c.play-end.new.self in
-    subst (λ (b : BoardSeen). Heard g.H.Handler.hears (runs_of b (moves_of (reverse (log_of s)))) c.args.handlers.now c.play-end.new.handlers)
-    (c.play-end.ensures.stays.board ∙ c.in_ok-sleeper.ensures.board)
-    (subst (λ (moves : List Move). Heard g.H.Handler.hears (runs_of s.system.board moves) c.args.handlers.now c.play-end.new.handlers)
-    (sym c.play-end.ensures.told.told) c.play-end.ensures.heard)
+    let s = c.play-stop.new.self in
+    subst (λ (b : BoardSeen). Heard g.H.Handler.hears (runs_of b (moves_of (reverse (log_of s)))) c.args.handlers.now c.play-stop.new.handlers)
+    (c.play-stop.ensures.stays.board ∙ c.in_ok-sleeper.ensures.board)
+    (subst (λ (moves : List Move). Heard g.H.Handler.hears (runs_of s.system.board moves) c.args.handlers.now c.play-stop.new.handlers)
+    (sym c.play-stop.ensures.told.told) c.play-stop.ensures.heard)

@@ -26,7 +26,8 @@ pub returns-clause-kept : goal.returns-clause-kept
 returns-clause-kept g c =
     let a = apart g (goal.at.returns-clause-kept g c).After-deref in
     kept_result a (λ all. map g.L.IrqLine.seen all.items) c.finish_all.result c.is_board.ensures.board c.meet_all.ensures.home
-    (gathered a c.meet_all.ensures.gathers) c.finish_all.ensures.lines c.finish_all.ensures.sound
+    (gathered a c.meet_all.ensures.gathers) (back_of a c.meet_all.ensures.back) c.finish_all.ensures.lines c.finish_all.ensures.sound
+    c.finish_all.ensures.known
 
 pub returns-clause-gathered : goal.returns-clause-gathered
 returns-clause-gathered g c =

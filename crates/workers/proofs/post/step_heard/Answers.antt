@@ -1,11 +1,10 @@
-use Rattle.std.proofs.Common.{Ok, Err, refl, subst, ◌∙◌}
-use Rattle.irq_base.specs.declared.entries.Actor.TheVariants as actors
+use Rattle.std.proofs.Common.{Ok, Err, subst, ◌∙◌}
 use Rattle.callbacks.specs.contracts.before.BeforeHears as before
 use Rattle.irq_base.specs.declared.devices.Run.{Run}
 use Rattle.irq_line.specs.declared.answers.Stepped.{Stepped}
 use Rattle.irq_line.specs.declared.answers.StepRefused.{StepRefused}
 use Rattle.line_shared.specs.Stepping.{Steps}
-use Rattle.workers.proofs.Trying.{called_given, said_given, tries_added, tries_not_yet, flow_not_yet, tries_refused, waits_on, its_actor}
+use Rattle.workers.proofs.Trying.{called_given, said_given, tries_added, tries_not_yet, tries_refused, waits_on, its_actor}
 use Rattle.workers.proofs.post.step_heard.Goals as goal
 
 pub returns-in-Ok-Added-clause-tries : goal.returns-in-Ok-Added-clause-tries
@@ -53,13 +52,3 @@ returns-in-Err-clause-tries g c = λ who is.
     before.TheImpl.ghosts.lacks c.args.line.now.def who c.loop.pass.knows c.loop.before (Err r)
     c.step.new.pass.knows c.step.new.before) c.in-Err.refused-is
     (c.in-Err.ensures.steps who (c.loop.invariant.waits.actor ∙ is)))
-
-pub returns-in-Ok-NotYet-clause-flows : goal.returns-in-Ok-NotYet-clause-flows
-returns-in-Ok-NotYet-clause-flows g c = λ cpu is own none.
-    flow_not_yet g.L.IrqLine.seen g.L.IrqLine.may_want before.TheImpl.ghosts.hears before.TheImpl.ghosts.lacks
-    (g.H.SharedHandler.gave c.args.handlers.now) c.args.line.now (actors.Cpu cpu) c.args.pass.now c.loop.pass
-    c.step.new.pass c.loop.before c.step.new.before c.loop.invariant.waits
-    (subst (λ (s : Stepped Run). Steps g.L.IrqLine.seen g.L.IrqLine.may_want before.TheImpl.ghosts.hears
-    before.TheImpl.ghosts.lacks c.args.line.now.def (actors.Cpu cpu) c.loop.pass.knows c.loop.before (Ok s)
-    c.step.new.pass.knows c.step.new.before) c.in-Ok-NotYet.field-0-is
-    (c.in-Ok-NotYet.ensures.steps (actors.Cpu cpu) (c.loop.invariant.waits.actor ∙ is))) cpu refl own

@@ -1,4 +1,4 @@
-use Rattle.std.proofs.Common.{◌≡◌, ℕ, Some, List, sym, subst, arith}
+use Rattle.std.proofs.Common.{◌≡◌, ℕ, Some, List, sym, subst, ◌∙◌, arith}
 use Rattle.irq_base.specs.declared.numbers.DevNo.{DevNo}
 use Rattle.device_table.specs.Rows.{at}
 use Rattle.device_table.specs.Sums.{one_if}
@@ -7,6 +7,7 @@ use Rattle.device_table.proofs.Weights.{weight_put, weight_has, weight_few, leng
 use Rattle.act_thread.specs.Steps.{active_row, is_ready, is_returned}
 use Rattle.act_thread.specs.declared.rows.ThreadRow.{ThreadRow}
 use Rattle.act_thread.proofs.Marking.{marked_put}
+use Rattle.act_thread.proofs.Numbering.{rank_put}
 use Rattle.act_thread.proofs.Changing.{at_most_two, held_few, ranked_put}
 use Rattle.act_thread.proofs.threads.Threads.replace.Goals as goal
 
@@ -53,6 +54,7 @@ invariant_of-self c =
       few = omega (arith, more, kept.few);
       own = own_put i.rows c.args.dev c.args.new kept.own;
       ranking = kept.ranking;
+      numbered = λ d. kept.numbered d ∙ sym (rank_put i.rows d c.args.dev c.args.old c.args.new there);
       ranked = ranked_put i.rows i.ranks c.args.dev c.args.old c.args.new there kept.ranked;
       readies = marked_put is_ready i.rows i.ranks i.ready c.mark.new.ready c.args.dev c.args.old c.args.new mine.0
           kept.ranking there mine.1 kept.readies c.mark.ensures.ready;

@@ -1,7 +1,7 @@
 use Rattle.std.proofs.Common.{rules, ◌≡◌, false, Option, None, List, length, replicate, refl, ap, ◌∙◌, arith}
 use Rattle.std.proofs.lemmas.List.{length-replicate}
 use Rattle.board_ready.specs.Kept.{thread_of}
-use Rattle.board_ready.specs.Ready.{idle, thread_on, has_flow, has_take, can_go_on}
+use Rattle.board_ready.specs.Ready.{idle, thread_on, has_flow, has_spinner, has_take, can_go_on}
 use Rattle.board_ready.specs.Sets.{is_on, is_waiting}
 use Rattle.board_ready.specs.declared.parts.CurrentCall.{CurrentCall}
 use Rattle.board_ready.specs.declared.parts.LineReadiness.{LineReadiness}
@@ -23,8 +23,9 @@ invariant_of-result c =
       threads = λ k small. c.new.ensures k small ∙ fresh_readiness (λ o. thread_on k (thread_of o))
           c.in_ok-lines.lines.items c.args.lines k None lines refl refl;
       flows = λ n k few small. c.new-2.ensures n k ∙ fresh_readiness (has_flow n) c.in_ok-lines.lines.items c.args.lines k false lines refl refl;
-      takes = λ n k few small. c.new-3.ensures n k ∙ fresh_readiness (has_take n) c.in_ok-lines.lines.items c.args.lines k false lines refl refl;
-      on_lines = λ k r few small. c.new-4.ensures.lines k r ∙ fresh_call (is_on k) c.in_ok-drivers.drivers.items c.args.drivers r drivers;
-      waiting = λ w r small. c.new-4.ensures.waiting w r ∙ fresh_call (is_waiting w) c.in_ok-drivers.drivers.items c.args.drivers r drivers;
+      spins = λ n k few small. c.new-3.ensures n k ∙ fresh_readiness (has_spinner n) c.in_ok-lines.lines.items c.args.lines k false lines refl refl;
+      takes = λ n k few small. c.new-4.ensures n k ∙ fresh_readiness (has_take n) c.in_ok-lines.lines.items c.args.lines k false lines refl refl;
+      on_lines = λ k r few small. c.new-5.ensures.lines k r ∙ fresh_call (is_on k) c.in_ok-drivers.drivers.items c.args.drivers r drivers;
+      waiting = λ w r small. c.new-5.ensures.waiting w r ∙ fresh_call (is_waiting w) c.in_ok-drivers.drivers.items c.args.drivers r drivers;
       ready = λ r small. nothing_in 0 r refl ∙ fresh_call (can_go_on c.in_ok-lines.lines.items) c.in_ok-drivers.drivers.items c.args.drivers r drivers;
     }

@@ -24,6 +24,7 @@ invariant_of-self c =
       few_drivers = omega (arith, length-set drivers d c.args.call, c.self.invariant.few_drivers);
       threads = c.self.invariant.threads;
       flows = c.self.invariant.flows;
+      spins = c.self.invariant.spins;
       takes = c.self.invariant.takes;
       on_lines = λ k r few small. drivers_set (is_on k) drivers d before c.args.call
           (has (on_line c.self.inside.calls k)) (has (on_line c.put-2.new.self k)) inside at_d

@@ -14,6 +14,7 @@ returns g c =
     let reports = c.hand_out.result.reports in
     subst (λ (p : ChainPlaySeen). HandsOutChain g.L.IrqLine.may_want p.demux p.end reports) c.self.view_is
     (hands_out_step g.L.IrqLine.may_want d c.self.inside.end c.self.invariant.1 lines c.into_system.ensures.lines reports c.hand_out.ensures.room
-    (hands_out d k.board k.fits k.legal k.lines k.kept c.self.inside.end c.self.invariant.0.play lines c.into_system.ensures.lines reports
+    (hands_out d k.board k.fits k.legal k.lines k.kept c.self.inside.end c.self.invariant.0.play c.self.invariant.0.says lines c.into_system.ensures.lines
+    reports
     (subst (λ (b : BoardSeen). Reported b (board_lines lines) reports) (sym (ap (λ (p : ChainPlaySeen). p.demux.board) c.self.view_is ∙ c.requires.board))
-    (record { so_far = c.hand_out.ensures.so_far; done = c.hand_out.ensures.done; full = c.hand_out.ensures.full }))))
+    (let out = c.hand_out.ensures in record { so_far = out.so_far; done = out.done; hung = out.hung; full = out.full }))))

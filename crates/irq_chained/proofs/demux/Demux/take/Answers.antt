@@ -1,7 +1,7 @@
 use Rattle.std.proofs.Common.{subst, sym, IsTrue, slice_get, arith}
 use Rattle.board_core.specs.Firsts.{is_take_due}
 use Rattle.board_core.specs.Seen.{board_lines}
-use Rattle.irq_chained.proofs.SeenTurns.{take_turned}
+use Rattle.irq_chained.proofs.SeenTurns.{free_current, take_turned}
 use Rattle.irq_chained.proofs.Turning.{level_cell}
 use Rattle.irq_chained.specs.Chain.{cpu_0}
 use Rattle.irq_chained.specs.Seen.{DemuxSeen}
@@ -40,3 +40,6 @@ pub returns-clause-memory : goal.returns-clause-memory
 returns-clause-memory g c = take_wants g.L.IrqLine.may_want c.self.invariant c.self.view_is c.is_kept.ensures.board c.is_kept.ensures.kept
     c.args.place c.number_at-line.result c.step_on-turn.result c.chain_turn_of.result c.chain_turn_of.ensures c.requires.due c.requires.next
     c.requires.line c.number_at-line.ensures c.step_on-turn.ensures.memory
+
+pub step_on-turn-requires : goal.step_on-turn-requires
+step_on-turn-requires g c = free_current c.self.invariant c.self.view_is c.number_at-line.result c.requires.no_flow

@@ -15,7 +15,7 @@ returns-clause-handed_out g c =
     subst (λ (p : StatedPlaySeen). HandsOutSystem g.L.IrqLine.may_want p.system p.end reports) c.self.view_is
     (handed_out s (subst IsBoard same c.is_board.ensures.board) g.L.IrqLine.may_want c.self.inside.end c.self.invariant.0 c.self.invariant.1 reports
     (subst (λ (b : BoardSeen). Reported b (board_lines s.lines) reports) same
-    (record { so_far = c.hand_out.ensures.so_far; done = c.hand_out.ensures.done; full = c.hand_out.ensures.full }))
+    (let out = c.hand_out.ensures in record { so_far = out.so_far; done = out.done; hung = out.hung; full = out.full }))
     c.hand_out.ensures.room)
 
 pub hand_out-requires-clause-board : goal.hand_out-requires-clause-board

@@ -1,7 +1,7 @@
 use Rattle.board_def.specs.Seen.{BoardSeen}
 use Rattle.callbacks.specs.Heard.{Heard}
 use Rattle.irq_play.specs.Played.{PlaysBoard, TellsStep}
-use Rattle.irq_top.proofs.Outcomes.{of_printed, ends_as_any_play, tells_as_played}
+use Rattle.irq_top.proofs.Outcomes.{ends_as_any_play, keeps_as_played, tells_as_played}
 use Rattle.irq_top.proofs.plays.PlayOnBoard.play.Goals as goal
 
 pub returns-clause-does : goal.returns-clause-does
@@ -16,5 +16,7 @@ returns-clause-wanted g c =
     tells_as_played (TellsStep g.M.Line.IrqLine.may_want) c.args.board c.play_and_print.result.reports.reports c.of_play.result.reports.reports
     c.play_and_print.result.end c.of_play.result.ending c.of_play.ensures.ending c.of_play.ensures.reports c.play_and_print.ensures.step
 
-pub returns-clause-emptied : goal.returns-clause-emptied
-returns-clause-emptied g c = of_printed c.play_and_print.result.end c.of_play.ensures.printed c.play_and_print.ensures.emptied
+pub returns-clause-keeps : goal.returns-clause-keeps
+returns-clause-keeps g c =
+    keeps_as_played c.play_and_print.result.end c.of_play.result.ending c.of_play.ensures.ending
+    c.play_and_print.ensures.emptied c.play_and_print.ensures.write_fault c.play_and_print.ensures.silent

@@ -12,6 +12,6 @@ invariant_of-result g c =
     (sym c.in_ok-own.ensures)
     (subst (λ (h : List Entry). IsLine c.args.def.now h c.in_ok-state.state.state c.in_ok-scripts.scripts (runs_seen c.in_ok-state.state))
     (sym c.in_ok-history.ensures.empty)
-    (line_starts c.args.def.now c.in_ok-state.state c.in_ok-scripts.scripts c.requires.valid c.requires.runs c.requires.waits
+    (line_starts c.args.def.now c.in_ok-state.state c.in_ok-scripts.scripts c.requires.valid c.requires.runs
     c.in_ok-state.ensures.state c.in_ok-state.ensures.scripted c.in_ok-scripts.ensures.calls c.in_ok-scripts.ensures.place
     c.in_ok-scripts.ensures.within))

@@ -15,7 +15,9 @@ returns-in-Cpu g c =
     let line : LineSeen = line_of c.self.inside.def c.self.inside.history in
     subst (λ (w : WiredSeen). c.of_cpu.result ≡ obstacle_of w.line c.args.actor) c.self.view_is
     (subst (λ (a : Actor). c.of_cpu.result ≡ obstacle_of line a) (sym c.in-Cpu.is)
-    (c.of_cpu.ensures ∙ cpu_told line c.self.inside.state.state c.self.inside.scripts (runs_seen c.self.inside.state) c.self.invariant c.in-Cpu.cpu))
+    (c.of_cpu.ensures line.def (line_scripted line.def line.entries
+    (record { seen = c.self.inside.state; scripts = c.self.inside.scripts; is = c.self.invariant }))
+    ∙ cpu_told line c.self.inside.state.state c.self.inside.scripts (runs_seen c.self.inside.state) c.self.invariant c.in-Cpu.cpu))
 
 pub returns-in-Thread : goal.returns-in-Thread
 returns-in-Thread g c =

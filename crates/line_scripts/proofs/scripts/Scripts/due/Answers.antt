@@ -1,6 +1,6 @@
 use Rattle.std.proofs.Common.{List, sym, ap, ◌∙◌}
 use Rattle.irq_base.specs.declared.numbers.DriverNo.{DriverNo}
-use Rattle.irq_steps.specs.Laid.{with_count}
+use Rattle.irq_model.specs.Laid.{with_count}
 use Rattle.line_scripts.specs.Rows.{RowSeen, row_of, call_in}
 use Rattle.line_scripts.proofs.FirstRow.{first_row}
 use Rattle.line_scripts.proofs.scripts.Scripts.due.Goals as goal

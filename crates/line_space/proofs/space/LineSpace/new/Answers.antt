@@ -18,7 +18,6 @@ invariant_of-result c =
     (record {
       valid = c.requires.valid;
       valid_runs = c.requires.runs;
-      waits = c.requires.waits;
       more = c.has_more-more.ensures;
       drivers = c.in_ok-drivers.ensures;
       scratch = c.in_ok-scratch.ensures;

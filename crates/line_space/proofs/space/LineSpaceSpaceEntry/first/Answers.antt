@@ -12,7 +12,7 @@ returns-clause-first c =
     let def = c.self.inside.def in
     let told = state_told c.self.inside.more def (canon c.in_ok-state.state.state) (places_told c.in_ok-scripts.scripts c.as_slice-drivers.result.now) in
     if_ok c.write.result (λ written. written ∙ (ap (λ (k : List ℕ). k ++ told) c.requires
-    ∙ (first_words def c.self.invariant.valid c.self.invariant.valid_runs c.self.invariant.waits c.in_ok-state.state
+    ∙ (first_words def c.self.invariant.valid c.self.invariant.valid_runs c.in_ok-state.state
     c.in_ok-scripts.scripts c.self.inside.more c.as_slice-drivers.result.now c.in_ok-state.ensures.first
     c.in_ok-state.ensures.runs
     c.in_ok-scripts.ensures.scripts c.in_ok-scripts.ensures.places c.in_ok-scripts.ensures.withins c.self.invariant.more

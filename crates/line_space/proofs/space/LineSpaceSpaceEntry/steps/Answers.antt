@@ -32,7 +32,7 @@ pub push_due-requires-clause-scripted : goal.push_due-requires-clause-scripted
 push_due-requires-clause-scripted c =
     let P : LineDef → Type 0 = λ d. IsReachedBy (IsDue d) (node d) 100000000 c.args.words.now in
     let reached = reached_is c.self.inside.def c.args.words.now (subst P (sym c.self.view_is) c.requires.reached) in
-    scripted_again (read_at c.self.invariant.valid c.self.invariant.valid_runs c.self.invariant.waits c.in_ok-read.ensures.read
+    scripted_again (read_at c.self.invariant.valid c.self.invariant.valid_runs c.in_ok-read.ensures.read
     reached.1 reached.2 reached.3)
 
 pub returns-clause-steps : goal.returns-clause-steps
@@ -46,7 +46,7 @@ returns-clause-steps c =
     let S : LineDef → Type 0 = λ d. (h : List Entry) → IsPath (IsDue d) h → node d h ≡ c.args.words.now → AreSteps (IsDue d) (node d) h c.add_all.new.found in
     let drivers = c.as_slice-drivers.ensures.value ∙ c.self.invariant.drivers in
     if_ok c.add_all.result (λ added. subst S c.self.view_is
-    (steps_all def valid c.self.invariant.valid_runs c.self.invariant.waits ws (reached_is def ws (subst R (sym c.self.view_is) c.requires.reached))
+    (steps_all def valid c.self.invariant.valid_runs ws (reached_is def ws (subst R (sym c.self.view_is) c.requires.reached))
     c.self.inside.scratch.scripts c.self.invariant.scratch.scripts c.args.found.now new c.as_slice-asked.result.now c.requires.empty
     (λ past legal same.
     let again = c.in_ok-read.ensures.read.state past legal same in
@@ -55,7 +55,7 @@ returns-clause-steps c =
     ∙ (ap (λ (o : Option CpuNo). actors_by def (state_of def past).desc.flow o c.as_slice-drivers.result.now) (taker_same def past t again)
     ∙ ap (λ (rs : List DriverNo). actors_by def (state_of def past).desc.flow (taker_of (state_of def past)) rs) drivers))))
     (λ past legal same few.
-    let read = read_at valid c.self.invariant.valid_runs c.self.invariant.waits c.in_ok-read.ensures.read legal same few in
+    let read = read_at valid c.self.invariant.valid_runs c.in_ok-read.ensures.read legal same few in
     let due = c.as_slice-due.ensures.value ∙ c.in_ok-push_due.ensures in
     added past legal same few ∙ ap (λ (x : List (Entry × List ℕ)). c.args.found.now ++ x)
     (ap (λ (x : List Actor). all_steps def past x) due ∙ due_only read c.as_slice-asked.result.now))))

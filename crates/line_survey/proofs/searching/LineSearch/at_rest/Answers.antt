@@ -1,7 +1,6 @@
-use Rattle.std.proofs.Common.{◌<◌, ◌+◌, ℕ, List, length, reverse, take, ap, sym, subst, arith}
-use Rattle.irq_base.specs.declared.entries.Entry.{Entry}
-use Rattle.irq_model.specs.Waits.{IsAtRest}
+use Rattle.std.proofs.Common.{◌<◌, ◌+◌, ℕ, length, take, ap, sym, subst, arith}
 use Rattle.line_survey.proofs.Growing.{rest_next, move_next}
+use Rattle.line_survey.specs.Rests.{IsStill}
 use Rattle.line_survey.specs.Seen.{LineSearchSeen}
 use Rattle.line_survey.specs.Surveyed.{AreSoMany}
 use Rattle.line_survey.proofs.searching.LineSearch.at_rest.Goals as goal
@@ -15,7 +14,7 @@ loop-place-preserved c =
     let long = ap (λ (x : LineSearchSeen). length x.searched.paths) c.self.view_is in
     let within : c.loop-place.place < length paths =
     omega (arith, c.loop-place-test.true, c.looked-place-end.ensures, looked, long, c.self.invariant.line.searches.within) in
-    let So : ℕ → Type 0 = λ n. AreSoMany (λ (p : List Entry). IsAtRest v.def (reverse p)) (take (c.loop-place.place + 1) paths) n in
+    let So : ℕ → Type 0 = λ n. AreSoMany (IsStill v.def) (take (c.loop-place.place + 1) paths) n in
     elim c.if-is_at_rest.branch [
       | then-is_at_rest w ↦
           record {

@@ -15,7 +15,7 @@ returns-clause-rests c = λ is.
     let there = index_is counts c.counts.result.now c.args.place c.counts.ensures within in
     let none : n ≡ 0 = grind (arith, nat_tests) in
     subst (λ (v : LineSearchSeen). RestsAt v.def v.searched.paths c.args.place) c.self.view_is
-    (rests_at c.self.inside.def (record { valid = c.self.invariant.valid; runs = c.self.invariant.valid_runs; waits = c.self.invariant.waits })
+    (rests_at c.self.inside.def (record { valid = c.self.invariant.valid; runs = c.self.invariant.valid_runs })
     c.self.inside.searched c.self.invariant.line c.args.place n there none)
 
 pub returns-clause-moves : goal.returns-clause-moves
@@ -27,5 +27,5 @@ returns-clause-moves c = λ is.
     let there = index_is counts c.counts.result.now c.args.place c.counts.ensures within in
     let some : n ≡ 0 → ⊥ = λ none. grind (arith, nat_tests) in
     subst (λ (v : LineSearchSeen). MovesAt v.def v.searched.paths c.args.place) c.self.view_is
-    (moves_at c.self.inside.def (record { valid = c.self.invariant.valid; runs = c.self.invariant.valid_runs; waits = c.self.invariant.waits })
+    (moves_at c.self.inside.def (record { valid = c.self.invariant.valid; runs = c.self.invariant.valid_runs })
     c.self.inside.searched c.self.invariant.line c.args.place n there some)

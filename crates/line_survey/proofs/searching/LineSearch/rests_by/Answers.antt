@@ -2,7 +2,7 @@ use Rattle.std.proofs.Common.{◌≡◌, ◌<◌, ◌+◌, ℕ, Vec, Global, len
 use Rattle.line_survey.proofs.Growing.{row_small, rows_stay, rows_count}
 use Rattle.line_survey.proofs.Surveys.{rests_are}
 use Rattle.line_survey.specs.Growing.{AreRestsTo}
-use Rattle.line_survey.specs.Kept.{IsOfLine, IsReader, IsUnwaiting}
+use Rattle.line_survey.specs.Kept.{IsOfLine, IsReader, IsValidLine}
 use Rattle.line_survey.specs.Seen.{LineSearchSeen}
 use Rattle.line_survey.specs.declared.reader.Reader.{Reader}
 use Rattle.line_survey.specs.declared.survey.RestRow.{RestRow}
@@ -51,8 +51,8 @@ loop-place-preserved c =
 pub returns : goal.returns
 returns c =
     let v : LineSearchSeen = c.args.self.now in
-    let asked : IsUnwaiting v.def = subst (λ (x : LineSearchSeen). IsUnwaiting x.def) c.self.view_is
-    (record { valid = c.self.invariant.valid; runs = c.self.invariant.valid_runs; waits = c.self.invariant.waits }) in
+    let asked : IsValidLine v.def = subst (λ (x : LineSearchSeen). IsValidLine x.def) c.self.view_is
+    (record { valid = c.self.invariant.valid; runs = c.self.invariant.valid_runs }) in
     let line : IsOfLine v.def v.searched = subst (λ (x : LineSearchSeen). IsOfLine x.def x.searched) c.self.view_is c.self.invariant.line in
     let looked = ap (λ (x : LineSearchSeen). x.searched.looked) c.self.view_is in
     let end : c.loop-place.place ≡ v.searched.looked =

@@ -11,4 +11,4 @@ returns-then-self c =
       places = after_begin (length (answers_of s c.args.dev c.args.part))
           c.args.dev c.args.part s.places;
     }) c.self.view_is
-    (begin_stands _ (c.self.invariant c.if-self.true) c.args.dev c.args.part)
+    (begin_stands _ (c.self.invariant.bare_is c.if-self.true) c.args.dev c.args.part)

@@ -7,4 +7,4 @@ use Rattle.run_scripts.proofs.scripts.RunScripts.returned.Goals as goal
 pub returns-then-self : goal.returns-then-self
 returns-then-self c =
     subst (λ (s : RunsSeen). s ≡ record s { places = after_return c.args.dev c.args.part s.places }) c.self.view_is
-    (return_stands _ (c.self.invariant c.if-self.true) c.args.dev c.args.part)
+    (return_stands _ (c.self.invariant.bare_is c.if-self.true) c.args.dev c.args.part)

@@ -17,9 +17,9 @@ returns g c =
     (λ b armed of. hands_out_step g.L.IrqLine.may_want b armed s of c.self.inside.end c.self.invariant.1 lines (ap (λ x. x.lines) c.into_system.ensures)
     reports c.hand_out.ensures.room
     (hands_out b armed s of (subst IsBoard same c.is_board.ensures.board) c.self.invariant.0.told c.self.inside.end
-    c.self.invariant.0.sleep lines (ap (λ x. x.lines) c.into_system.ensures) reports
+    c.self.invariant.0.sleep c.self.invariant.0.says lines (ap (λ x. x.lines) c.into_system.ensures) reports
     (subst (λ (x : BoardSeen). Reported x (board_lines lines) reports) same
-    (record { so_far = c.hand_out.ensures.so_far; done = c.hand_out.ensures.done; full = c.hand_out.ensures.full }))))
+    (let out = c.hand_out.ensures in record { so_far = out.so_far; done = out.done; hung = out.hung; full = out.full }))))
 
 pub hand_out-requires-clause-board : goal.hand_out-requires-clause-board
 hand_out-requires-clause-board g c =

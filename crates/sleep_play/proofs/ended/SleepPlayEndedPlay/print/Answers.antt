@@ -1,10 +1,13 @@
-use Rattle.std.proofs.Common.{All, List, sym, ap, ◌∙◌, subst, Result}
+use Rattle.std.proofs.Common.{All, IsOk, List, sym, ap, ◌∙◌, subst, Result}
 use Rattle.irq_line.specs.declared.answers.StepRefused.{StepRefused}
+use Rattle.board_core.specs.Hung.{stop_of}
+use Rattle.board_core.specs.declared.ends.PlayEnd.{PlayEnd}
 use Rattle.irq_pm.specs.SleepLog.{told}
 use Rattle.irq_pm.specs.declared.entries.SleepEntry.{SleepEntry}
 use Rattle.irq_io.specs.Whole.{WritesAll}
 use Rattle.irq_sleeper.specs.Seen.{log_of}
 use Rattle.irq_sleeper.specs.Steps.{IsSleep}
+use Rattle.play_report.proofs.Answered.{some_end}
 use Rattle.play_report.specs.Printing.{StepHasRow}
 use Rattle.sleep_play.specs.Played.{SleepPlaySeen}
 use Rattle.sleep_play.specs.Rows.{log_text}
@@ -14,9 +17,9 @@ use Rattle.sleep_play.proofs.ended.SleepPlayEndedPlay.print.Goals as goal
 pub print_rows-requires : goal.print_rows-requires
 print_rows-requires g c =
     let s = c.self.inside.sleeper in
+    let e = some_end c.self.inside.end (subst (λ (p : SleepPlaySeen). IsOk p.end) (sym c.self.view_is) c.requires) in
     subst (λ (log : List SleepEntry). All (StepHasRow told) log) (sym c.entries-steps.ensures)
-    (rows_done s (subst (λ (end : Result Unit StepRefused). IsSleep s s.system.board.picks end)
-    (ap (λ (p : SleepPlaySeen). p.end) c.self.view_is ∙ c.requires) c.self.invariant.0.sleep))
+    (rows_done s (subst (λ (end : Result PlayEnd StepRefused). IsSleep s s.system.board.picks (stop_of end)) e.1 c.self.invariant.0.sleep))
 
 pub returns-clause-content : goal.returns-clause-content
 returns-clause-content g c =

@@ -4,10 +4,15 @@ use Rattle.irq_line.specs.declared.answers.StepRefused.{StepRefused}
 use Rattle.workers.specs.Seen.{JobSeen}
 use Rattle.workers.specs.Attempts.{AttemptsCpu, StepsCpu}
 use Rattle.workers.specs.Terms.{terms_of}
-use Rattle.workers.proofs.Flowing.{keeps_on, rests_more, cpu_after, cpu_done}
+use Rattle.workers.proofs.Flowing.{keeps_on, rests_more, cpu_in_flow, cpu_after, cpu_done}
 use Rattle.workers.proofs.Handing.{handed_on}
 use Rattle.workers.proofs.Rooms.{stays_on}
 use Rattle.workers.proofs.job.Job.attempt_cpu.Goals as goal
+
+pub returns-in-Some : goal.returns-in-Some
+returns-in-Some g c =
+    cpu_in_flow (terms_of g.L.IrqLine.seen g.L.IrqLine.may_want (g.H.SharedHandler.gave c.args.handlers.now)) c.args.lines.now c.step_cpu.result
+    c.args.self.now c.step_cpu.new.self c.in-Some.place (ap (λ (j : JobSeen). j.flow) (sym c.self.view_is) ∙ c.in-Some.is) c.step_cpu.ensures
 
 pub loop-place-preserved : goal.loop-place-preserved
 loop-place-preserved g c =

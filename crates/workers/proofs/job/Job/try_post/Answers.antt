@@ -28,4 +28,4 @@ returns g c =
     let e = c.step.ensures in
     steps_post (here g (goal.at.returns g c).After-self) c.index-all-k.is c.index_mut-post.ensures.value
     (terms_of g.L.IrqLine.seen g.L.IrqLine.may_want (g.H.SharedHandler.gave c.args.handlers.now))
-    (record { of_line = e.line; idle = e.idle; actor = e.actor; rests = e.rests; tries = e.tries; flows = e.flows })
+    (record { of_line = e.line; idle = e.idle; actor = e.actor; rests = e.rests; tries = e.tries })

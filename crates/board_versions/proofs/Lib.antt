@@ -1,3 +1,0 @@
-mod OldWords
-mod OldRows
-pub mod OldTexts

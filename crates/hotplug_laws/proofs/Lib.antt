@@ -1,7 +1,0 @@
-mod Settled
-mod Finding
-pub mod Moments
-pub mod Aiming
-mod Moving
-mod Scripts
-pub mod Aims

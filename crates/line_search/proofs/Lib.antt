@@ -1,4 +1,0 @@
-pub mod Nodes
-pub mod Searching
-pub mod FirstRows
-pub mod Resting

@@ -1,5 +1,0 @@
-use Rattle.line_storms.proofs.next_step_is_not_full.Goals as goal
-use Rattle.line_storms.proofs.NeverFull.{not_full}
-
-pub returns : goal.returns
-returns g c = record { not_full = not_full (g.L.IrqLine.seen c.args.line.now) c.is_sound.ensures }

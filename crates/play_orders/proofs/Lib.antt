@@ -1,2 +1,0 @@
-pub mod OnePlay
-pub mod BoardsPlay

@@ -1,2 +1,0 @@
-pub mod Sleeping
-pub mod Slept

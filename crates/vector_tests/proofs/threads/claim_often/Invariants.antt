@@ -1,6 +1,0 @@
-use Rattle.std.proofs.Common.{◌≡◌, false}
-use Rattle.vector_matrix.specs.Claims.{IsClaimOf}
-use Rattle.vector_tests.proofs.threads.claim_often.Given as goal
-
-abbrev pub invariant-loop : goal.invariant-loop
-invariant-loop l = IsClaimOf l.matrix l.claim × (l.claim.first ≡ false)
