@@ -72,8 +72,9 @@ class Chains:
         return None
 
 
-def fault_of_chains(printed):
-    """What is wrong with the enters and exits of a log; none where nothing is."""
+def fault_of_chains(printed, hangs):
+    """What is wrong with the enters and exits of a log; none where nothing is. Where somebody hangs it may be processor 0 within a
+    chain, which isn't left then."""
     chains = Chains(mapped(printed))
     for row in rows_of(printed):
         fault = None
@@ -83,7 +84,7 @@ def fault_of_chains(printed):
             fault = chains.fault_of_processor(row)
         if fault:
             return fault
-    return None if chains.status is None else "a chain that isn't left"
+    return None if chains.status is None or hangs else "a chain that isn't left"
 
 
 def fault_of_sleep(armed, printed):
@@ -181,10 +182,10 @@ def fault_of_fleet(words, board, printed):
     return None if said == fleet.rows else f"placings {said}, not {fleet.rows}"
 
 
-def fault_of_rows(words, board, printed):
-    """What is wrong with the rows of a play that are of no line; none where nothing is."""
+def fault_of_rows(words, board, printed, hangs=False):
+    """What is wrong with the rows of a play that are of no line, in which somebody hangs or nobody; none where nothing is."""
     if words[0] == "chained":
-        return fault_of_chains(printed)
+        return fault_of_chains(printed, hangs)
     if words[0] == "sleep":
         return fault_of_sleep({it.encode() for it in words[1:]}, printed)
     if words[0] == "hotplug":
