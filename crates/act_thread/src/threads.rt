@@ -100,6 +100,7 @@ impl Threads {
 
     /// The lowest device by number whose thread could step. `goes_on`: a run whose handler has
     /// returned may go on, since the line isn't one-shot or no flow is in progress.
+    #[inline(always)]
     pub fn lowest(&self, goes_on: bool) -> Option<DevNo>
         ensures lowest { result ≡ lowest_where (could_step goes_on) self.now }
         ensures rows { AreRows self.now }

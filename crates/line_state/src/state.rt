@@ -1,10 +1,11 @@
 //! The parts, and what is read off them.
-ghost use Rattle.std.specs.Prelude.{◌≡◌, ◌≤◌, false, IfOk, OnOk};
+ghost use Rattle.std.specs.Prelude.{◌≡◌, ◌≤◌, false, is_some, IfOk, OnOk};
 ghost use Rattle.irq_base.specs.declared.lines.LineDef.{LineDef};
 ghost use Rattle.irq_model.specs.Valid.{IsValid};
 ghost use Rattle.irq_model.specs.ValidRuns.{HasValidRuns};
 ghost use Rattle.act_thread.specs.Threads.{active_in, is_idle_at};
 ghost use Rattle.run_scripts.specs.Runs.{AreRunsOf};
+ghost use Rattle.line_marks.specs.Due.{thread_due};
 ghost use Rattle.line_marks.specs.Facts.{kind_at};
 ghost use Rattle.line_marks.specs.State.{first_state};
 ghost use Rattle.line_state.specs.Seen.{IsScripted, runs_seen, taker_of, lowest_due};
@@ -156,6 +157,7 @@ impl<C: Chip> LineState<C> {
 
     /// Whether the processor of the flow in progress has no entry due: a handler of it waits for
     /// the end of the flow.
+    #[inline(always)]
     pub fn spins(&self) -> bool
         ensures { (def : LineDef) → HasValidRuns def → IsScripted def self.now
             → result ≡ spins_in def self.now.state self.now.state.desc.flow }
@@ -163,6 +165,15 @@ impl<C: Chip> LineState<C> {
         if !self.runs.may_wait() {
             return false;
         }
+        self.spins_in_flow()
+    }
+
+    /// The same, where runs may wait.
+    #[inline(never)]
+    fn spins_in_flow(&self) -> bool
+        ensures { (def : LineDef) → IsScripted def self.now
+            → result ≡ spins_in def self.now.state self.now.state.desc.flow }
+    {
         match self.desc.flow() {
             Some(cpu) => self.due_of_cpu(cpu).is_none(),
             None => false,
@@ -171,16 +182,26 @@ impl<C: Chip> LineState<C> {
 
     /// The device of the lowest number whose thread has an entry due, if there is one. Only where
     /// runs may wait are other threads looked at than the lowest that could step.
+    #[inline(always)]
     pub fn lowest_thread(&self) -> Option<DevNo>
         ensures { (def : LineDef) → HasValidRuns def → IsScripted def self.now
             → result ≡ lowest_due def self.now.state }
     {
         let goes_on = !self.desc.oneshot() || self.desc.flow().is_none();
         let lowest = self.threads.lowest(goes_on)?;
-        if !self.runs.may_wait() || self.due_of_thread(lowest).is_some() {
+        if !self.runs.may_wait() || self.moves(lowest) {
             return Some(lowest);
         }
         self.lowest_that_moves()
+    }
+
+    /// Whether the device's thread has an entry due.
+    #[inline(never)]
+    fn moves(&self, dev: DevNo) -> bool
+        ensures { (def : LineDef) → IsScripted def self.now
+            → result ≡ is_some (thread_due def self.now.state dev) }
+    {
+        self.due_of_thread(dev).is_some()
     }
 
     /// The same, by a look at each thread in the order of their devices' numbers.
