@@ -62,8 +62,8 @@ impl CpuLines {
     }
 
     /// Takes the line away from the one processor, and gives it to the other. Mostly there is
-    /// neither.
-    #[inline(always)]
+    /// neither, and it isn't asked for at all.
+    #[inline(never)]
     pub fn pass(&mut self, from: Option<CpuNo>, to: Option<CpuNo>, line: usize)
         requires { line < 64 }
         ensures { (c k : ℕ) → c < 32 → k < 64

@@ -1,13 +1,13 @@
 //! The two lists, and the answers to a search over them.
-ghost use Rattle.std.specs.Prelude.{◌≡◌, ℕ, ◌<◌, ◌≤◌, ◌&&◌, nat_lt, if◌then◌else◌, length};
-ghost use Rattle.std.specs.Prelude.{replicate, slice_get, slice_set, is_some, Some, None, IfOk};
-ghost use Rattle.std.specs.Prelude.{IfSome};
+ghost use Rattle.std.specs.Prelude.{◌≡◌, ℕ, ◌<◌, ◌≤◌, ◌==◌, ◌&&◌, nat_lt, if◌then◌else◌, true};
+ghost use Rattle.std.specs.Prelude.{false, length, replicate, slice_get, slice_set, is_some, Some};
+ghost use Rattle.std.specs.Prelude.{None, IfOk, IfSome};
 ghost use Rattle.board_ready.specs.Ready.{idle, lowest, lowest_thread_or_cpu, lowest_cpu};
 ghost use Rattle.board_ready.specs.Ready.{lowest_driver, flow_line, cpu_line, has_take};
 ghost use Rattle.board_ready.specs.Ready.{can_go_on, is_ready, is_driver_ready, has_thread};
 ghost use Rattle.board_ready.specs.Ready.{is_barred, current_call, is_cpu_ready, has_spinner};
-ghost use Rattle.board_ready.specs.Ready.{moving_line, spinner};
-ghost use Rattle.board_ready.specs.Sets.{has, may_go_on, on_line};
+ghost use Rattle.board_ready.specs.Ready.{is_cpu, moving_line, spinner};
+ghost use Rattle.board_ready.specs.Sets.{has, is_of, may_go_on, on_line};
 
 use crate::bits::{chosen, first_bit, with_bit};
 use crate::calls::CallSets;
@@ -95,7 +95,7 @@ impl ReadyActors {
         self.threads.set(line, readiness.thread);
         self.flows.put(old.flow, line, false);
         self.flows.put(readiness.flow, line, true);
-        self.spins.pass(spinner(old), spinner(readiness), line);
+        pass_spinner(&mut self.spins, old, readiness, line);
         self.takes.put(old.taker, line, false);
         self.takes.put(readiness.taker, line, true);
         self.ready = rechosen(self.ready, &self.calls, line, readiness.blocks);
@@ -311,6 +311,20 @@ impl ReadyActors {
             }
             None => None,
         }
+    }
+}
+
+/// The line goes over to the processor that spins on it now. Mostly none does, and none did.
+#[inline(always)]
+fn pass_spinner(spins: &mut CpuLines, old: LineReadiness, new: LineReadiness, line: usize)
+    requires { line < 64 }
+    ensures { (c k : ℕ) → c < 32 → k < 64
+        → is_of spins.new c k
+        ≡ (if is_cpu c (spinner new) && (k == line) then true
+        else (if is_cpu c (spinner old) && (k == line) then false else is_of spins.old c k)) }
+{
+    if old.spins || new.spins {
+        spins.pass(spinner(old), spinner(new), line);
     }
 }
 
