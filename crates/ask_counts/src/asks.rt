@@ -82,6 +82,7 @@ impl Asks {
     }
 
     /// The device's handler is called. `serves`: this is its serving run.
+    #[inline(always)]
     pub fn called(&mut self, dev: DevNo, serves: bool)
         ensures { self.new ≡ change (called serves) self.old dev }
     {

@@ -140,6 +140,7 @@ impl<C: Chip> LineState<C> {
 
     /// The rule on spurious interrupts counts the round (`note_interrupt`,
     /// `kernel/irq/spurious.c`).
+    #[inline(always)]
     fn note_round(&mut self) -> Note
         ensures note { result ≡ note_by self.old.state }
         ensures state { self.new.state ≡ noted_at self.old.state }
@@ -162,6 +163,7 @@ impl<C: Chip> LineState<C> {
 
     /// The flow handler after its last handler. On the edge flow what came meanwhile is handled in
     /// a new round; on the fast-EOI flow the flow is over.
+    #[inline(always)]
     fn leave(&mut self, def: &LineDef) -> LeaveAnswer
         requires rounds { HasRounds self.old.state }
         requires open { IsOpen def.now self.old.state }
