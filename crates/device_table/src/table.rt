@@ -76,7 +76,11 @@ impl<R: Copy> DeviceTable<R> {
                 return Some(*row);
             }
         }
-        self.find(dev)
+        // told again, so that the answer itself needs no place in memory
+        match self.find(dev) {
+            Some(row) => Some(row),
+            None => None,
+        }
     }
 
     /// The value of the device, found by a search.
@@ -96,6 +100,8 @@ impl<R: Copy> DeviceTable<R> {
         if self.is_at(hint, dev) {
             self.set_at(hint, dev, row);
         } else {
+            // a copy, so that the row itself needs no place in memory
+            let row = row;
             self.set_found(dev, row);
         }
     }
