@@ -229,6 +229,7 @@ impl ActList {
 }
 
 /// Whether the device has this stamp.
+#[inline(always)]
 fn is_stamped(stamps: &DeviceTable<u32>, stamp: u32, dev: DevNo) -> bool
     ensures { result ≡ begun_at (stamped stamp stamps.now) dev }
 {

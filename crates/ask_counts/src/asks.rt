@@ -51,6 +51,7 @@ impl Asks {
     }
 
     /// The row of the device, if it is one of the line's.
+    #[inline(always)]
     pub fn get(&self, dev: DevNo) -> Option<AskRow>
         ensures { result ≡ at self.now dev }
     {

@@ -12,6 +12,7 @@ impl Handler for ByKind {
     // a call leaves no trace
     ghost hears = { λ old run new. Unit {0} };
 
+    #[inline(always)]
     fn answer(&mut self, run: Run) -> Answer {
         run.answer()
     }

@@ -15,6 +15,7 @@ use irq_base::{Chip, CpuNo, TakeAnswer};
 /// goes on with it. Off: the line is disabled, or has no action (`linked` is false); the interrupt
 /// is pending and the line masked, which is when a lazy disable takes effect. Handle: the handlers
 /// are to run, in a flow of processor `cpu`, with the mask as it was.
+#[inline(always)]
 pub fn enter<C: Chip>(desc: &mut Desc, chip: &mut C, cpu: CpuNo, linked: bool) -> TakeAnswer
     ensures answer { result ≡ answer_by linked desc.old }
     ensures desc { desc.new ≡ edge_desc result cpu desc.old }
@@ -43,6 +44,7 @@ pub fn enter<C: Chip>(desc: &mut Desc, chip: &mut C, cpu: CpuNo, linked: bool) -
 /// If an interrupt is pending and the line isn't disabled by now, the same flow goes on with a new
 /// round, and the mask opens if it is closed. Else the flow is over, and the mask stays. On this
 /// flow it doesn't matter whether threads hold the line. At depth 0 the line comes in active.
+#[inline(always)]
 pub fn leave<C: Chip>(desc: &mut Desc, chip: &mut C, _held: bool) -> LeaveAnswer
     requires activated { desc.old.depth ≡ 0 → C.active chip.old ≡ true }
     ensures left { result ≡ edge_left desc.old }

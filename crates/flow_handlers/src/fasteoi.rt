@@ -20,6 +20,7 @@ use irq_base::{Chip, CpuNo, TakeAnswer, Trigger};
 /// Off: the line is disabled, or has no action (`linked` is false); the interrupt is pending, the
 /// line is masked, and the interrupt ended. Handle: the handlers are to run, in a flow of processor
 /// `cpu`; a one-shot level line is masked for them.
+#[inline(always)]
 pub fn enter<C: Chip>(
     desc: &mut Desc,
     chip: &mut C,
@@ -105,6 +106,7 @@ fn turn_off<C: Chip>(desc: &mut Desc, chip: &mut C) -> TakeAnswer
 /// now, or `held`: some one-shot thread hasn't finished (`cond_unmask_eoi_irq`). On an edge line,
 /// if an interrupt is pending and the line isn't disabled by now, the chip is made to send it again
 /// (ours); so at depth 0 such a line must come in open, and each line active.
+#[inline(always)]
 pub fn leave<C: Chip>(desc: &mut Desc, chip: &mut C, held: bool, trigger: Trigger) -> LeaveAnswer
     requires open { is_edge_trigger trigger ≡ true → desc.old.depth ≡ 0
         → (C.cell chip.old).masked ≡ false }

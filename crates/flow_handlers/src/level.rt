@@ -14,6 +14,7 @@ use irq_base::{Chip, CpuNo, TakeAnswer};
 /// Busy: a flow is in progress, and nothing more is done. Off: the line is disabled, or has no
 /// action (`linked` is false), and the interrupt is pending. Handle: the handlers are to run, in a
 /// flow of processor `cpu`.
+#[inline(always)]
 pub fn enter<C: Chip>(desc: &mut Desc, chip: &mut C, cpu: CpuNo, linked: bool) -> TakeAnswer
     ensures answer { result ≡ answer_by linked desc.old }
     ensures desc { desc.new ≡ level_desc result cpu desc.old }
@@ -39,6 +40,7 @@ pub fn enter<C: Chip>(desc: &mut Desc, chip: &mut C, cpu: CpuNo, linked: bool) -
 /// Ends the flow, after the note on spurious interrupts, and after the kill that it may have made.
 /// The mask opens unless the line is disabled by now, or `held`: some one-shot thread hasn't
 /// finished (`threads_oneshot`; see `cond_unmask_irq`). At depth 0 the line comes in active.
+#[inline(always)]
 pub fn leave<C: Chip>(desc: &mut Desc, chip: &mut C, held: bool) -> LeaveAnswer
     requires activated { desc.old.depth ≡ 0 → C.active chip.old ≡ true }
     ensures left { result ≡ level_left held desc.old }

@@ -50,6 +50,7 @@ impl<C: Chip> LineState<C> {
     }
 
     /// The flow handler up to its first handler.
+    #[inline(always)]
     fn enter(&mut self, def: &LineDef, cpu: CpuNo) -> TakeAnswer
         ensures answer { result ≡ take_by self.old.state }
         ensures state { self.new.state ≡ entered def.now def.now.flow result cpu self.old.state }

@@ -72,6 +72,7 @@ impl Counts {
     /// Notes a round that ends at the moment `now`, in milliseconds (`note_interrupt`). `wake`:
     /// some handler of the round woke its thread; `handled`: some handler of it handled the
     /// interrupt. If the note is Killed, the caller is to disable the line.
+    #[inline(always)]
     pub fn note(&mut self, now: u32, wake: bool, handled: bool) -> Note
         ensures note { result ≡ (noted_at now wake handled self.old).note }
         ensures counts { self.new ≡ after_note now wake handled self.old }

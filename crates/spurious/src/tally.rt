@@ -45,6 +45,7 @@ impl Tally {
     }
 
     /// What the rule makes of a round that ends at the moment `now`.
+    #[inline(always)]
     pub(crate) fn noted(self, window: u32, limit: u32, now: u32, wake: bool, handled: bool) -> Noted
         requires { IsWithin window self }
         ensures rule { IsNoted result (noted window limit now wake handled (rule_counts self)) }
