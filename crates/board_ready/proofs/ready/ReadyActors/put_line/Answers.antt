@@ -1,8 +1,7 @@
-use Rattle.std.proofs.Common.{◌≡◌, ℕ, ◌<◌, ◌&&◌, true, false, Option, Some, List, length, slice_get, cond, eqb, refl, ap, ◌∙◌, arith}
+use Rattle.std.proofs.Common.{◌≡◌, ℕ, ◌<◌, ◌&&◌, true, Some, List, length, slice_get, cond, eqb, refl, ap, ◌∙◌, arith}
 use Rattle.std.proofs.lemmas.List.{length-set}
 use Rattle.std.proofs.lemmas.Option.{slice_get_read}
-use Rattle.irq_base.specs.declared.numbers.CpuNo.{CpuNo}
-use Rattle.board_ready.specs.Ready.{is_cpu, has_flow, has_spinner, has_take, spinner}
+use Rattle.board_ready.specs.Ready.{is_cpu, has_flow, has_spinner, has_take}
 use Rattle.board_ready.specs.Seen.{ReadySeen}
 use Rattle.board_ready.specs.Sets.{is_of}
 use Rattle.board_ready.specs.declared.parts.LineReadiness.{LineReadiness}
@@ -27,12 +26,8 @@ invariant_of-self c =
           (λ j less. c.put-2.ensures n j few less
           ∙ ap (cond (is_cpu n readiness.flow && eqb j i) true) (c.put.ensures n j few less)) k small;
       spins = λ n k few small. lines_set (has_spinner n) lines i before readiness (is_of c.self.inside.spins n)
-          (is_of c.pass.new.self n) inside read (λ j less. c.self.invariant.spins n j few less)
-          (λ j less. c.pass.ensures n j few less
-          ∙ (ap (λ (o : Option CpuNo). cond (is_cpu n o && eqb j i) true (cond (is_cpu n c.spinner.result && eqb j i) false
-          (is_of c.self.inside.spins n j))) c.spinner-2.ensures
-          ∙ ap (λ (o : Option CpuNo). cond (is_cpu n (spinner readiness) && eqb j i) true (cond (is_cpu n o && eqb j i) false
-          (is_of c.self.inside.spins n j))) c.spinner.ensures)) k small;
+          (is_of c.pass_spinner.new.spins n) inside read (λ j less. c.self.invariant.spins n j few less)
+          (λ j less. c.pass_spinner.ensures n j few less) k small;
       takes = λ n k few small. lines_set (has_take n) lines i before readiness (is_of c.self.inside.takes n)
           (is_of c.put-4.new.self n) inside read (λ j less. c.self.invariant.takes n j few less)
           (λ j less. c.put-4.ensures n j few less

@@ -1,16 +1,14 @@
-use Rattle.std.proofs.Common.{◌≡◌, Bool, Some, None, not, true, sym, ap, subst, ◌∙◌}
+use Rattle.std.proofs.Common.{◌≡◌, Bool, Some, None, not, sym, ap, subst, ◌∙◌}
 use Rattle.std.specs.List.{list_any}
 use Rattle.irq_model.specs.ValidRuns.{may_wait}
 use Rattle.device_table.specs.Rows.{lowest_where}
 use Rattle.act_thread.specs.Steps.{could_step}
 use Rattle.act_thread.specs.Threads.{AreRows}
-use Rattle.line_marks.specs.Due.{thread_due}
-use Rattle.line_state.proofs.Could.{goes_unless_oneshot, goes_without_flow, lowest_could, lowest_is_due, none_due, told_some}
-use Rattle.line_state.specs.Entries.{thread_entry}
+use Rattle.line_state.proofs.Could.{goes_unless_oneshot, goes_without_flow, lowest_could, lowest_is_due, none_due}
 use Rattle.line_state.specs.Seen.{LineStateSeen, may_go_on}
 use Rattle.line_state.proofs.state.LineState.lowest_thread.Goals as goal
 use Rattle.line_state.proofs.state.LineState.lowest_thread.Goals.{then-not-oneshot, else-not-oneshot}
-use Rattle.line_state.proofs.state.LineState.lowest_thread.Goals.{then-not-may_wait-via-then-not-may_wait, then-not-may_wait-via-else-not-may_wait+then-is_some}
+use Rattle.line_state.proofs.state.LineState.lowest_thread.Goals.{then-not-may_wait-via-then-not-may_wait, then-not-may_wait-via-else-not-may_wait+then-moves}
 
 pub returns-in_err-lowest : goal.returns-in_err-lowest
 returns-in_err-lowest g c = λ def runs scripted.
@@ -51,7 +49,6 @@ returns-then-not-may_wait g c = λ def runs scripted.
           lowest_could def c.args.self.now runs scripted
           (sym (ap (λ (l : LineStateSeen). list_any may_wait l.fixed.calls.items) c.self.view_is) ∙ (sym c.may_wait.ensures ∙ w.if-not-may_wait.true))
           rows dev found
-      | then-not-may_wait-via-else-not-may_wait+then-is_some w ↦
-          lowest_is_due def s rows dev found (told_some (thread_entry def s dev) w.due_of_thread.result (thread_due def s dev) true
-          (w.due_of_thread.ensures.due def scripted) (sym w.is_some.ensures ∙ w.if-is_some.true))
+      | then-not-may_wait-via-else-not-may_wait+then-moves w ↦
+          lowest_is_due def s rows dev found (sym (w.moves.ensures def scripted) ∙ w.if-moves.true)
     ]
