@@ -509,6 +509,7 @@ impl<'b, L: IrqLine> System<'b, L> {
         ensures memory { LowestWants L.may_want self.old result }
     {
         match self.lowest_stand() {
+            // an arm of its own, as a processor's step is inlined better where its actor is known
             Some((Actor::Cpu(cpu), stand)) => self.step_at(stand, Actor::Cpu(cpu), handlers),
             Some((actor, stand)) => self.step_at(stand, actor, handlers),
             None => Ok(Turn::NotYet),
