@@ -84,8 +84,11 @@ def compare(board, played):
     kernel = cut_rows([row for row in played.rows if is_compared(row)], board.row_limit())
     out, status, error = genirq(board.command(), board.pure_text())
     fault = "; ".join(played.faults)
-    if status not in (0, 6):
+    if status not in (0, 6, 9):
         fault = fault or f"genirq {board.command()[0]} ended with {status}: {error}"
+    is_whole = board.row_limit() is None or len(log_of(kernel)) < board.row_limit()
+    if status == 9 and is_whole and (seen := reference.hung_by(played.rows)) != error:
+        fault = fault or f"genirq says {error}, and by who waits for whom it is {seen}"
     rows = cut_rows(out.splitlines(), board.row_limit())
     place = next((i for i, pair in enumerate(zip(kernel, rows)) if pair[0] != pair[1]), min(len(kernel), len(rows)))
     full = status == 6 and f"# {error}" in played.rows  # then genirq prints no rows
